@@ -1,6 +1,4 @@
 """The tools by one name: python3 -m jepmon judge|shards|explain|from-jepsen|from-json WORD.."""
-from __future__ import annotations
-
 import importlib
 import sys
 from typing import List

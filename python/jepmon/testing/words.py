@@ -81,7 +81,7 @@ def _parser() -> Words:
     parser.add_argument("--network", choices=NETWORKS, default=AUTO, help="by what links are cut and slow: namespaces, of which each node "
                         "has one (as root on Linux), or a proxy on the loopback; auto takes namespaces where it can")
     parser.add_argument("--least", metavar="N", type=_within("operations", 1, 1_000_000), default=20,
-                        help="there is no verdict where fewer of some operation were ok (20)")
+                        help="there is no verdict where fewer of some operation were ok: status 3 (20)")
     parser.add_argument("--patience", metavar="SECONDS", type=_positive("seconds"), default=0.0,
                         help="for a node to start, and to answer again at the end, before there is no verdict (120, of RabbitMQ 300)")
     parser.add_argument("--out", metavar="FOLDER", default="runs", help="the run gets a folder of its own there (runs)")
