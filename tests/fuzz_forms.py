@@ -1,14 +1,16 @@
 #!/usr/bin/env python3
 """Prints random histories of known verdict in every form that jepmon-judge takes, with variations as tests in the field have them, and
-compares the verdicts. A verdict that is not the right one is SILENT if no line warns of it, else NOTED; the smallest such case of each
-class is shown. A refusal is no verdict. Some cases are judged by --jobs too, which must say the same. Ends with 'N passed, M failed'.
+compares the verdicts. A verdict that is not the right one is SILENT if no line warns of it, else NOTED; CLOCKS if it is right by times of
+clocks that differ, and a line says so. The smallest case of each class is shown. A refusal is no verdict. Some cases are judged by --jobs
+too, which must say the same. Ends with 'N passed, M failed'.
 
-usage: tests/fuzz_forms.py [--count N] [--seed S] [--form FORM] [--jobs-of N] [--out DIR] [--shares]     JEPMON names the program
+usage: tests/fuzz_forms.py [--count N] [--seconds S] [--seed S] [--form FORM] [--jobs-of N] [--out DIR] [--shares]     JEPMON names the program
 
 With no words it runs what ./check runs: 2,000 histories of a fixed seed.
 """
 import argparse
 import collections
+import math
 import pathlib
 import re
 import sys
@@ -50,17 +52,20 @@ class Tally:
             self.by_way[f"{case.form} {name}={case.ways[name]}"][word] += 1
 
     def count(self, word: str) -> int:
-        """How many wrong verdicts are SILENT or NOTED, or wait for what is known."""
+        """How many wrong verdicts are SILENT, NOTED or CLOCKS, or wait for what is known."""
         return sum(len(found) for signature, found in self.classes.items()
                    if ("waits" if waits_for(found[0].case.variations()) else signature.split()[0]) == word)
 
 
 def main() -> int:
     given = words()
-    began, tally = time.process_time(), Tally()
+    began, tally, end = time.process_time(), Tally(), time.monotonic() + given.seconds
     with Room() as room:
         examiner = Examiner(room)
         for place, case in enumerate(cases(given.seed, given.count, given.form)):
+            if time.monotonic() > end:
+                given.count = place
+                break
             judged = examiner.judged(case)
             if place % given.jobs_of == 0:
                 pair = compared(examiner, case, judged)
@@ -71,11 +76,11 @@ def main() -> int:
                 smallest = examiner.smallest(wrong)
                 tally.classes[smallest.signature()].append(smallest)
     shown(tally, given)
-    silent, noted, waiting = tally.count("SILENT"), tally.count("NOTED"), tally.count("waits")
+    silent, noted, clocks, waiting = (tally.count(word) for word in ("SILENT", "NOTED", "CLOCKS", "waits"))
     failed = (silent + len(tally.faults) + (noted if noted * NOTED_OF > given.count else 0)
               + sum(not waits_for(pair.case.variations()) for pair in tally.pairs["another verdict"]))
     print(f"seed {given.seed}, {given.count} histories: {silent} wrong verdicts in silence, {noted} with a warning, "
-          f"{waiting} that wait for what is known, {time.process_time() - began:.0f} seconds of Python")
+          f"{clocks} by clocks that differ, {waiting} that wait for what is known, {time.process_time() - began:.0f} seconds of Python")
     print(f"{given.count - failed} passed, {failed} failed")
     return 1 if failed else 0
 
@@ -83,6 +88,7 @@ def main() -> int:
 def words() -> argparse.Namespace:
     parser = argparse.ArgumentParser(description=__doc__, formatter_class=argparse.RawDescriptionHelpFormatter)
     parser.add_argument("--count", type=int, default=COUNT)
+    parser.add_argument("--seconds", type=float, default=math.inf, help="end after this time, with what was judged until then")
     parser.add_argument("--seed", type=int, default=SEED)
     parser.add_argument("--form", choices=tuple(PRINTERS))
     parser.add_argument("--jobs-of", type=int, default=JOBS_OF, metavar="N", help="judge one case of N by --jobs too")
@@ -94,7 +100,7 @@ def words() -> argparse.Namespace:
 def shown(tally: Tally, given: argparse.Namespace) -> None:
     for fault in tally.faults:
         print(f"FAULT {fault}")
-    classes = sorted(tally.classes.items(), key=lambda found: (found[0].startswith("NOTED"), -len(found[1])))
+    classes = sorted(tally.classes.items(), key=lambda found: (not found[0].startswith("SILENT"), -len(found[1])))
     for signature, found in classes[:SHOWN]:
         smallest = min(found, key=lambda wrong: len(wrong.case.ops))
         print(f"{len(found):6} {signature}")

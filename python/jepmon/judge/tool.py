@@ -77,7 +77,7 @@ def _judge(given: Given) -> int:
 
 
 def _judge_to(given: Given, page: Optional[Page], folder: Optional[Folder]) -> int:
-    source = files.found(given.history)
+    source = files.several(given.histories)
     for note in source.notes:
         say(note)
     with named(source):

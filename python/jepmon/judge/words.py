@@ -29,7 +29,7 @@ are not proved. Exit status: 0 legal, 1 illegal, 2 unknown, 3 where there is no 
 class Given(NamedTuple):
     """What the command line says."""
 
-    history: str
+    histories: List[str]
     model: Optional[str]
     concurrency: Optional[int]
     budget: int
@@ -79,7 +79,8 @@ def number(name: str, limits: range) -> "type[int]":
 def given(words: Optional[List[str]]) -> Given:
     called = command.tool(NAME)
     parser = Words(prog=called, description=DESCRIPTION.format(tool=called), formatter_class=argparse.RawDescriptionHelpFormatter)
-    parser.add_argument("history", nargs="?", metavar="HISTORY", help="a file or a folder; - or nothing is standard input")
+    parser.add_argument("history", nargs="*", metavar="HISTORY", help="a file or a folder; - or nothing is standard input; several files, as "
+                        "those of several clients, are one history in the order of their times")
     parser.add_argument("--model", metavar="NAME", choices=tuple(kinds.MODELS),
                         help="the object that each key is, in place of the one found: " + ", ".join(kinds.MODELS))
     parser.add_argument("--concurrency", metavar="N", type=number("a number of threads", range(1, kinds.PROCESSES.stop)),
@@ -116,12 +117,12 @@ def given(words: Optional[List[str]]) -> Given:
     try:
         parsed = parser.parse_args(words)
         mapping = mapping_words.of(parsed)
-        if parsed.history is None and sys.stdin is not None and sys.stdin.isatty():
+        if not parsed.history and sys.stdin is not None and sys.stdin.isatty():
             parser.error("no history is named, and standard input is a terminal")
     except Refused as fault:
         raise Refused(f"{fault}; see {command.tool(NAME)} --help") from fault
     key = None if parsed.key is None else str(parsed.key)
     seconds = parsed.wide_seconds if parsed.wide_seconds is not None else LONG if parsed.wide else SHORT
-    return Given(parsed.history or "-", parsed.model, parsed.concurrency, parsed.budget, parsed.workers, key, parsed.nil_is_absent,
+    return Given(parsed.history or ["-"], parsed.model, parsed.concurrency, parsed.budget, parsed.workers, key, parsed.nil_is_absent,
                  parsed.html, parsed.out, parsed.cause, parsed.jobs, parsed.dask, parsed.temporary, seconds, parsed.strict_input,
                  parsed.json, parsed.least, parsed.values, tuple(parsed.absent), parsed.initial, mapping)
