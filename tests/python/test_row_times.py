@@ -128,7 +128,7 @@ class TimesThatGoBack(Case):
 class Times(Case):
     def test_equal_ones_are_a_guess(self) -> None:
         rows = [event(1, "invoke", 5), event(1, "ok", 5), event(0, "invoke", 5, "release"), event(0, "ok", 5, "release")]
-        self.assertIn("--order", self.guessed(lines(*rows)))
+        self.assertIn("--order lines or --order times", self.guessed(lines(*rows)))
         self.assertEqual([line[:4] for line in events(lines(*rows), mapping=SAYS._replace(order="times"))], ["invo", "invo", "ok 0", "ok 1"])
 
     def test_none_and_clients_that_stand_together_are_a_guess(self) -> None:

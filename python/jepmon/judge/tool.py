@@ -16,7 +16,7 @@ from ..forms import Beyond, Refused, door, files
 from ..forms.door import Translation
 from ..forms.recorded import Recorded, of_own, of_translation
 from ..program import CURE, Options, find_program
-from . import as_json, bad_keys, by_shards, doubts, events, hints, large, least, models, results, terminal, wide, words
+from . import as_json, bad_keys, by_shards, doubts, events, hints, large, least, models, results, terminal, ties, wide, words
 from .judging import Task, judged
 from .outputs import Folder, Page
 from .words import NAME, Given
@@ -143,6 +143,8 @@ def _judge_whole(source: files.Source, found: Recorded, given: Given, page: Opti
     report = judged(task)
     report, decided = wide.anew(report, task.options, functools.partial(events.of_keys, found), given.wide_seconds)
     task = task._replace(wide_seconds=given.wide_seconds if decided else None, least=given.least)
+    with named(source):
+        ties.test(source, found, task, report, given.said)
     beside = list(hints.after(found, task, report, source, given.said, given.cause))
     few = least.reason(given, report.word, least.telling(found.facts.outcomes, models.answered(found.facts)))
     if not given.json and not few:
