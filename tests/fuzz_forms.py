@@ -3,12 +3,13 @@
 compares the verdicts. A verdict that is not the right one is SILENT if no line warns of it, else NOTED; the smallest such case of each
 class is shown. A refusal is no verdict. Some cases are judged by --jobs too, which must say the same. Ends with 'N passed, M failed'.
 
-usage: tests/fuzz_forms.py [--count N] [--seed S] [--form FORM] [--jobs-of N] [--out DIR] [--shares]     JEPMON names the program
+usage: tests/fuzz_forms.py [--count N] [--seconds S] [--seed S] [--form FORM] [--jobs-of N] [--out DIR] [--shares]     JEPMON names the program
 
 With no words it runs what ./check runs: 2,000 histories of a fixed seed.
 """
 import argparse
 import collections
+import math
 import pathlib
 import re
 import sys
@@ -57,10 +58,13 @@ class Tally:
 
 def main() -> int:
     given = words()
-    began, tally = time.process_time(), Tally()
+    began, tally, end = time.process_time(), Tally(), time.monotonic() + given.seconds
     with Room() as room:
         examiner = Examiner(room)
         for place, case in enumerate(cases(given.seed, given.count, given.form)):
+            if time.monotonic() > end:
+                given.count = place
+                break
             judged = examiner.judged(case)
             if place % given.jobs_of == 0:
                 pair = compared(examiner, case, judged)
@@ -83,6 +87,7 @@ def main() -> int:
 def words() -> argparse.Namespace:
     parser = argparse.ArgumentParser(description=__doc__, formatter_class=argparse.RawDescriptionHelpFormatter)
     parser.add_argument("--count", type=int, default=COUNT)
+    parser.add_argument("--seconds", type=float, default=math.inf, help="end after this time, with what was judged until then")
     parser.add_argument("--seed", type=int, default=SEED)
     parser.add_argument("--form", choices=tuple(PRINTERS))
     parser.add_argument("--jobs-of", type=int, default=JOBS_OF, metavar="N", help="judge one case of N by --jobs too")

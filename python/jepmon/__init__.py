@@ -3,9 +3,16 @@
 The verdict is always that of the program `jepmon`, which is proved. What this package adds around it (other forms of histories,
 the live Monitor, causes in words, pages) is tested, and not proved.
 """
-from __future__ import annotations
-
+import os
+import sys
 from typing import TYPE_CHECKING
+
+if sys.version_info < (3, 9):  # so this file and __main__.py have no word that an older one can't read
+    _SAID = "jepmon needs Python 3.9 or later, and this is {}.{}: {}".format(sys.version_info[0], sys.version_info[1], sys.executable)
+    if os.path.basename(sys.argv[0]) in ("-m", "explain", "from-jepsen") or os.path.basename(sys.argv[0]).startswith("jepmon"):
+        sys.stderr.write(_SAID + "\n")
+        sys.exit(3)  # and not 1, which says that a history is illegal
+    raise ImportError(_SAID)
 
 if TYPE_CHECKING:
     from .keys import Keys

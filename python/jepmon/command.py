@@ -10,8 +10,9 @@ import gc
 import io
 import os
 import sys
-from typing import BinaryIO, Callable, Iterable, NoReturn, Optional, TextIO, Type, Union
+from typing import Any, BinaryIO, Callable, Iterable, NoReturn, Optional, TextIO, Type, Union
 
+from . import __version__
 from .errors import OutputError, ProgramError
 from .names import printable
 
@@ -142,9 +143,13 @@ def _umask() -> int:
 
 
 class Words(argparse.ArgumentParser):
-    """The words of a command line. A fault of theirs is raised as `refusal`, whose text is one line."""
+    """The words of a command line, with --version. A fault of theirs is raised as `refusal`, whose text is one line."""
 
     refusal: Type[Exception] = ValueError
+
+    def __init__(self, **options: Any) -> None:
+        super().__init__(**options)
+        self.add_argument("--version", action="version", version=f"jepmon (Python) {__version__}", help="show the version and exit")
 
     def error(self, message: str) -> NoReturn:
         raise self.refusal(message)

@@ -6,10 +6,10 @@ import random
 from typing import Dict, Iterator, List, NamedTuple, Optional, Sequence
 
 from . import truth
-from .fields import Variations, clock_of
+from .fields import Variations, ticks_of
 from .histories import MODELS, Op, simulated, size_of
 from .judged import Judged, Room, Usual
-from .printed import FORMS, REGISTERS_ALONE, Printed, drawn, printed, settled
+from .printed import FORMS, OF_EVENTS, REGISTERS_ALONE, Printed, drawn, printed, settled
 
 TOGETHER = 100  # cases whose verdicts are asked for at once
 PLAIN = 18  # histories of each model by which the usual lines of a form are learned
@@ -72,7 +72,19 @@ def _legal(chance: random.Random, form: str) -> Case:
     model = "register" if form in REGISTERS_ALONE else chance.choice(MODELS)
     has_no_keys = chance.random() < 0.15
     ops = simulated(chance, model, size_of(chance, 1 if has_no_keys else chance.choice((1, 2, 3))))
-    return Case(model, ops, "legal", drawn(chance, form, has_no_keys))
+    return Case(model, replaced(ops) if form in OF_EVENTS else ops, "legal", drawn(chance, form, has_no_keys))
+
+
+def replaced(ops: List[Op]) -> List[Op]:
+    """The same operations, where a client whose operation never returns does no more: another one takes its place."""
+    clients = {op.client: op.client for op in ops}
+    fresh = max(clients, default=0) + 1
+    made = []
+    for op in ops:
+        made.append(op._replace(client=clients[op.client]))
+        if op.end is None:
+            clients[op.client], fresh = fresh, fresh + 1
+    return made
 
 
 # --- What is wrong ---
@@ -96,11 +108,13 @@ class Examiner:
         return Wrong(case, again, self.usual.warnings(case.form, again))
 
     def is_within_errors(self, case: Case) -> bool:
-        """Whether an illegal history may have been legal, by the errors of clocks that were stated."""
-        if "error" not in case.ways or case.right == "legal":
+        """Whether an illegal history may have been legal by the times that were printed: the errors of clocks that were stated, or
+        times so coarse that a call and a return have the same one."""
+        ways = settled(case.ways)
+        if case.right == "legal" or not ("error" in ways or ways.get("times") == "coarse"):
             return False
-        clock = functools.partial(clock_of, ways=settled(case.ways))
-        return truth.verdict(case.model, truth.widened(case.ops, case.ways["error"], clock)) == "legal"
+        ops = truth.widened(case.ops, ways.get("error", 0), functools.partial(ticks_of, ways=ways))
+        return truth.verdict(case.model, ops) != "illegal"
 
     def learn(self, form: str) -> None:
         if self.usual.knows(form):

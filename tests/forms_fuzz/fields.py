@@ -8,6 +8,7 @@ from .histories import Op
 
 Variations = Dict[str, Any]  # by name; a variation that is absent is plain
 EPOCH = 1_714_557_600  # seconds: 2024-05-01T10:00:00Z
+COARSE = 4  # marks of one coarse time
 SKEW = 1000  # marks by which the clock of each client differs from that of the client before it
 
 # --- Values and keys ---
@@ -75,7 +76,7 @@ TIMES: Dict[str, Callable[[int, int], Any]] = {
     "epochns": lambda mark, _: EPOCH * 10 ** 9 + mark * 1000,
     "float": lambda mark, _: EPOCH + mark * 0.001,
     "intstr": lambda mark, _: str(mark * 1000),
-    "coarse": lambda mark, _: mark // 4,
+    "coarse": lambda mark, _: mark // COARSE,
     "iso": lambda mark, client: stamp(mark, client, "Z", 0),
     "isoz": lambda mark, client: stamp(mark, client, *(("Z", 0) if client % 2 else ("+02:00", 2))),
     "isolocal": lambda mark, client: stamp(mark, client, "", 0),
@@ -88,6 +89,12 @@ def clock_of(mark: int, client: int, ways: Variations) -> int:
     if ways.get("skew"):
         return mark + client * SKEW
     return mark + int(ways["error"]) * (1, -1, 0)[client % 3] if "error" in ways else mark
+
+
+def ticks_of(mark: int, client: int, ways: Variations) -> int:
+    """The time as far as it is printed."""
+    clock = clock_of(mark, client, ways)
+    return clock // COARSE if ways.get("times") == "coarse" else clock
 
 
 def time_of(mark: int, op: Op, ways: Variations) -> Any:

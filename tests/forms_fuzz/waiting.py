@@ -5,10 +5,7 @@ from typing import Dict, List
 
 WAITS: Dict[str, str] = {
     "gozero": "absent values", "missing": "absent values", "stringly": "types that look alike", "values": "types that look alike",
-    "skew": "clock errors", "unitmix": "units", "answers": "accounting of fields", "outcome": "words for outcomes", "starts": "accounting of fields",
-    "dup": "rows that stand twice", "keyname": "accounting of fields", "order": "order by time", "cut": "a last line without line feed",
-    "several": "several files", "error": "--skew", "mapped": "--map",
-    "tuplemap": "one front door", "keyfield": "one front door",
+    "skew": "clock errors", "outcome": "dequeues of false", "several": "several files",
 }
 
 

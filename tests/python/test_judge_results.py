@@ -142,6 +142,41 @@ class Pages(Judged):
         self.assertEqual([path.name for path in (self.top / "page-keys").iterdir()], ["mine.html"])
 
 
+class Least(Judged):
+    """A verdict rests on answers."""
+
+    def of(self, *events: str) -> str:
+        """Each `NAME ANSWER KIND` as an operation of key 7."""
+        lines = []
+        for event in events:
+            name, asked, answer, kind = event.split()
+            lines += [f"{{:type :invoke, :process 0, :f :{name}, :value [7 {asked}]}}", f"{{:type :{kind}, :process 0, :f :{name}, :value [7 {answer}]}}"]
+        return "\n".join(lines) + "\n"
+
+    def test_what_says_nothing_has_no_verdict(self) -> None:
+        for events in (("write 1 1 ok",), ("write 1 1 fail", "read nil nil fail"), ("write 1 1 ok", "read nil nil ok"), ("enqueue 1 1 ok",),
+                       ("acquire nil nil fail",), ("add 1 1 ok",)):
+            for words in ([], ["--jobs", "1"]):
+                ran = self.judged(self.of(*events), *words, name="history.edn")
+                self.assertEqual((ran.status, ran.out), (3, ""), events)
+                self.assertEqual(ran.err.splitlines()[-1], "judge: history.edn: no operation was ok whose answer says anything of the store, "
+                                 "so there is no verdict; --least 0 gives one all the same")
+        self.assertEqual(self.judged(self.of("write 1 1 ok"), "--least", "0", name="history.edn").status, 0)
+        self.assertEqual(self.as_json(self.of("write 1 1 ok"), name="history.edn")["verdict"], "refused")
+
+    def test_an_answer_is_enough(self) -> None:
+        for events in (("write 1 1 ok", "read nil 1 ok"), ("enqueue 1 1 ok", "dequeue nil 1 ok"), ("acquire nil nil ok",), ("read nil #{} ok",)):
+            self.assertEqual(self.judged(self.of(*events), name="history.edn").status, 0, events)
+
+    def test_more_may_be_asked_for(self) -> None:
+        ran = self.judged(self.of("write 1 1 ok", "read nil 1 ok"), "--least", "2", name="history.edn")
+        self.assertEqual(ran.status, 3)
+        self.assertIn("1 operation was ok whose answer says anything of the store, so there is no verdict; --least 1 gives one", ran.err)
+
+    def test_what_is_illegal_stays_so(self) -> None:
+        self.assertEqual(self.judged(self.of("write 1 1 ok", "read nil 2 ok"), "--least", "5", name="history.edn").status, 1)
+
+
 class AsJson(Judged):
     def test_an_illegal_history(self) -> None:
         found = self.as_json(rows(MIXED), "--html", "page.html")

@@ -17,9 +17,10 @@ from ..from_jepsen.source import Texts
 from ..from_jepsen.turn import Turned, collected, written
 from ..from_jepsen.write import OF_SHARDS, Limits
 from . import Refused, detect, edn_rows, log_rows, logs, others, own_front, rows, rows_told
-from .account import KEY, Account
+from .account import KEY, Account, Shifted
+from .clients import Clients
 from .clock import nanoseconds
-from .files import Source
+from .files import Several, Source
 from .mapping import LINES, Mapping
 from .written import Written
 
@@ -47,6 +48,8 @@ class Options(NamedTuple):
 
 def form_of(source: Source, options: Options) -> str:
     """The form of a history, by how it begins. Refused if it is none that is known, or has no event."""
+    if isinstance(source, Several):
+        return _form_of_several(source, options)
     if options.mapping.line is not None:
         return detect.LINES
     form = detect.CSV if options.mapping.columns else detect.form_of(source.front)
@@ -58,6 +61,23 @@ def form_of(source: Source, options: Options) -> str:
     if is_plain and own_front.is_own(source.front):
         return OWN
     return KEYED if edn_rows.is_one(source.front) else JEPSEN
+
+
+def _form_of_several(source: Several, options: Options) -> str:
+    """The form of all these files."""
+    if options.mapping.order == LINES:
+        raise Refused("several files have no order of lines: leave --order lines out")
+    forms = {}
+    for part in source.parts:
+        try:
+            form = form_of(part, options)
+        except Refused as refusal:
+            raise Refused(f"{part.name}: {refusal}") from refusal
+        forms[JEPSEN if form == OWN else form] = part.name
+    if len(forms) > 1:
+        listed = ", ".join(f"{name} is {form}" for form, name in forms.items())
+        raise Refused(f"files of one history are of one form: {listed}")
+    return next(iter(forms))
 
 
 class Translation:
@@ -103,11 +123,11 @@ def translated(source: Source, form: str, options: Options) -> Translation:
     account = Account()
     if form == JEPSEN:
         _refuse_others(source.front, options)
-        read = _collected(source, options, account)
+        read = _collected(source, options, account, source)
         return Translation(form, read, account, options.nil_is_absent, (), source)
     if form == LOG:
         log = logs.Log(source)
-        read = _collected(log, options, account)
+        read = _collected(log, options, account, source)
         read.is_of_rows = True
         if not log.has_times:
             log.blocks.close(account)
@@ -118,7 +138,7 @@ def translated(source: Source, form: str, options: Options) -> Translation:
 
 def _of_rows(source: Source, form: str, options: Options, account: Account) -> Written:
     """The events of rows; those without keys are of the one object that they are then."""
-    asked = rows_told.Asked(options.mapping, options.model is not None, options.asked(LINES))
+    asked = rows_told.Asked(options.mapping, options.model is not None, options.asked(LINES), source)
     try:
         return _written(source, form, asked, account)
     except NoKey:
@@ -133,9 +153,19 @@ def _written(source: Source, form: str, asked: rows_told.Asked, account: Account
     if form == KEYED:
         made = edn_rows.written(source, account, asked)
     else:
-        made = rows_told.written(lambda part: rows_of(form, source.texts(), asked.mapping, part), account, asked)
+        made = rows_told.written(lambda part: _rows(source, form, asked.mapping, part), account, asked)
     account.close(source.lines())
     return made
+
+
+def _rows(source: Source, form: str, mapping: Mapping, account: Account) -> Iterator[rows.Row]:
+    """The rows of a file, or of several."""
+    if not isinstance(source, Several):
+        yield from rows_of(form, source.texts(), mapping, account)
+        return
+    for part, base in zip(source.parts, source.bases):
+        for line, fields in rows_of(form, part.texts(), mapping, Shifted(account, base)):
+            yield rows.Row(base + line, fields)
 
 
 def rows_of(form: str, texts: Iterable[str], mapping: Mapping, account: Account) -> Iterator[rows.Row]:
@@ -149,16 +179,20 @@ def rows_of(form: str, texts: Iterable[str], mapping: Mapping, account: Account)
     return rows.of_csv(texts, mapping, account)
 
 
-def _collected(texts: Texts, options: Options, account: Account) -> History:
+def _collected(texts: Texts, options: Options, account: Account, source: Source) -> History:
     """The events of EDN; those whose values have no keys are of the one object that they are then."""
+    clients = Clients(source, options.mapping.clients)
     asked = options.asked(options.mapping.order)
+    if isinstance(source, Several):
+        asked = asked._replace(clients=clients.named, parts=tuple(zip(source.bases, source.parts)) if texts is source else ())
     try:
-        return collected(texts, asked, account)
+        read = collected(texts, asked, account)
     except NoKey:
         if options.key is not None or not options.guesses_key:
             raise
-    read = collected(texts, asked._replace(key="0"), account)
-    account.guess(*NO_KEYS)
+        read = collected(texts, asked._replace(key="0"), account)
+        account.guess(*NO_KEYS)
+    clients.close(account)
     return read
 
 

@@ -24,7 +24,7 @@ from __future__ import annotations
 
 import itertools
 import re
-from typing import Any, Dict, Iterable, Iterator, List, Mapping, NamedTuple, NoReturn, Optional, Tuple
+from typing import Any, Callable, Dict, Iterable, Iterator, List, Mapping, NamedTuple, NoReturn, Optional, Sequence, Tuple
 
 from .. import edn, faults, kinds
 from ..edn import Many, Value, canonical, integer, shown, spelling
@@ -34,6 +34,7 @@ from .events import Event, Fault, History, Left, Row, is_pair, tuple_of
 from .order import Order, number_of
 from .outcomes import Outcomes
 from .plain import Plain, plain_of
+from .source import Texts
 from .refusal import NoKey, Refusal, Unpaired, refuse
 from .spool import Spool, event_of, row_of, value_of
 
@@ -83,6 +84,8 @@ class Asked(NamedTuple):
     order: Optional[str] = None  # by which events are taken: "lines", "index" or "times"; None: as they stand, or by what they say
     outcomes: Mapping[str, str] = {}  # the type of what is an :ok and says that it is none, by "false" and "error"
     skew: int = 0  # nanoseconds by which each clock may be wrong
+    clients: Optional[Callable[[str, int], str]] = None  # of several files: the name of a client by the line of its event
+    parts: Sequence[Tuple[int, Texts]] = ()  # the same files, each with how many lines come before its own
 
 
 class Collector:
@@ -92,6 +95,7 @@ class Collector:
         self.lone_key = None if asked.key is None else canonical(asked.key)
         self.nil_is_absent = asked.nil_is_absent
         self.account = account
+        self.names = asked.clients
         self.order: Optional[Order] = None if asked.order else Order()
         self.clients, self.outcomes = Clients(), Outcomes(asked.outcomes)
         self.open: Dict[int, Row] = {}
@@ -264,7 +268,7 @@ class Collector:
             refuse(element.line, f"this is no map, so no event: {text} (is this Jepsen's history.edn?)")
         stated, kind = integer(fields.get(":index")), fields.get(":type")
         index = stated if stated is not None and stated in NATURAL else count
-        process = self.clients.number_of(fields.get(":process"), kind == ":invoke")
+        process = self.clients.number_of(self.named(fields.get(":process"), element.line), kind == ":invoke")
         if process is not None and not (kind == ":info" and process in self.clients.names and process not in self.open):
             if self.order is not None:
                 self.order.take(element.line, stated, number_of(fields.get(":time")))
@@ -275,6 +279,12 @@ class Collector:
             self.history.events.append(Fault(f":f {fields[':f']}, :value {spelling(fields[':value'])}", index))
         else:
             self.leave_out(element, fields)
+
+    def named(self, process: Optional[Value], line: int) -> Optional[Value]:
+        """The client that an event states, of several files by its file too."""
+        if self.names is None or not isinstance(process, str) or not (is_name(process) or integer(process) is not None):
+            return process
+        return '"' + self.names(process, line).replace('"', "'") + '"'
 
     def leave_out(self, element: edn.Element, fields: Dict[str, Value]) -> None:
         """Leaves out the event of a process that is no client, as :nemesis."""

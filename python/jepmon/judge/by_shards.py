@@ -27,7 +27,7 @@ from ..shards.source import History
 from ..shards.splitting import judged_elsewhere
 from ..shards.tally import Tally
 from ..shrinking.part import as_asked, text_of
-from . import as_json, bad_keys, causes, large_key, results, terminal, turned, wide
+from . import as_json, bad_keys, causes, large_key, least, results, terminal, turned, wide
 from .hints import MOST_EVENTS, counted, is_legal_as
 from .judging import Task
 from .large import Large
@@ -134,15 +134,19 @@ def _judge(given: Given, found: Large, history: Asked, session: shards.Session, 
     say(judged_by(found, history, task))
     path, verdict, decided = anew(given, session, path, verdict)
     report = report_of(path, verdict)
-    task = task._replace(choice=of_bad_key(choice, report), wide_seconds=given.wide_seconds if decided else None)
-    if not given.json:
+    task = task._replace(choice=of_bad_key(choice, report), wide_seconds=given.wide_seconds if decided else None, least=given.least)
+    tally = session.tally
+    few = least.reason(given, report.word, least.telling(tally.outcomes(), tally.number_of("read", "ok") - tally.reads_of_nil()))
+    if not given.json and not few:
         command.write_output(texts_of(path))
     recorded = _recorded(found, history)
     of_report = bad_keys.found(filter(None, map(wide.key_line, lines_of(path))))
     keys = bad_keys.shown(recorded, task, report, of_report.bad, functools.partial(events_of, session, found, history), given.cause, decided)
-    beside = [*nil_hints(session.tally, choice), *said_of_bad(report, task, keys, given.cause)]
+    beside = [*nil_hints(tally, choice), *said_of_bad(report, task, keys, given.cause)]
     for line in beside:
         say(line)
+    if few:
+        raise Refused(f"{found.name}: {few}")
     copies = {results.HISTORY: session.file.path, results.REPORT: path} if folder is not None else {}
     done = results.Results(found.name, recorded, task, report, keys, terminal.told(recorded, keys), copies)
     results.write(page, folder, done)

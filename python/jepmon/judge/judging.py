@@ -23,6 +23,7 @@ class Task(NamedTuple):
     options: Options  # its model is the common one, where there is one
     in_shards: bool = False
     wide_seconds: Optional[int] = None  # in which keys that are over their budget were decided afterwards, where some were
+    least: int = 1  # operations whose answers say something, for a verdict
 
     @property
     def commands(self) -> List[str]:
@@ -45,6 +46,7 @@ class Task(NamedTuple):
             words = [f"--concurrency {self.options.concurrency}", f"--budget {self.options.budget}"]
             words += [f"--model {self.choice.common}"] if self.choice.common else []
             words += [f"--wide-seconds {self.wide_seconds}"] if self.wide_seconds is not None else []
+            words += [f"--least {self.least}"] if self.least != 1 else []
             jobs = f" --jobs {os.cpu_count() or 1}" if self.in_shards else ""
             return f"jepmon-judge {shlex.quote(file)}{jobs} {' '.join(words)}"
         if self.commands:

@@ -8,7 +8,7 @@ from ..forms import Refused
 from ..forms.account import MODEL, Account
 from ..forms.own import Facts, KeyFacts, concurrency_of, possible
 
-__all__ = ["ALIKE", "Choice", "account_for", "by_operations", "chosen", "clients_of", "concurrency_of", "possible"]
+__all__ = ["ALIKE", "Choice", "account_for", "answered", "by_operations", "chosen", "clients_of", "concurrency_of", "possible"]
 ALIKE = {"fifo-queue": "unordered-queue"}  # a stricter model, and the one with the same operations
 
 
@@ -77,6 +77,11 @@ def by_operations(model: str, names: Sequence[str]) -> str:
 def _counted(models: Dict[int, str]) -> str:
     counts = {model: list(models.values()).count(model) for model in kinds.MODELS}
     return ", ".join(f"{count} {model}" for model, count in counts.items() if count)
+
+
+def answered(facts: Facts) -> int:
+    """How many reads have an answer that says something: nil fits whatever a register holds."""
+    return sum(key.reads - key.reads_of_nil for key in facts.keys.values())
 
 
 def clients_of(facts: Facts, threads: int) -> int:

@@ -5,13 +5,14 @@ import argparse
 import sys
 from typing import List, NamedTuple, Optional
 
-from .. import __version__, command, kinds
+from .. import command, kinds
 from ..forms import Refused, mapping_words
 from ..forms.door import Options as Said
 from ..forms.mapping import Mapping
 
 NAME = "judge"
 MOST_JOBS = 1024
+MOST_LEAST = 1_000_000_000
 SHORT, LONG, MOST_SECONDS = 10, 600, 1_000_000  # seconds for keys that are over their budget
 DESCRIPTION = """Judges a recorded history: finds out its form, the model and the concurrency, has it judged by the proved program, and tells the cause.
 
@@ -28,7 +29,7 @@ are not proved. Exit status: 0 legal, 1 illegal, 2 unknown, 3 where there is no 
 class Given(NamedTuple):
     """What the command line says."""
 
-    history: str
+    histories: List[str]
     model: Optional[str]
     concurrency: Optional[int]
     budget: int
@@ -44,6 +45,7 @@ class Given(NamedTuple):
     wide_seconds: int = 0  # for keys that are over their budget
     strict_input: bool = False
     json: bool = False
+    least: int = 1
     mapping: Mapping = Mapping()  # what is said of the fields of rows
 
     @property
@@ -74,7 +76,8 @@ def number(name: str, limits: range) -> "type[int]":
 def given(words: Optional[List[str]]) -> Given:
     called = command.tool(NAME)
     parser = Words(prog=called, description=DESCRIPTION.format(tool=called), formatter_class=argparse.RawDescriptionHelpFormatter)
-    parser.add_argument("history", nargs="?", metavar="HISTORY", help="a file or a folder; - or nothing is standard input")
+    parser.add_argument("history", nargs="*", metavar="HISTORY", help="a file or a folder; - or nothing is standard input; several files, as "
+                        "those of several clients, are one history in the order of their times")
     parser.add_argument("--model", metavar="NAME", choices=tuple(kinds.MODELS),
                         help="the object that each key is, in place of the one found: " + ", ".join(kinds.MODELS))
     parser.add_argument("--concurrency", metavar="N", type=number("a number of threads", range(1, kinds.PROCESSES.stop)),
@@ -102,19 +105,20 @@ def given(words: Optional[List[str]]) -> Given:
     parser.add_argument("--html", metavar="PAGE", help="write a page that shows the cause")
     parser.add_argument("--out", metavar="DIR", help="write the history as judged, the report, the cause, the page, and the command "
                         "that judges it again, into this folder")
+    parser.add_argument("--least", metavar="N", type=number("a number of operations", range(0, MOST_LEAST + 1)), default=1,
+                        help="there is no verdict where fewer operations were ok whose answers say something: status 3 (1)")
     parser.add_argument("--json", action="store_true", help="print one JSON object in place of the report, for other programs "
                         "(docs/FORMATS.md has its fields)")
-    parser.add_argument("--version", action="version", version=f"jepmon (Python) {__version__}")
     parser.add_argument("--no-cause", dest="cause", action="store_false", help="the verdict alone")
     try:
         parsed = parser.parse_args(words)
         mapping = mapping_words.of(parsed)
-        if parsed.history is None and sys.stdin is not None and sys.stdin.isatty():
+        if not parsed.history and sys.stdin is not None and sys.stdin.isatty():
             parser.error("no history is named, and standard input is a terminal")
     except Refused as fault:
         raise Refused(f"{fault}; see {command.tool(NAME)} --help") from fault
     key = None if parsed.key is None else str(parsed.key)
     seconds = parsed.wide_seconds if parsed.wide_seconds is not None else LONG if parsed.wide else SHORT
-    return Given(parsed.history or "-", parsed.model, parsed.concurrency, parsed.budget, parsed.workers, key, parsed.nil_is_absent,
+    return Given(parsed.history or ["-"], parsed.model, parsed.concurrency, parsed.budget, parsed.workers, key, parsed.nil_is_absent,
                  parsed.html, parsed.out, parsed.cause, parsed.jobs, parsed.dask, parsed.temporary, seconds, parsed.strict_input,
-                 parsed.json, mapping)
+                 parsed.json, parsed.least, mapping)

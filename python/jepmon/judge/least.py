@@ -1,0 +1,23 @@
+"""Whether a history says enough of the store for a verdict. One in which nothing worked is legal, and so is one of writes alone: neither
+says anything of the store."""
+from __future__ import annotations
+
+from typing import Mapping
+
+from .words import Given
+
+TELLING = ("cas", "acquire", "release", "dequeue")  # an ok of these is an answer; of a read it is where it has one
+
+
+def telling(outcomes: Mapping[str, int], reads: int) -> int:
+    """How many operations were ok whose answers say something: these operations by "NAME ok", and so many reads with an answer."""
+    return sum(outcomes.get(f"{name} ok", 0) for name in TELLING) + reads
+
+
+def reason(given: Given, word: str, count: int) -> str:
+    """Why there is no verdict, where it would rest on so many; nothing where there is one."""
+    if word not in ("legal", "unknown") or count >= given.least:
+        return ""
+    what = {0: "no operation was ok whose answer says", 1: "1 operation was ok whose answer says"}.get(
+        count, f"{count} operations were ok whose answers say")
+    return f"{what} anything of the store, so there is no verdict; --least {count} gives one all the same"
