@@ -10,8 +10,10 @@ import itertools
 from typing import Any, Dict, Iterable, Iterator, List, NamedTuple, Optional, Sequence, Set
 
 from .. import edn, history, kinds
+from ..edn import Value
 from ..from_jepsen.collect import Asked
 from ..from_jepsen.events import History
+from ..from_jepsen.meant import EXACT, Meant, spelled
 from ..from_jepsen.refusal import NoKey
 from ..from_jepsen.source import Texts
 from ..from_jepsen.turn import Turned, collected, written
@@ -39,11 +41,32 @@ class Options(NamedTuple):
     model: Optional[str] = None  # that is stated for all keys
     mapping: Mapping = Mapping()  # what is said of the fields of rows, and of the order of events
     guesses_key: bool = True  # whether a history without keys is one object, if no key is said
+    values: Optional[str] = None  # which values are one: "exact", "text" or "number"
+    absent: Sequence[str] = ()  # the texts of answers that mean that a key is missing
+    initial: Optional[str] = None  # what each register holds at first
+
+    @property
+    def missing_is_judged(self) -> bool:
+        return self.nil_is_absent or bool(self.absent)
+
+    @property
+    def meant(self) -> Meant:
+        return Meant(self.values or EXACT, frozenset(self.absent))
+
+    @property
+    def first(self) -> Optional[Value]:
+        """What each register holds at first, as it is judged; none if that is a missing key."""
+        value = None if self.initial is None else self.meant.value(spelled(self.initial))
+        return None if value == "nil" else value
+
+    @property
+    def says_of_values(self) -> bool:
+        return self.missing_is_judged or self.initial is not None or not self.meant.says_nothing
 
     def asked(self, order: Optional[str]) -> Asked:
         """The same of events in Jepsen's form, which are taken in this order."""
         skew = 0 if self.mapping.skew is None else nanoseconds(self.mapping.skew)
-        return Asked(self.key, self.nil_is_absent, order, self.mapping.contradictions, 0 if order == LINES else skew)
+        return Asked(self.key, self.missing_is_judged, order, self.mapping.contradictions, 0 if order == LINES else skew, self.meant)
 
 
 def form_of(source: Source, options: Options) -> str:
@@ -57,7 +80,7 @@ def form_of(source: Source, options: Options) -> str:
         raise Refused("there is no event in it: nothing was judged")
     if form != detect.EDN:
         return LOG if form == detect.LOG else form
-    is_plain = options.key is None and not options.nil_is_absent and options.mapping.order in (None, LINES) and options.mapping.skew is None
+    is_plain = options.key is None and not options.says_of_values and options.mapping.order in (None, LINES) and options.mapping.skew is None
     if is_plain and own_front.is_own(source.front):
         return OWN
     return KEYED if edn_rows.is_one(source.front) else JEPSEN
@@ -83,11 +106,12 @@ def _form_of_several(source: Several, options: Options) -> str:
 class Translation:
     """A history of another form than jepmon's own, event by event."""
 
-    def __init__(self, form: str, read: History, account: Account, nil_is_absent: bool, notes: Sequence[str], texts: Optional[Texts]) -> None:
+    def __init__(self, form: str, read: History, account: Account, nil_is_absent: bool, notes: Sequence[str], texts: Optional[Texts],
+                 initial: Optional[Value]) -> None:
         self.form = form
         self.history = read
         self.account = account
-        self.nil_is_absent = nil_is_absent
+        self.nil_is_absent, self.initial = nil_is_absent, initial
         self.notes = notes  # of how it came about
         self._texts = texts  # in EDN, whose events say more than was kept of them
 
@@ -100,7 +124,7 @@ class Translation:
 
     def turned(self, in_shards: bool) -> Turned:
         """It in jepmon's own form."""
-        return written(self.history, self.nil_is_absent, OF_SHARDS if in_shards else Limits())
+        return written(self.history, self.nil_is_absent, OF_SHARDS if in_shards else Limits(), self.initial)
 
     def beside(self, wanted: Set[int], begun: int) -> Dict[int, Dict[str, Any]]:
         """What the events of these indices say of when they came, and of errors; so many events come before the history's own."""
@@ -124,16 +148,16 @@ def translated(source: Source, form: str, options: Options) -> Translation:
     if form == JEPSEN:
         _refuse_others(source.front, options)
         read = _collected(source, options, account, source)
-        return Translation(form, read, account, options.nil_is_absent, (), source)
+        return Translation(form, read, account, options.missing_is_judged, (), source, options.first)
     if form == LOG:
         log = logs.Log(source)
         read = _collected(log, options, account, source)
         read.is_of_rows = True
         if not log.has_times:
             log.blocks.close(account)
-        return Translation(form, read, account, options.nil_is_absent, (), log)
+        return Translation(form, read, account, options.missing_is_judged, (), log, options.first)
     made = _of_rows(source, form, options, account)
-    return Translation(form, made.history, account, options.nil_is_absent or made.nil_is_absent, made.notes, None)
+    return Translation(form, made.history, account, options.missing_is_judged or made.nil_is_absent, made.notes, None, options.first)
 
 
 def _of_rows(source: Source, form: str, options: Options, account: Account) -> Written:

@@ -31,6 +31,7 @@ from ..edn import Many, Value, canonical, integer, shown, spelling
 from ..forms.account import Account
 from .clients import NEMESIS, Clients, is_name
 from .events import Event, Fault, History, Left, Row, is_pair, tuple_of
+from .meant import Meant
 from .order import Order, number_of
 from .outcomes import Outcomes
 from .plain import Plain, plain_of
@@ -84,6 +85,7 @@ class Asked(NamedTuple):
     order: Optional[str] = None  # by which events are taken: "lines", "index" or "times"; None: as they stand, or by what they say
     outcomes: Mapping[str, str] = {}  # the type of what is an :ok and says that it is none, by "false" and "error"
     skew: int = 0  # nanoseconds by which each clock may be wrong
+    meant: Meant = Meant()  # which values are one, and which are none
     clients: Optional[Callable[[str, int], str]] = None  # of several files: the name of a client by the line of its event
     parts: Sequence[Tuple[int, Texts]] = ()  # the same files, each with how many lines come before its own
 
@@ -93,7 +95,7 @@ class Collector:
 
     def __init__(self, asked: Asked, account: Account) -> None:
         self.lone_key = None if asked.key is None else canonical(asked.key)
-        self.nil_is_absent = asked.nil_is_absent
+        self.nil_is_absent, self.meant = asked.nil_is_absent, asked.meant
         self.account = account
         self.names = asked.clients
         self.order: Optional[Order] = None if asked.order else Order()
@@ -110,7 +112,7 @@ class Collector:
         """The history of a text that comes in pieces."""
         pieces = Counted(pieces)
         front = next(pieces, "")
-        plain = plain_of(front, self.lone_key is None)
+        plain = plain_of(front, self.lone_key is None) if self.meant.says_nothing else None
         elements = edn.Reader(itertools.chain((front,), pieces)).history(plain.find if plain is not None else None)
         try:
             for element in elements:
@@ -199,6 +201,8 @@ class Collector:
     def take_told(self, line: int, kind: str, process: int, name: str, value: Pair, beside: Any) -> None:
         """Takes an event that was told by something else than EDN, with what else that said: its time, and an error."""
         key, part = value
+        if not self.meant.says_nothing:
+            part = self.meant.part(name, part)
         if key is None and self.lone_key is not None:
             key = self.lone_key
         is_pair = name == ":cas" and type(part) is Many and len(part.members) == 2
@@ -335,7 +339,8 @@ class Collector:
             plain = canonical(value)
             if kind == ":invoke":
                 refuse_value_of_read(line, name, plain)
-            known = self.taken_apart(line, name, plain)
+            key, part = self.taken_apart(line, name, plain)
+            known = key, self.meant.part(name, part)
             if kind == ":invoke":
                 self.test_part(line, name, known[1])
             if len(self.known) < MOST_KNOWN and (isinstance(known[1], str) or name == ":cas"):
@@ -407,7 +412,7 @@ class Collector:
         known = self.known.get((":invoke", invoked.name, value))
         if known is not None:
             return known[1] == invoked.part
-        return self.part_of(value) == invoked.part
+        return self.meant.part(invoked.name, self.part_of(value)) == invoked.part
 
     def part_of(self, value: Value) -> Value:
         """The part of a completion's value, with a key or without one."""

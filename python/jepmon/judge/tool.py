@@ -16,7 +16,7 @@ from ..forms import Beyond, Refused, door, files
 from ..forms.door import Translation
 from ..forms.recorded import Recorded, of_own, of_translation
 from ..program import CURE, Options, find_program
-from . import as_json, bad_keys, by_shards, events, hints, large, least, models, results, terminal, ties, wide, words
+from . import as_json, bad_keys, by_shards, doubts, events, hints, large, least, models, results, terminal, ties, wide, words
 from .judging import Task, judged
 from .outputs import Folder, Page
 from .words import NAME, Given
@@ -156,6 +156,7 @@ def _judge_whole(source: files.Source, found: Recorded, given: Given, page: Opti
     of_report = bad_keys.found(report.keys)
     keys = bad_keys.shown(found, task, report, of_report.bad, functools.partial(events.with_fields, found), given.cause, decided)
     done = results.Results(source.name, found, task, report, keys, terminal.told(found, keys))
+    beside += doubts.told(found, keys, given)
     results.write(page, folder, done)
     if given.json:
         facts = found.facts
@@ -169,6 +170,7 @@ def _task(found: Recorded, given: Given) -> Task:
     """How the history is to be judged."""
     choice = models.chosen(found.facts, given.model, found.stated, found.possible)
     models.account_for(choice, found.account)
+    doubts.account_for_types(found.value_names, given, found.account)
     concurrency = given.concurrency or models.concurrency_of(found.facts)
     if concurrency is None:
         raise Refused("its processes fit no concurrency from 1 to 64")

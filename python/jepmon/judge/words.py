@@ -3,10 +3,10 @@ from __future__ import annotations
 
 import argparse
 import sys
-from typing import List, NamedTuple, Optional
+from typing import List, NamedTuple, Optional, Sequence
 
 from .. import command, kinds
-from ..forms import Refused, mapping_words
+from ..forms import Refused, mapping_words, meant_words
 from ..forms.door import Options as Said
 from ..forms.mapping import Mapping
 
@@ -46,12 +46,15 @@ class Given(NamedTuple):
     strict_input: bool = False
     json: bool = False
     least: int = 1
+    values: Optional[str] = None
+    absent: Sequence[str] = ()
+    initial: Optional[str] = None
     mapping: Mapping = Mapping()  # what is said of the fields of rows
 
     @property
     def said(self) -> Said:
         """What is said of the history."""
-        return Said(self.key, self.nil_is_absent, self.model, self.mapping)
+        return Said(self.key, self.nil_is_absent, self.model, self.mapping, values=self.values, absent=self.absent, initial=self.initial)
 
 
 class Words(command.Words):
@@ -98,6 +101,7 @@ def given(words: Optional[List[str]]) -> Given:
     parser.add_argument("--nil-is-absent", action="store_true", help="nil is what a missing key answers, and is judged")
     parser.add_argument("--strict-input", action="store_true", help="refuse each guess, as of the model or of a key, in place of judging by it")
     mapping_words.add(parser)
+    meant_words.add(parser)
     parser.add_argument("--wide", action="store_true", help=f"take up to {LONG} seconds, in place of {SHORT}, to decide keys that are over "
                         "their budget by what is known afterwards")
     parser.add_argument("--wide-seconds", metavar="N", type=number("a number of seconds", range(0, MOST_SECONDS + 1)),
@@ -121,4 +125,4 @@ def given(words: Optional[List[str]]) -> Given:
     seconds = parsed.wide_seconds if parsed.wide_seconds is not None else LONG if parsed.wide else SHORT
     return Given(parsed.history or ["-"], parsed.model, parsed.concurrency, parsed.budget, parsed.workers, key, parsed.nil_is_absent,
                  parsed.html, parsed.out, parsed.cause, parsed.jobs, parsed.dask, parsed.temporary, seconds, parsed.strict_input,
-                 parsed.json, parsed.least, mapping)
+                 parsed.json, parsed.least, parsed.values, tuple(parsed.absent), parsed.initial, mapping)
