@@ -103,6 +103,17 @@ class Ways(unittest.TestCase):
             with self.subTest(more=more):
                 self.assertEqual(self.agree(["h.edn"])[0], want)
 
+    def test_times_that_go_back_in_jepmons_own_form(self) -> None:
+        """Two clients hold a lock, and their files stand one behind the other."""
+        lines = [f"{{:type :{kind}, :process {process}, :f :{name}, :value [0 nil], :time {time}}}\n" for process, name, kind, time in (
+            (0, "acquire", "invoke", 1), (0, "acquire", "ok", 2), (0, "release", "invoke", 7), (0, "release", "ok", 8), (1, "acquire", "invoke", 3),
+            (1, "acquire", "ok", 4))]
+        (self.room / "h.edn").write_text("".join(lines))
+        self.assertEqual(self.agree(["h.edn"]), (1, "illegal key 0 index 3"))
+        self.assertEqual(self.agree(["h.edn", "--order", "lines"]), (0, "legal"))
+        (self.room / "h.edn").write_text("".join(line.replace("{", f"{{:index {index}, ") for index, line in enumerate(lines)))
+        self.assertEqual(self.agree(["h.edn"]), (0, "legal"))
+
     def test_commands(self) -> None:
         (self.room / "h.edn").write_text("[:model 7 :register]\n" + own("7", "1"))
         said: List[str] = []
@@ -127,8 +138,8 @@ class Ways(unittest.TestCase):
 
     def test_two_processes(self) -> None:
         (self.room / "h.edn").write_text("".join(
-            f"{{:process 0, :type :{kind}, :f :{name}, :key :{key}, :value 1}}\n" for key in "abc" for name in ("write", "read")
-            for kind in ("invoke", "ok")))
+            f"{{:process 0, :type :{kind}, :f :{name}, :key :{key}, :value {part}}}\n" for key in "abc" for name, kind, part in (
+                ("write", "invoke", "1"), ("write", "ok", "1"), ("read", "invoke", "nil"), ("read", "ok", "1"))))
         self.assertEqual(self.agree(["h.edn"], "1", "2"), (0, "legal"))
 
 

@@ -66,7 +66,7 @@ class Options(NamedTuple):
     def asked(self, order: Optional[str]) -> Asked:
         """The same of events in Jepsen's form, which are taken in this order."""
         skew = 0 if self.mapping.skew is None else nanoseconds(self.mapping.skew)
-        return Asked(self.key, self.missing_is_judged, order, self.mapping.contradictions, 0 if order == LINES else skew, self.meant)
+        return Asked(self.key, self.missing_is_judged, order, self.mapping.contradictions, 0 if order == LINES else skew, meant=self.meant)
 
 
 def form_of(source: Source, options: Options) -> str:
@@ -82,7 +82,8 @@ def form_of(source: Source, options: Options) -> str:
         return LOG if form == detect.LOG else form
     is_plain = options.key is None and not options.says_of_values and options.mapping.order in (None, LINES) and options.mapping.skew is None
     if is_plain and own_front.is_own(source.front):
-        return OWN
+        is_asked = options.mapping.order == LINES
+        return OWN if is_asked or own_front.is_in_order(source.front, source.texts()) else JEPSEN
     return KEYED if edn_rows.is_one(source.front) else JEPSEN
 
 

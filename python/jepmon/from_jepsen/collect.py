@@ -85,9 +85,9 @@ class Asked(NamedTuple):
     order: Optional[str] = None  # by which events are taken: "lines", "index" or "times"; None: as they stand, or by what they say
     outcomes: Mapping[str, str] = {}  # the type of what is an :ok and says that it is none, by "false" and "error"
     skew: int = 0  # nanoseconds by which each clock may be wrong
-    meant: Meant = Meant()  # which values are one, and which are none
     clients: Optional[Callable[[str, int], str]] = None  # of several files: the name of a client by the line of its event
     parts: Sequence[Tuple[int, Texts]] = ()  # the same files, each with how many lines come before its own
+    meant: Meant = Meant()  # which values are one, and which are none
 
 
 class Collector:
@@ -224,7 +224,7 @@ class Collector:
                 self.open[process] = row
             else:
                 del self.open[process]
-            if self.history.is_plain and not all(map(is_plain, flat[1] if is_pair else (flat,))):
+            if self.history.is_plain and not (all(map(is_plain, flat[1])) if is_pair else is_plain(flat)):
                 self.history.is_plain = False
             self.history.count(row)
             self.rows.append(row)
@@ -446,7 +446,7 @@ class Collector:
 
 def is_plain(part: str) -> bool:
     """Whether a part is nil, or an integer that is a value of jepmon."""
-    return part == "nil" or len(part) < 19 and part.lstrip("-").isdigit()
+    return part.isdigit() and part.isascii() and len(part) < 19 or part == "nil" or part[0] == "-" and part[1:].isdigit() and len(part) < 19
 
 
 def refuse_operation(line: int, name: Optional[Value]) -> NoReturn:
