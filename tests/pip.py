@@ -24,7 +24,8 @@ from case_loop import Case, differing, run_cases
 from program import PROGRAM
 
 TOP = pathlib.Path(__file__).resolve().parent.parent
-TOOLS = ("jepmon-judge", "jepmon-shards", "jepmon-explain", "jepmon-from-jepsen", "jepmon-from-json", "jepmon-test")
+TOOLS = ("jepmon-judge", "jepmon-shards", "jepmon-explain", "jepmon-from-jepsen", "jepmon-from-json", "jepmon-runs",
+         "jepmon-test")
 LIMIT = 300  # seconds: a virtual environment is slow to make
 ENVIRONMENT: Dict[str, str] = {name: value for name, value in os.environ.items() if not name.startswith(("PIP_", "PYTHON", "JEPMON"))}
 ENVIRONMENT.update(PIP_NO_INDEX="1", PIP_DISABLE_PIP_VERSION_CHECK="1", PIP_CONFIG_FILE=os.devnull, PYTHONDONTWRITEBYTECODE="1")

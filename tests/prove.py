@@ -17,7 +17,7 @@ import time
 
 TICKS = os.sysconf("SC_CLK_TCK")
 MOST_OF_A_CHECK = 3_300_000_000  # bytes: the most that a check of a crate has taken (docs/PERFORMANCE_RUNS.md)
-PLANNED = 7_500_000_000  # bytes that `rt ci` plans for a check of an upper crate; a part of the free memory stays unplanned
+PLANNED = 6_000_000_000  # bytes, at most, that `rt ci` plans for a check; it leaves a part of the free memory
 UNPLANNED = 0.15
 KINDS = ("proofs", "tests")
 COUNTS = re.compile(rb"\d+ passed, \d+ failed")
@@ -114,9 +114,8 @@ def share(line):
 
 
 def settings():
-    """How `rt ci` shares the processors. Left to itself it also gives a check that no other one waits beside more than one processor, but
-    it plans with twice the memory that the checks of the upper crates take. Where the free memory holds fewer of these than there are
-    processors, it is told how many checks to run side by side."""
+    """How `rt ci` shares the processors. Left to itself it gives a check several processors if no other check is ready, but it plans with
+    twice the memory that a check takes. If that plan leaves one of two processors idle, it is told how many checks to run at once."""
     with open("/proc/meminfo", encoding="ascii") as meminfo:
         free = int(re.search(r"MemAvailable:\s+(\d+)", meminfo.read())[1]) * 1024
     processors = len(os.sched_getaffinity(0))

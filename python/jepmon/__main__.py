@@ -1,4 +1,4 @@
-"""The tools by one name: python3 -m jepmon judge|shards|explain|from-jepsen|from-json WORD.."""
+"""The tools by one name: python3 -m jepmon judge|shards|explain|from-jepsen|from-json|runs|test WORD.."""
 import importlib
 import sys
 from typing import List
@@ -10,6 +10,7 @@ TOOLS = {
     "explain": "runs a check, and shows the file's own events beside its last line",
     "from-jepsen": "turns a recorded Jepsen history into one that jepmon reads",
     "from-json": "turns JSON lines into a history that jepmon reads",
+    "runs": "shows all runs of a folder at a glance",
     "test": "tests a real server under faults, judged live",
 }
 

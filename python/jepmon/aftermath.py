@@ -9,7 +9,7 @@ from typing import List, NamedTuple, Tuple
 from .history import Event, read_history
 from .notes import Fault, faults_of
 from .program import STATUSES, KeyLine, ProgramError, Report
-from .run_folder import HISTORY, RunFolder
+from .run_folder import AFTER, HISTORY, RunFolder
 
 PLAIN = re.compile(r"\{:type :([a-z]+), :process ([0-9]+), :f :([a-z]+), :value \[([0-9]+) (nil|-?[0-9]+)\], :time ([0-9]+)\}")
 
@@ -48,6 +48,7 @@ def _told(folder: RunFolder, bad: Bad) -> Told:
     events, faults = read(folder.path / HISTORY, bad.key)
     report = report_of(bad, len(events))
     found = cause.explain(events, report, folder.options, program=folder.program)
+    found = found._replace(sentences=[*read_again(folder), *found.sentences]) if found is not None else None
     walked = page.walked(walk.walk(events, bad.model, bad.budget), {})
     drawn = page.render(page.PageInput(
         verdict=bad.reply, key=bad.key, events=events, model=bad.model, concurrency=folder.options.concurrency, budget=bad.budget,
@@ -55,6 +56,14 @@ def _told(folder: RunFolder, bad: Bad) -> Told:
         headline=found.headline if found is not None else "", sentences=found.sentences if found is not None else (),
         smallest=found.part.events if found is not None and found.part is not None else ()))
     return Told(cause.lines(found) if found is not None else [], drawn)
+
+
+def read_again(folder: RunFolder) -> List[str]:
+    """What the test has found as it read the key once more."""
+    try:
+        return (folder.path / AFTER).read_text("utf-8").splitlines()
+    except OSError:
+        return []
 
 
 def read(history: pathlib.Path, key: int) -> Tuple[List[Event], List[Fault]]:

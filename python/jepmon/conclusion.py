@@ -41,6 +41,14 @@ def leave_cause(folder: RunFolder, conclusion: Conclusion) -> None:
         folder.put(PAGE, told.page)
 
 
+def leave_page(folder: RunFolder) -> None:
+    """The page of the whole run, legal or not; of a part the run has it."""
+    if not folder.is_part:
+        from .rates.run import leave  # here, since a test without a folder needs no page
+
+        leave(folder.path, folder.lost is not None)
+
+
 def counts_text(conclusion: Conclusion, lost: Optional[str]) -> str:
     """How many operations ended how, and what else is to be known of the run."""
     lines: List[str] = [f"events: {conclusion.length}", *count_lines(conclusion.counts)]

@@ -16,6 +16,7 @@ from typing import Dict, Iterable, List, NamedTuple, Optional
 
 NOTE, BEGIN, END = "note", "begin-fault", "end-fault"
 LONGEST = 1000  # characters of a note
+OVER = "the faults are over"  # what jepmon-test notes once it has ended them all
 LINE = re.compile(
     r'#_\{:type :info, :process :nemesis, :f :(note|begin-fault|end-fault), :value "((?:[^"\\]|\\.)*)", :time ([0-9]+)\}'
 )

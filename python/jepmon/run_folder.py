@@ -7,6 +7,7 @@
                              names.txt     what the numbers of Monitor.number stand for, where there are any
                              cause.txt     why it is illegal or unknown, in words
                              page.html     and as a picture
+                             run.html      rates, latencies and faults over time, and all keys (docs/PAGE.md); made at the end
     runs/latest                            a link to the newest
 
 `jepmon check` on the history, with these options, gives the verdict of the run. Notes of faults stand in it where they were taken
@@ -19,6 +20,7 @@ import contextlib
 import datetime
 import os
 import pathlib
+import shlex
 import shutil
 import sys
 from typing import Iterator, Optional, Union
@@ -27,9 +29,14 @@ from .program import Options
 
 HISTORY, AGAIN, VERDICT, COUNTS, NAMES = "history.edn", "judge-again", "verdict.txt", "counts.txt", "names.txt"
 CAUSE, PAGE, LATEST = "cause.txt", "page.html", "latest"
+RUN_PAGE, RUN_FACTS = "run.html", "run.json"  # the facts are those of the test that knows more of a run, as jepmon-test
+AFTER, LOST = "after.txt", "lost.txt"  # what jepmon-test has learned after a finding: of the bad key, and of messages
+PART = "part-"  # how the folders of parts begin, in that of a run without an end
 SCRIPT = """#!/bin/sh
 # Judges history.edn, beside this file, again by the proved program. The run began at {begun}, by {program!r}
 cd "$(dirname "$0")" || exit 3
+here={path}
+[ -n "$JEPMON" ] || ! [ -x "$here" ] || JEPMON=$here
 exec "${{JEPMON:-jepmon}}" {again}
 """
 
@@ -38,8 +45,9 @@ class RunFolder:
     """A folder that is there already, and empty. An OSError says that it can't be begun. After that, what can't be written is lost, and
     that is said once, on standard error: a test goes on without."""
 
-    def __init__(self, path: pathlib.Path, begun: datetime.datetime, options: Options, program: str) -> None:
+    def __init__(self, path: pathlib.Path, begun: datetime.datetime, options: Options, program: str, is_part: bool = False) -> None:
         self.options, self.program, self.begun = options, program, begun
+        self.is_part = is_part  # of a run without an end, which has a page of its own
         self.lost: Optional[str] = None  # what could not be written first, and why
         self.is_script = False  # whether the history has lines that `jepmon check` does not take
         self._size = 0  # of the history, in whole lines
@@ -93,7 +101,8 @@ class RunFolder:
         return f"script {words} < {HISTORY}" if self.is_script else f"check {HISTORY} {words}"
 
     def _script(self) -> str:
-        return SCRIPT.format(begun=self.begun.isoformat(), program=self.program, again=self.again)
+        path = shlex.quote(os.path.abspath(self.program) if os.sep in self.program else self.program)
+        return SCRIPT.format(begun=self.begun.isoformat(), program=self.program, path=path, again=self.again)
 
     def put(self, name: str, text: str, executable: bool = False) -> None:
         """Writes a file as a whole, under its name only once it is whole."""

@@ -5,7 +5,7 @@ import copy
 import re
 from typing import Dict, List, Optional, Set, Tuple
 
-from .conclusion import Conclusion, leave_cause, leave_verdict
+from .conclusion import Conclusion, leave_cause, leave_page, leave_verdict
 from .endings import Endings
 from .exchange import Exchange
 from .hints import hint_of_model, hint_of_refusal, hint_of_unknown
@@ -305,6 +305,7 @@ class Telling:
             self._record.folder.close()
             leave_verdict(self._record.folder, conclusion)
             leave_cause(self._record.folder, conclusion)
+            leave_page(self._record.folder)
 
     def _hint_of_illegal(self, key: int, index: int, line: str) -> str:
         model, names = self.model_of(key), self.told.names(key)

@@ -48,7 +48,7 @@ class Folders(Monitored):
             with monitor.write(7, 1):
                 pass
         assert monitor.folder is not None
-        self.assertEqual(sorted(os.listdir(monitor.folder)), ["counts.txt", "history.edn", "judge-again", "verdict.txt"])
+        self.assertEqual(sorted(os.listdir(monitor.folder)), ["counts.txt", "history.edn", "judge-again", "run.html", "verdict.txt"])
         self.assertEqual(self.lines(monitor, "verdict.txt"), ["legal"])
         self.assertEqual(self.lines(monitor, "counts.txt"), ["events: 4", "write: 1 ok, 0 fail, 0 info"])
         self.assertEqual(self.lines(monitor, "judge-again")[-1],

@@ -13,7 +13,7 @@ from typing import Set
 
 from jepmon.testing.errors import ServerError
 from jepmon.testing.guard import environment
-from jepmon.testing.links import AUTO, CLIENTS, DIRECT, NAMESPACES, PROXY, Switched, network
+from jepmon.testing.links import AUTO, CLIENTS, CUT, DIRECT, NAMESPACES, PROXY, Effect, Switched, both_ways, network
 from jepmon.testing.node import Node
 from jepmon.testing.places import HERE, Place, why_not
 from tests.python.test_testing_nodes import PATIENCE, Room, is_alive, wait_for
@@ -94,34 +94,55 @@ class Namespaces(Room):
     def test_what_is_cut_comes_later(self) -> None:
         connection = self.connection()
         self.assertEqual(self.asked(connection), b"one\n")
-        self.links.cut("n1", [CLIENTS])
+        cut = self.links.hold(both_ways(["n1"], [CLIENTS]), CUT)
         connection.settimeout(0.5)
         with self.assertRaises(TIMED_OUT):
             self.asked(connection, b"two\n")
         self.assertEqual(self.asked(self.connection(0, "n2")), b"one\n")  # the nodes reach each other
-        self.links.open("n1", [CLIENTS])
+        self.links.release(cut)
         connection.settimeout(PATIENCE)
         self.assertEqual(connection.recv(100), b"two\n")
 
     def test_nodes_are_cut_off_from_each_other_alone(self) -> None:
         connection = self.connection(0, "n2")
-        self.links.cut("n1", ["n2"])
+        self.links.hold(both_ways(["n1"], ["n2"]), CUT)
         connection.settimeout(0.5)
         with self.assertRaises(TIMED_OUT):
             self.asked(connection)
         self.assertEqual([self.asked(self.connection(node)) for node in (0, 1)], [b"one\n"] * 2)
 
     def test_who_is_where_the_node_is_reaches_it_when_it_is_cut_off(self) -> None:
-        self.links.cut("n1", [CLIENTS, "n2"])
+        self.links.hold(both_ways(["n1"], [CLIENTS, "n2"]), CUT)
         with self.nodes[0].inside():
             self.nodes[0].accepts()
 
     def test_what_is_slow_takes_longer(self) -> None:
         connection = self.connection()
-        self.links.slow("n1", [CLIENTS], 0.2)
+        self.links.hold(both_ways(["n1"], [CLIENTS]), Effect(delay=0.2))
         begun = time.monotonic()
         self.assertEqual(self.asked(connection), b"one\n")
         self.assertGreaterEqual(time.monotonic() - begun, 0.4)  # both ways
+
+    def test_packets_are_lost_and_late_and_wrong_and_all_comes_once_and_in_order(self) -> None:
+        """TCP sees to that: what is lost, or has a wrong bit, is sent again."""
+        connection = self.connection()
+        for effect in (Effect(loss=0.2), Effect(reorder=0.5), Effect(corrupt=0.2), Effect(loss=0.05, reorder=0.2, corrupt=0.05, jitter=0.01)):
+            with self.subTest(effect):
+                held = self.links.hold(both_ways(["n1"], [CLIENTS]), effect)
+                sent = b"".join(b"%04d" % number for number in range(250)) + b"\n"
+                connection.sendall(sent)
+                came = b""
+                while len(came) < len(sent):
+                    came += connection.recv(1 << 16)
+                self.assertEqual(came, sent)
+                self.links.release(held)
+
+    def test_all_packets_are_lost(self) -> None:
+        connection = self.connection()
+        self.links.hold([("n1", CLIENTS)], Effect(loss=1.0))
+        connection.settimeout(0.5)
+        with self.assertRaises(TIMED_OUT):
+            self.asked(connection)
 
     def test_much_goes_through(self) -> None:
         connection, sent = self.connection(), b"x" * 999 + b"\n"

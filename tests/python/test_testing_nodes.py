@@ -13,9 +13,9 @@ import unittest
 from typing import Callable, List
 
 from jepmon.testing.errors import ServerError
-from jepmon.testing.family import continue_family, family, kill_family, stop_family
+from jepmon.testing.family import adopt, continue_family, family, kill_family, parent_of, stop_family
 from jepmon.testing.guard import Guard, environment
-from jepmon.testing.links import CLIENTS, Proxied
+from jepmon.testing.links import CLIENTS, CUT, Effect, Proxied, both_ways
 from jepmon.testing.node import ADDRESS, Node, Ports, is_free, last_words
 
 PATIENCE = 60.0  # seconds, on a busy machine
@@ -130,6 +130,20 @@ class Families(unittest.TestCase):
         process.wait()
         self.assertTrue(wait_for(lambda: not any(map(is_alive, members))))
 
+    def test_orphans_stay_in_the_family(self) -> None:
+        with tempfile.TemporaryDirectory() as room:
+            code = "setsid sh -c '(sleep 600 & echo $! >orphan)'; exec sleep 600"
+            process = subprocess.Popen(["sh", "-c", code], cwd=room, preexec_fn=adopt)
+            self.addCleanup(process.wait)
+            self.addCleanup(kill_family, process.pid)
+            self.assertTrue(wait_for(lambda: len(family(process.pid)) == 2))
+            orphan = int(pathlib.Path(room, "orphan").read_text())
+            self.assertEqual(parent_of(orphan), process.pid)
+            stop_family(process.pid)
+            self.assertTrue(wait_for(lambda: self.states([process.pid, orphan]) == "TT"))
+            kill_family(process.pid)
+            self.assertTrue(wait_for(lambda: not is_alive(orphan)))
+
     def test_nothing_is_left_where_the_test_is_killed(self) -> None:
         with tempfile.TemporaryDirectory() as room:
             folder = pathlib.Path(room, "data")
@@ -167,12 +181,16 @@ class LinksOfANode(Room):
         connection = self.connection()
         connection.sendall(b"one\n")
         self.assertEqual(connection.recv(100), b"one\n")
-        self.links.cut("n1", [CLIENTS])
+        cut = self.links.hold(both_ways(["n1"], [CLIENTS]), CUT)
+        other = self.links.hold([("n1", CLIENTS)], CUT)
         connection.sendall(b"two\n")
         connection.settimeout(0.5)
         with self.assertRaises(TimeoutError if sys.version_info >= (3, 10) else socket.timeout):
             connection.recv(100)
-        self.links.open("n1", [CLIENTS])
+        self.links.release(cut)
+        with self.assertRaises(TimeoutError if sys.version_info >= (3, 10) else socket.timeout):
+            connection.recv(100)  # another strike still holds one way
+        self.links.release(other)
         connection.settimeout(PATIENCE)
         self.assertEqual(connection.recv(100), b"two\n")
 
@@ -184,14 +202,14 @@ class LinksOfANode(Room):
 
     def test_what_is_slow_takes_longer(self) -> None:
         connection = self.connection()
-        self.links.slow("n1", [CLIENTS], 0.2)
+        self.links.hold(both_ways(["n1"], [CLIENTS]), Effect(delay=0.2, jitter=0.1))
         begun = time.monotonic()
         connection.sendall(b"one\n")
         self.assertEqual(connection.recv(100), b"one\n")
         self.assertGreaterEqual(time.monotonic() - begun, 0.4)  # both ways
 
     def test_a_link_to_a_node_that_is_cut_from_others_is_open_to_clients(self) -> None:
-        self.links.cut("n1", ["n2"])
+        self.links.hold(both_ways(["n1"], ["n2"]), CUT)
         connection = self.connection()
         connection.sendall(b"one\n")
         self.assertEqual(connection.recv(100), b"one\n")
@@ -209,7 +227,7 @@ class LinksOfANode(Room):
     def test_a_fault_of_the_links_is_said(self) -> None:
         self.links.end()
         with self.assertRaisesRegex(ServerError, "the process of the links"):
-            self.links.cut("n1", [CLIENTS])
+            self.links.hold(both_ways(["n1"], [CLIENTS]), CUT)
 
 
 if __name__ == "__main__":

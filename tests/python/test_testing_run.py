@@ -9,9 +9,10 @@ import subprocess
 import sys
 import tempfile
 import time
+import unittest
 from typing import List, Optional
 
-from jepmon.testing import ServerError, template
+from jepmon.testing import ServerError, mounts, template
 from jepmon.testing.words import given
 from tests.python import TOP
 from tests.python.monitored import Monitored
@@ -37,6 +38,27 @@ CLIENT_IS_WRONG = ("class Client(MyClient):\n    def read(self, key):\n        r
                    "class Mine(MyServer):\n    objects = {'register': Client}\n"
                    "    def client(self, number):\n        return Client(self.nodes[0].at)\n")
 
+LOGS = ("import logging, warnings\nclass Client(MyClient):\n    def read(self, key):\n        logging.getLogger('pool').warning('a connection was "
+        "lost')\n        warnings.warn('old')\n        return super().read(key)\nclass Mine(MyServer):\n    objects = {'register': Client}\n"
+        "    def client(self, number):\n        return Client(self.nodes[0].at)\n")
+LEAVES_ORPHANS = ("class Mine(MyServer):\n    def command(self, node):\n        code = \"(setsid sh -c '(sleep 600.25 &)'); {}\"\n"
+                  "        return ['sh', '-c', code, 'sh', *super().command(node)]\n")
+HAS_ITS_OWN = """
+import contextlib
+from jepmon.testing import Parameter, Strike
+from jepmon.testing.workloads import Registers
+@contextlib.contextmanager
+def touched(cluster, node, values):
+    yield
+class Writes(Registers):
+    model, names = "register", ("write",)
+    def step(self, number, client, draws, changes):
+        return super().step(number, client, draws, 1.0)
+class Mine(MyServer):
+    objects, workloads = {"writes": MyClient}, {"writes": Writes}
+    strikes = {"touch": Strike("{node} is touched {times:g} times", touched, parameters={"times": Parameter(1, 3)})}
+"""
+
 
 class Runs(Monitored):
     def words(self, server: str, *words: str) -> List[str]:
@@ -57,8 +79,9 @@ class Runs(Monitored):
         return "./mine.py"
 
     def nothing_is_left(self) -> None:
-        """No process of a server, and no folder of one."""
+        """No process of a server, no folder of one, and no mount."""
         self.assertEqual(self.left(), [])
+        self.assertEqual(mounts.points_below(str(self.room)), [])
         self.assertEqual(os.listdir(self.room / "tmp"), [])
 
     def left(self) -> List[str]:
@@ -94,6 +117,22 @@ class TheTemplate(Runs):
         self.assertRegex(ran.stdout.splitlines()[-1], "^illegal key ")
         self.assertRegex(ran.stderr.splitlines()[0], r"^Client \d+ read ABSENT from key \d+, which could not hold ABSENT any more\.$")
         self.assertIn("by kill -9", (self.room / "runs" / "latest" / "part-0001" / "page.html").read_text())
+
+    @unittest.skipIf(mounts.why_not(), "no file system by FUSE")
+    def test_it_does_not_sync_and_a_loss_of_power_shows_it(self) -> None:
+        ran = self.ran(str(TEMPLATE), "--time", "60", "--nemesis", "power")
+        self.assertEqual(ran.returncode, 1, ran.stdout + ran.stderr)
+        self.assertRegex(ran.stdout.splitlines()[-1], "^illegal key ")
+        self.assertRegex((self.room / "runs" / "latest" / "n1.log").read_text(), r"--- power: lost [1-9]")
+
+    def test_strikes_and_workloads_of_its_own(self) -> None:
+        ran = self.ran(self.mine(HAS_ITS_OWN), "--time", "2", "--least", "5", "--nemesis", "touch:n1:times=2@0.5+0.2,kill@0.6+0.4")
+        self.assertEqual((ran.returncode, ran.stderr), (0, ""), ran.stdout)
+        self.assertRegex(ran.stdout, r"^Mine, writes: .*; kill, touch")
+        self.assertIn("strikes: 1 kill, 1 touch", ran.stdout)
+        history = (self.room / "runs" / "latest" / "part-0001" / "history.edn").read_text()
+        self.assertEqual(history.count('"n1 is touched 2 times [touch n1, other, times=2]"'), 2)
+        self.assertEqual(history.count('"n1 is down, by kill -9 [kill n1, process; while touch n1]"'), 2)
 
     def test_it_is_short(self) -> None:
         """What a user writes: all but the server that stands for the user's own."""
@@ -151,21 +190,57 @@ class NoVerdict(Runs):
         self.assertEqual((ran.returncode, ran.stderr), (3, "test: /dev/null/runs: the folder of a run can't be made: Not a directory\n"))
 
 
+class Snags(Runs):
+    def test_what_a_client_logs_does_not_flood_the_terminal(self) -> None:
+        ran = self.ran(self.mine(LOGS), "--time", "1", "--nemesis", "none", "--least", "1")
+        self.assertEqual((ran.returncode, ran.stderr), (0, ""), ran.stdout)
+        self.assertIn("a connection was lost", (self.room / "runs" / "latest" / "clients.log").read_text())
+
+    def test_a_folder_is_judged_again_without_a_program_on_the_path(self) -> None:
+        self.ran(str(TEMPLATE), "--time", "1", "--nemesis", "none", "--least", "1")
+        environment = {name: value for name, value in os.environ.items() if name != "JEPMON"}
+        again = subprocess.run([self.room / "runs" / "latest" / "judge-again"], stdout=subprocess.PIPE, universal_newlines=True,
+                               env={**environment, "PATH": "/usr/bin:/bin"})
+        self.assertEqual((again.returncode, again.stdout.splitlines()[-1]), (0, "legal"))
+
+
+class Orphans(Runs):
+    """A server starts a helper that leaves its family, by two forks."""
+
+    def test_they_go_with_the_server(self) -> None:
+        ran = self.ran(self.mine(LEAVES_ORPHANS.format("exec \\\"$@\\\"")), "--time", "2", "--least", "1", "--nemesis", "kill@0.5+0.2")
+        self.assertEqual((ran.returncode, ran.stderr), (0, ""), ran.stdout)
+
+    def test_they_go_where_the_server_has_ended_by_itself(self) -> None:
+        ran = self.ran(self.mine(LEAVES_ORPHANS.format("sleep 0.3; exit 4")), "--time", "2")
+        self.assertEqual(ran.returncode, 3, ran.stdout)
+        self.assertIn("died by itself, with status 4", ran.stderr)
+
+    def left(self) -> List[str]:
+        return [*super().left(), *(word for word in subprocess.run(["ps", "-eo", "args"], stdout=subprocess.PIPE, universal_newlines=True)
+                                   .stdout.splitlines() if word.startswith("sleep 600.25"))]
+
+
 class BrokenOff(Runs):
     def broken_off(self, number: signal.Signals) -> "tuple[int, str]":
-        test = subprocess.Popen(self.words(str(TEMPLATE), "--time", "600"), stdout=subprocess.PIPE, stderr=subprocess.PIPE,
+        power = "" if mounts.why_not() else ",power@900"  # each node's folder is a mount, and nothing is lost
+        test = subprocess.Popen(self.words(str(TEMPLATE), "--time", "600", "--nemesis", f"kill@0.5+600{power}"), stdout=subprocess.PIPE, stderr=subprocess.PIPE,
                                 universal_newlines=True, env=self.environment(), cwd=self.room)
         history = self.room / "runs" / "latest" / "part-0001" / "history.edn"
         end = time.monotonic() + PATIENCE
         while not (history.exists() and "begin-fault" in history.read_text()) and time.monotonic() < end:
             time.sleep(0.1)
         test.send_signal(number)
-        said = test.communicate(timeout=PATIENCE)[1]
+        self.output, said = test.communicate(timeout=PATIENCE)
         return test.returncode, said
 
     def test_by_ctrl_c(self) -> None:
         status, said = self.broken_off(signal.SIGINT)
         self.assertEqual((status, said), (130, "test: interrupted: no server is left\n"))
+        self.assertRegex(self.output, r"(?m)^read +\d")
+        self.assertRegex(self.output, r"(?m)^folder: .*runs/")
+        self.assertEqual(self.output.splitlines()[-1], "no verdict")
+        self.assertEqual(self.verdict_file(), "no verdict: the test was broken off")
         self.nothing_is_left()
 
     def test_by_a_kill(self) -> None:

@@ -207,7 +207,13 @@ class Works(Monitored):
         with mock.patch("jepmon.testing.workloads.Queues.SETTLING", 0.5):
             outcome = self.ran(WrongQueue, "unordered-queue")
         enqueued = outcome.counts["enqueue"]["ok"]
-        self.assertEqual((outcome.verdict, outcome.status, outcome.lost), ("legal", 1, enqueued // 100))
+        self.assertEqual((outcome.status, outcome.lost), (1, enqueued // 100))
+        said = f"lost {outcome.lost} messages: acknowledged, and never dequeued; this was counted, and is not proved"
+        self.assertEqual((outcome.verdict, (outcome.folder / "verdict.txt").read_text()), (said, said + "\n"))
+        listed = (outcome.folder / "lost.txt").read_text().splitlines()
+        self.assertEqual(len(listed), 1 + outcome.lost)
+        self.assertRegex(listed[1], r"^queue [0-9]+: [0-9]+ was acknowledged at [0-9.]+ s")
+        self.assertIn("Lost messages", (outcome.folder / "run.html").read_text())
 
     def test_of_a_queue_that_was_not_drained_nothing_is_said_to_be_lost(self) -> None:
         outcome = self.ran(TwiceTaken, "unordered-queue", 30.0)

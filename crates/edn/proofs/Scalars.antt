@@ -1,14 +1,15 @@
 -- Atoms and strings by their order, and a set of them
-use Rattle.std.proofs.Common.{◌≡◌, ◌⊎◌, inl, inr, Bool, true, false, cond, not, refl, sym, ap, ◌∙◌, subst, rules}
+use Rattle.std.proofs.Common.{◌≡◌, ◌⊎◌, inl, inr, Bool, true, false, cond, not, refl, sym, ap, ◌∙◌, subst}
 use Rattle.std.specs.Ordering.{is_eq}
 use Rattle.std.specs.BTreeMap.{is_at}
 use Rattle.std.specs.BTreeSet.{BTreeSet, IsEmpty, contains}
+use Rattle.std.proofs.lemmas.Bool.Decides.{Decides-int_eq}
 use Rattle.std.proofs.lemmas.Map.Text.{is_eq-slice_cmp}
 use Rattle.std.proofs.lemmas.Slice.Eq.{bytes_eq-Decides}
 use Rattle.edn.specs.declared.distinct.Scalar.{Scalar}
 use Rattle.edn.specs.declared.distinct.Scalar.TheVariants.{Nil, Bool as B, Int, Str, Keyword}
 use Rattle.edn.specs.contracts.distinct.ScalarOrd.TheImpl.{cmp-value}
-use Rattle.edn.specs.Value.{Value, Values, none, more, joined, text, keyword, Same, IsNotAmong}
+use Rattle.edn.specs.Value.{Value, Values, none, more, joined, int, text, keyword, Same, IsNotAmong}
 use Rattle.edn.specs.Scalar.{scalar_value, IsCollection}
 use Rattle.edn.proofs.Repeats.{Among, not_among, among_not, among_push, among_pushed}
 
@@ -18,7 +19,7 @@ equal (B true) (B true) e = refl
 equal (B false) (B false) e = refl
 equal (B true) (B false) e = absurd (cc e)
 equal (B false) (B true) e = absurd (cc e)
-equal (Int x) (Int y) e = search rules
+equal (Int x) (Int y) e = ap int ((Decides-int_eq x y).0 e)
 equal (Str x) (Str y) e = ap text ((bytes_eq-Decides x.now y.now).0 (sym (is_eq-slice_cmp x.now y.now) ∙ e))
 equal (Keyword x) (Keyword y) e = ap keyword ((bytes_eq-Decides x.now y.now).0 (sym (is_eq-slice_cmp x.now y.now) ∙ e))
 equal _ _ e = absurd (cc e)
@@ -30,7 +31,7 @@ ties (B true) (B true) e = refl
 ties (B false) (B false) e = refl
 ties (B true) (B false) e = absurd cc
 ties (B false) (B true) e = absurd cc
-ties (Int x) (Int y) e = let same : x ≡ y = cc in search rules
+ties (Int x) (Int y) e = let same : x ≡ y = cc in (Decides-int_eq x y).1 same
 ties (Str x) (Str y) e = let same : x.now ≡ y.now = cc in is_eq-slice_cmp x.now y.now ∙ (bytes_eq-Decides x.now y.now).1 same
 ties (Keyword x) (Keyword y) e = let same : x.now ≡ y.now = cc in is_eq-slice_cmp x.now y.now ∙ (bytes_eq-Decides x.now y.now).1 same
 ties _ _ e = absurd cc

@@ -1,7 +1,8 @@
 //! Events as maps of a text.
-ghost use Rattle.std.specs.Prelude.{◌≡◌, ◌^◌, IfOk, OnOk, map};
+ghost use Rattle.std.specs.Prelude.{◌≡◌, ◌^◌, IfOk, OnOk, List, [], codes, map};
 ghost use Rattle.edn.specs.Value.{int, keyword, vector, more, none};
 ghost use Rattle.edn.specs.View.{value_of};
+ghost use Rattle.edn.specs.declared.value.Edn.{Edn};
 ghost use Rattle.events.specs.Spelling.{text_of_kind, SpellsProcess, SpellsPart, SpellsKeyed, number_in, numbers_in, groups_in, fault_by, Spells};
 ghost use Rattle.events.specs.Tables.{IsInTables};
 ghost use Rattle.events.specs.EventMap.{number, numbers, process_value, part_value, kind_of_fault, fault_value, name_of_body, body_value, event_value, map_of, with_index, IsToldBy, IsPairBehind};
@@ -179,6 +180,27 @@ fn add(pairs: &mut Vec<(Edn, Edn)>, name: &str, value: Edn) -> Result<(), AllocE
     Ok(())
 }
 
+// The same, where the value is the keyword of a name too.
+fn add_name(pairs: &mut Vec<(Edn, Edn)>, key: &str, name: &str) -> Result<(), AllocError>
+    ensures { OnOk result
+        (IsPairBehind pairs.old.items key.now (keyword name.now) pairs.new.items) }
+{
+    let value = keyword_of(*pairs.allocator(), name)?;
+    add(pairs, key, value)
+}
+
+// The first two pairs of the map of an event.
+fn first_pairs(alloc: Global, index: u32, kind: EventKind) -> Result<Vec<(Edn, Edn)>, AllocError>
+    ensures { IfOk result (λ pairs. (one : List (Edn × Edn))
+        × IsPairBehind [] (codes "index") (number index) one
+        × IsPairBehind one (codes "type") (keyword (text_of_kind kind)) pairs.items) }
+{
+    let mut pairs = Vec::new(alloc);
+    add(&mut pairs, "index", number_element(index))?;
+    add_name(&mut pairs, "type", text_of_kind(kind))?;
+    Ok(pairs)
+}
+
 // The map of these values, in the order of its keys.
 fn map_of_values(
     alloc: Global,
@@ -191,13 +213,9 @@ fn map_of_values(
     ensures { IfOk result (λ element. value_of element
         ≡ event_value index kind (value_of process) name.now (value_of value)) }
 {
-    let kind = keyword_of(alloc, text_of_kind(kind))?;
-    let name = keyword_of(alloc, name)?;
-    let mut pairs = Vec::new(alloc);
-    add(&mut pairs, "index", number_element(index))?;
-    add(&mut pairs, "type", kind)?;
+    let mut pairs = first_pairs(alloc, index, kind)?;
     add(&mut pairs, "process", process)?;
-    add(&mut pairs, "f", name)?;
+    add_name(&mut pairs, "f", name)?;
     add(&mut pairs, "value", value)?;
     Ok(Edn::Map(pairs))
 }

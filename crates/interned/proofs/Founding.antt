@@ -1,12 +1,12 @@
 -- what was found, by its number
-use Rattle.std.proofs.Common.{◌≡◌, ◌≢◌, ◌+◌, ℕ, ⊎_elim, Bool, true, false, cond, Some, None, List, [], ◌∷◌, ◌++◌, length, slice_get, refl, sym, ap, ◌∙◌, rules}
+use Rattle.std.proofs.Common.{◌≡◌, ◌≢◌, ◌+◌, ℕ, ⊎_elim, Bool, true, false, cond, Some, None, List, [], ◌∷◌, ◌++◌, length, slice_get, refl, sym, ap, ◌∙◌}
 use Rattle.std.specs.BTreeMap.{BTreeMap, get}
 use Rattle.std.specs.Ordering.{is_eq}
 use Rattle.std.specs.Cmp.Lexicographic.{pointwise_decides}
 use Rattle.std.proofs.lemmas.Bool.Decides.{Decides-int_eq}
 use Rattle.values.specs.Comparisons.{ints_eq-exact, ints_tie}
 use Rattle.models.specs.declared.finding.Found.{Found}
-use Rattle.models.specs.declared.finding.Found.TheVariants.{Elements as Set}
+use Rattle.models.specs.declared.finding.Found.TheVariants.{Reg as Register, Item as Front, Elements as Set}
 use Rattle.interned.specs.declared.found_key.FoundKey.{FoundKey}
 use Rattle.interned.specs.declared.found_key.FoundKey.TheVariants.{Unit, Reg, Item, Elements}
 use Rattle.interned.specs.contracts.found_key.FoundKeyOrd.TheImpl.{cmp-value}
@@ -20,8 +20,8 @@ equal Unit Unit e = refl
 equal (Reg None) (Reg None) e = refl
 equal (Reg None) (Reg (Some y)) e = absurd (cc e)
 equal (Reg (Some x)) (Reg None) e = absurd (cc e)
-equal (Reg (Some x)) (Reg (Some y)) e = search rules
-equal (Item x) (Item y) e = search rules
+equal (Reg (Some x)) (Reg (Some y)) e = ap (λ n. Register (Some n)) ((Decides-int_eq x y).0 e)
+equal (Item x) (Item y) e = ap Front ((Decides-int_eq x y).0 e)
 equal (Elements x) (Elements y) e = ap Set (ints_eq-exact x y (ints_tie x y ∙ e))
 equal _ _ e = absurd (cc e)
 
@@ -31,8 +31,8 @@ ties Unit Unit e = refl
 ties (Reg None) (Reg None) e = refl
 ties (Reg None) (Reg (Some y)) e = absurd cc
 ties (Reg (Some x)) (Reg None) e = absurd cc
-ties (Reg (Some x)) (Reg (Some y)) e = let same : x ≡ y = cc in search rules
-ties (Item x) (Item y) e = let same : x ≡ y = cc in search rules
+ties (Reg (Some x)) (Reg (Some y)) e = let same : x ≡ y = cc in (Decides-int_eq x y).1 same
+ties (Item x) (Item y) e = let same : x ≡ y = cc in (Decides-int_eq x y).1 same
 ties (Elements x) (Elements y) e = let same : x ≡ y = cc in sym (ints_tie x y) ∙ (pointwise_decides Decides-int_eq x y).1 same
 ties _ _ e = absurd cc
 

@@ -95,6 +95,27 @@ fn make_room<T>(list: &mut Vec<T>) -> Result<(), AllocError>
     Ok(())
 }
 
+// Makes room for one more state with its hash, and its place in the index.
+#[inline(always)]
+fn make_rooms<S>(
+    items: &mut Vec<S>,
+    hashes: &mut Vec<u64>,
+    index: &mut Index,
+) -> Result<(), AllocError>
+    ensures items { items.new.items ≡ items.old.items }
+    ensures hashes { hashes.new.items ≡ hashes.old.items }
+    ensures last { index.new.last.items ≡ index.old.last.items }
+    ensures before { index.new.before.items ≡ index.old.before.items }
+    ensures room { OnOk result (length items.new.items < vec_capacity items.new) }
+    ensures hash_room { OnOk result (length hashes.new.items < vec_capacity hashes.new) }
+    ensures place_room { OnOk result
+        (length index.new.before.items < vec_capacity index.new.before) }
+{
+    make_room(items)?;
+    make_room(hashes)?;
+    make_room(&mut index.before)
+}
+
 // The number of the state, which has this hash. All hashes are indexed.
 #[inline(always)]
 fn numbered<M: SeqObject>(
@@ -118,9 +139,7 @@ fn numbered<M: SeqObject>(
     if let Some(at) = place_of::<M>(items, hashes, index, its, hash, &state) {
         return Ok(at);
     }
-    make_room(items)?;
-    make_room(hashes)?;
-    make_room(&mut index.before)?;
+    make_rooms(items, hashes, index)?;
     let at = items.len();
     items.push_reserved(state);
     put_behind(hashes, index, its, hash);
@@ -154,6 +173,17 @@ pub fn number_of<M: SeqObject>(
     )
 }
 
+// A copy of each state.
+fn copies<M: SeqObject>(alloc: Global, items: &[M::State]) -> Result<Vec<M::State>, AllocError>
+    ensures { IfOk result (λ copies. copies.items ≡ items.now) }
+{
+    let mut copies = Vec::with_capacity(alloc, items.len())?;
+    for state in items {
+        copies.push(M::copy(alloc, state)?)?;
+    }
+    Ok(copies)
+}
+
 /// The same states, with the same numbers. Takes the time of a copy of each state. They are indexed when one is looked up.
 pub fn copied<M: SeqObject>(
     alloc: Global,
@@ -161,10 +191,7 @@ pub fn copied<M: SeqObject>(
 ) -> Result<States<M::State>, AllocError>
     ensures { IfOk result (λ copy. copy ≡ states.now) }
 {
-    let mut items = Vec::with_capacity(alloc, states.items.len())?;
-    for state in &states.items {
-        items.push(M::copy(alloc, state)?)?;
-    }
+    let items = copies::<M>(alloc, &states.items)?;
     let hashes = Vec::from_slice(alloc, &states.hashes)?;
     Ok(States {
         items,

@@ -87,6 +87,19 @@ module _ {S : Type 0} (may : S → List ℕ → List ℕ → S → Type 0) where
       subst (λ r. GoesOn may (ended line) (between state r written) there) same
       (goes_whole line plain (between state inner written) there empty empty text answered (Appends-more written inner.replies replies text grown))
 
+  -- what is held of a session is answered, and none of it is held
+  pub answers_held_line : {M : Type 0} (state : M → S) (inner old : Reading M) → inner ≡ old → (line : List ℕ) → line ≡ inner.held → (machine : M) (text replies held : List ℕ)
+      → IsAnsweredFor may (state inner.machine) line text (state machine) → replies ≡ inner.replies ++ text → held ≡ []
+      → (written : Option (List ℕ)) → LineIsAnswered may (between state old written) (between state (record { machine = machine; held = held; replies = replies }) written)
+  answers_held_line {M} state inner old same line is machine text replies held answered grown none written =
+      subst (λ (r : Reading M). LineIsAnswered may (between state r written) (between state (record { machine = machine; held = held; replies = replies }) written)) same
+      (record {
+        text = text;
+        answered = subst (λ l. IsAnsweredFor may (state inner.machine) l text (state machine)) is answered;
+        grown = Appends-more written inner.replies replies text grown;
+        empty = none;
+      })
+
   -- bytes of a line
   pub goes_bytes : (bytes : List ℕ) → IsLine bytes → (here : Between S) → GoesOn may bytes here (record here { held = here.held ++ take (line_limit + 1 - length here.held) bytes })
   goes_bytes bytes plain here old before seen h = record {

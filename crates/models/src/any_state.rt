@@ -5,7 +5,6 @@ ghost use Rattle.models.specs.Objects.{object_of};
 ghost use Rattle.models.specs.AnyState.{any, kind_of_state, outcomes_of, AreOwnOutcomes};
 
 use crate::cas_register::CasRegister;
-use crate::each_kind;
 use crate::fifo_queue::FifoQueue;
 use crate::finding::Found;
 use crate::model_kind::ModelKind;
@@ -15,6 +14,7 @@ use crate::operation::Op;
 use crate::register::Register;
 use crate::set::Set;
 use crate::unordered_queue::UnorderedQueue;
+use crate::{each_kind, of_kind};
 use std::alloc::{AllocError, Global};
 use values::{Items, Multiset, Spans};
 
@@ -69,16 +69,10 @@ macro_rules! same_state {
     };
 }
 
-macro_rules! outcomes_in {
+macro_rules! outcomes_of_state {
     ($state:expr, $alloc:expr, $op:expr; $($K:ident $name:literal),*) => {
         match $state {
-            $(AnyState::$K(state) => {
-                let outcomes = $K::apply($alloc, state, $op)?;
-                outcomes
-                    .into_iter()
-                    .map(|outcome| (AnyState::$K(outcome.0), outcome.1))
-                    .collect($alloc)
-            })*
+            $(AnyState::$K(state) => of_kind::outcomes_in::<$K>($alloc, state, $op),)*
         }
     };
 }
@@ -135,6 +129,6 @@ impl AnyState {
     fn outcomes(&self, alloc: Global, op: &Op) -> Result<Vec<(AnyState, Found)>, AllocError>
         ensures { IfOk result (λ outcomes. AreOwnOutcomes self.now op.now outcomes.items) }
     {
-        each_kind!(outcomes_in; self, alloc, op)
+        each_kind!(outcomes_of_state; self, alloc, op)
     }
 }

@@ -15,6 +15,7 @@ pub mod laws;
 pub mod model_kind;
 pub mod mutex;
 pub mod object;
+mod of_kind;
 pub mod operation;
 mod outcomes;
 pub mod register;

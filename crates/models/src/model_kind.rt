@@ -24,8 +24,8 @@ pub enum ModelKind {
 /// each enum that has one for each kind, and its [`SeqObject`](crate::SeqObject).
 ///
 /// Each function that tells the kinds apart, here and in the crates above, is such a callback. So a further kind is a line
-/// here, an implementation of `SeqObject`, a variant in each of these enums, and its table and name among the definitions
-/// (with its case where a proof goes by kinds).
+/// here, implementations of `SeqObject` and `OfKind`, a variant in each of these enums, and its table and name among the
+/// definitions (with its case where a proof goes by kinds).
 #[macro_export]
 macro_rules! each_kind {
     ($callback:ident; $($args:tt)*) => {

@@ -121,3 +121,17 @@ pub one_left_out : {T : Type 0} (s : List T) (at : ℕ) → at < length s → ta
 one_left_out [] at within = absurd (omega arith)
 one_left_out (x ∷ s) zero within = refl
 one_left_out (x ∷ s) (suc at) within = ap (λ l. x ∷ l) (one_left_out s at (omega arith))
+
+-- three of them, the one in the middle first put to the right one, or to the left one
+pub behind_two : {T : Type 0} (first second third first_again both : List T) → first_again ≡ first → both ≡ second ++ third → first_again ++ both ≡ (first ++ second) ++ third
+behind_two first second third first_again both one two = ap (λ l. l ++ both) one ∙ ap (λ l. first ++ l) two ∙ sym (append_assoc first second third)
+
+pub before_two : {T : Type 0} (first second third both third_again : List T) → both ≡ first ++ second → third_again ≡ third → both ++ third_again ≡ (first ++ second) ++ third
+before_two first second third both third_again one two = ap (λ l. l ++ third_again) one ∙ ap (λ l. (first ++ second) ++ l) two
+
+-- four of them by twos, of which the two in the middle are one
+pub four_as_three : {T : Type 0} (left first first_again second second_again right middle : List T) → first_again ≡ first → second_again ≡ second → middle ≡ first ++ second
+    → (left ++ first_again) ++ (second_again ++ right) ≡ (left ++ middle) ++ right
+four_as_three left first first_again second second_again right middle one two both =
+    ap (λ l. (left ++ l) ++ (second_again ++ right)) one ∙ ap (λ l. (left ++ first) ++ (l ++ right)) two ∙ sym (append_assoc (left ++ first) second right)
+    ∙ ap (λ l. l ++ right) (append_assoc left first second ∙ ap (λ l. left ++ l) (sym both))

@@ -1,7 +1,7 @@
 -- A store may go to another thread, and threads may share one.
 use denote.Param.Send.{IsSend, IsSync, sendable}
 use Rattle.std.proofs.Crossing.{crosses}
-use Rattle.indexmap.proofs.map.IndexMap.TheSendSync as map
+use Rattle.std.proofs.MapsCrossing as maps
 use Rattle.models.proofs.Crossing.{any_send, any_sync}
 use Rattle.test_store.specs.contracts.held.Held as held
 use Rattle.test_store.specs.contracts.held.Row as row
@@ -22,10 +22,10 @@ row_sync : IsSync (row.the_field).row
 row_sync = search (held_sync, sendable, crosses) depth 60 fits 20000
 
 rows_send : IsSend (rows.the_field).row
-rows_send = search (row_send, map.the_send, sendable, crosses) depth 60 fits 20000
+rows_send = search (row_send, maps.crosses, sendable, crosses) depth 60 fits 20000
 
 rows_sync : IsSync (rows.the_field).row
-rows_sync = search (row_sync, map.the_sync, sendable, crosses) depth 60 fits 20000
+rows_sync = search (row_sync, maps.crosses, sendable, crosses) depth 60 fits 20000
 
 change_send : IsSend (change.the_field).row
 change_send = search (row_send, rows_send, sendable, crosses) depth 60 fits 20000

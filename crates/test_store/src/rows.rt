@@ -1,29 +1,39 @@
 //! The rows of the keys that were ever changed.
-ghost use Rattle.std.specs.Prelude.{◌≡◌, ◌<◌, [], nat_eq, map, IfOk, OnOk};
+ghost use Rattle.std.specs.Prelude.{◌≡◌, ◌<◌, ◌∷◌, ◌++◌, [], None, nat_eq, map, IfOk, OnOk};
 ghost use Rattle.std.specs.Option.{option_copied};
 ghost use Rattle.std.specs.Map.{lookup};
 ghost use Rattle.indexmap.specs.IndexMap.{insert_entry};
 ghost use Rattle.test_store.specs.Copies.{healed, healed_entry};
+ghost use Rattle.test_store.specs.Places.{place_of};
 
 use crate::held::{Row, newest, taken_over};
-use indexmap::IndexMap;
 use models::Key;
 use std::alloc::{AllocError, Global};
+use std::collections::HashMap;
 use std::marker::Model;
 
 /// The rows of the keys that were ever changed, in the order of their first changes. A key is found in constant time.
 #[derive(Drop)]
 pub(crate) struct Rows {
-    map: IndexMap<Key, Row>,
+    rows: Vec<(Key, Row)>,
+    /// Where the row of each key stands.
+    places: HashMap<Key, usize>,
 }
 
 impl Model for Rows {
-    ghost use Rattle.indexmap.specs.IndexMap.{spare};
+    ghost use Rattle.std.specs.Prelude.{◌-◌, length, min, vec_capacity};
+    ghost use Rattle.std.specs.HashMap.{spare};
     ghost use Rattle.test_store.specs.Copies.{RowsView};
+    ghost use Rattle.test_store.specs.Places.{ArePlaces};
 
     ghost Value = { RowsView };
 
-    ghost view = { λ a. record { rows = a.map.entries; room = spare a.map } };
+    ghost view = { λ a. record {
+      rows = a.rows.items;
+      room = min (vec_capacity a.rows - length a.rows.items) (spare a.places);
+    } };
+
+    ghost invariant = { λ a. ArePlaces a.places a.rows.items };
 }
 
 impl Rows {
@@ -32,7 +42,8 @@ impl Rows {
         ensures { result.rows ≡ [] }
     {
         Rows {
-            map: IndexMap::new(alloc),
+            rows: Vec::new(alloc),
+            places: HashMap::new(alloc),
         }
     }
 
@@ -40,7 +51,10 @@ impl Rows {
     pub(crate) fn find(&self, key: Key) -> Option<&Row>
         ensures { option_copied result ≡ lookup (nat_eq key) self.now.rows }
     {
-        self.map.get(&key)
+        match self.places.get(&key) {
+            Some(place) => Some(&self.rows[*place].1),
+            None => None,
+        }
     }
 
     /// Makes room for one more row.
@@ -48,7 +62,8 @@ impl Rows {
         ensures same { self.new.rows ≡ self.old.rows }
         ensures room { OnOk result (0 < self.new.room) }
     {
-        self.map.reserve(1)
+        self.rows.reserve(1)?;
+        self.places.reserve(1)
     }
 
     /// Puts the row of a key in the place of the one before.
@@ -56,8 +71,20 @@ impl Rows {
         requires { 0 < self.old.room }
         ensures { self.new.rows ≡ insert_entry nat_eq self.old.rows key row }
     {
-        match self.map.insert(key, row) {
-            Ok(_old) => (),
+        match self.places.get(&key) {
+            Some(place) => self.rows[*place] = (key, row),
+            None => self.put_new(key, row),
+        }
+    }
+
+    // Puts the row of a key that has none.
+    fn put_new(&mut self, key: Key, row: Row)
+        requires room { 0 < self.old.room }
+        requires new { place_of key self.old.rows ≡ None }
+        ensures { self.new.rows ≡ self.old.rows ++ (key, row) ∷ [] }
+    {
+        match self.places.insert(key, self.rows.len()) {
+            Ok(_none) => self.rows.push_reserved((key, row)),
             Err(_full) => unreachable!(),
         }
     }
@@ -74,15 +101,14 @@ impl Rows {
     pub(crate) fn healed(&self, alloc: Global, ups: &[bool]) -> Result<Rows, AllocError>
         ensures { IfOk result (λ other. other.rows ≡ map (healed_entry ups.now) self.now.rows) }
     {
-        let mut map = IndexMap::new(alloc);
-        for place in 0..self.map.len() {
-            let Some((key, row)) = self.map.get_index(place) else {
-                unreachable!()
-            };
+        let mut rows = Vec::with_capacity(alloc, self.rows.len())?;
+        for place in 0..self.rows.len() {
+            let (key, row) = &self.rows[place];
             let next = healed_row(alloc, ups, row)?;
-            map.insert(*key, next)?;
+            rows.push((*key, next))?;
         }
-        Ok(Rows { map })
+        let places = self.places.clone()?;
+        Ok(Rows { rows, places })
     }
 }
 

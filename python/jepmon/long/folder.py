@@ -6,6 +6,7 @@
                              judge-again  a script that judges each part again, and joins the verdicts
                              verdict.txt  the verdict of all, and what was not judged
                              counts.txt   how many operations ended how
+                             run.html     rates, latencies and faults over time, and all keys
     runs/latest                           a link to the newest
 """
 from __future__ import annotations
@@ -20,6 +21,7 @@ from typing import TYPE_CHECKING, Deque, List, Optional, Union
 
 from ..conclusion import count_lines
 from ..program import Options
+from ..rates.run import leave
 from ..run_folder import AGAIN, COUNTS, VERDICT, RunFolder, new_folder, write_whole
 from ..telling import Telling
 from ..verdicts import NotLegal
@@ -50,6 +52,12 @@ for part in part-*; do
     11 | 22 | 33) [ "$said of $part" != "$told" ] || verdict=$told ;;
   esac
 done
+# what no history shows: messages that are lost, a server that has crashed, and that there is no verdict
+case $status/$told in
+  1/*) ;;
+  */lost* | */crashed*) status=1 verdict=$told ;;
+  */"no verdict"*) status=3 verdict=$told ;;
+esac
 grep -e removed -e 'not written' parts.txt >&2
 echo "$verdict"
 exit "$status"
@@ -60,10 +68,10 @@ class LongFolder:
     """It is made with the first part. An OSError says that it can't be; later on what can't be written is lost, and that is said once, on
     standard error: the test goes on without."""
 
-    def __init__(self, out: Union[str, "os.PathLike[str]"], begun: datetime.datetime, keep: Optional[int]) -> None:
+    def __init__(self, out: Union[str, "os.PathLike[str]"], begun: datetime.datetime, keep: Optional[int], page: bool = True) -> None:
         self.path: Optional[pathlib.Path] = None
         self.lost: Optional[str] = None  # what could not be written first, and why
-        self._out, self._begun, self._keep = out, begun, keep
+        self._out, self._begun, self._keep, self._page = out, begun, keep, page
         self._shown = pathlib.Path()  # as it is shown
         self._open: List[RunFolder] = []  # of parts
         self._legal: Deque[pathlib.Path] = collections.deque()  # parts that are kept so far
@@ -94,7 +102,7 @@ class LongFolder:
     def _made(self, path: pathlib.Path, options: Options, program: str) -> RunFolder:
         path.mkdir()
         try:
-            self._open.append(RunFolder(path, self._begun, options, program))
+            self._open.append(RunFolder(path, self._begun, options, program, is_part=True))
         except OSError:
             shutil.rmtree(path, ignore_errors=True)
             raise
@@ -134,6 +142,8 @@ class LongFolder:
             lines.append(f"the test was ended by {ended_by!r}")
         self._put(COUNTS, "\n".join(lines + ([self.lost] if self.lost is not None else [])) + "\n")
         self.put_verdict(verdict)
+        if self._page and self.path is not None:
+            leave(self.path, self.lost is not None)
 
     def _put(self, name: str, text: str) -> None:
         if self.path is not None:

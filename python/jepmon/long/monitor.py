@@ -64,6 +64,7 @@ class LongMonitor:
     forget   is called with the name of each object that is judged no more, so that the store may delete it
     events   after so many of a part its objects are replaced: the memory of the test goes with it
     keys     objects of a part
+    page     whether the run's folder gets a page of it at the end
     names    what the names of objects begin with: a number follows. Unless given it is what no other run has, so that no name is met
              twice in a store
     """
@@ -84,6 +85,7 @@ class LongMonitor:
         keys: int = 1 << 16,
         names: Optional[str] = None,
         unknown: str = "raise",
+        page: bool = True,
         initial: Optional[int] = None,
         absent: object = NONE,
     ) -> None:
@@ -93,7 +95,7 @@ class LongMonitor:
         begun, clock = datetime.datetime.now().astimezone(), time.monotonic_ns()
         names = f"{uuid.uuid4().hex[:12]}-" if names is None else names
         settings = Settings(program, model, budget, timeout, endings(expected, failed), begun, clock, names, {}, missing(initial, absent))
-        folder = LongFolder(out, begun, keep) if out is not None else None
+        folder = LongFolder(out, begun, keep, page) if out is not None else None
         self._model, self._folder, self._unknown = model, folder, unknown
         self._parts = Parts(settings, limits(events, keys, concurrency), folder, forget)
 

@@ -8,23 +8,27 @@ import random
 import tempfile
 import threading
 from types import TracebackType
-from typing import List, Optional, Type
+from typing import Dict, List, Optional, Type
 
+from . import clocks
+from .crashes import LogWatch
+from .disks import Disk
+from .family import adopt
 from .guard import Guard
-from .links import CLIENTS, DIRECT, NAMESPACES, Links, Proxied, Switched
+from .links import DIRECT, NAMESPACES, Links, Proxied, Switched
 from .node import Node, Ports
 from .server import Server
 
-SLOW = 0.05  # seconds by which a slow link is slower, each way
-
 
 class Cluster:
-    """It starts with its block. `network` says by what links others reach the nodes (links.py)."""
+    """It starts with its block. `network` says by what links others reach the nodes (links.py), `has_disks` whether each node's folder is
+    a disk of its own, which can lose power (disks.py), and `has_clocks` whether each has a wall clock of its own (clocks.py)."""
 
-    def __init__(self, kind: Type[Server], model: str, plant: str, size: int, logs: pathlib.Path, network: str,
-                 patience: float = 0.0) -> None:
+    def __init__(self, kind: Type[Server], model: str, plant: str, size: int, logs: pathlib.Path, network: str, patience: float = 0.0,
+                 has_disks: bool = False, has_clocks: bool = False, durability: str = "") -> None:
         self._ended = contextlib.ExitStack()
         self.stopped = threading.Event()  # nobody waits any more for a node to be ready
+        adopt()  # the orphans of servers that have ended
         try:
             folder = pathlib.Path(tempfile.mkdtemp(prefix="jepmon-test-"))
             folder.chmod(0o755)  # a node's user reaches its own folder in it
@@ -36,12 +40,20 @@ class Cluster:
                 name = f"n{number + 1}"
                 (folder / name).mkdir()
                 self.nodes.append(Node(number, folder / name, logs / f"{name}.log", {port: ports.free() for port in kind.ports}, guard))
+            self.disks: Dict[str, Disk] = {}  # by the names of nodes
+            for node in self.nodes if has_disks else []:
+                self.disks[node.name] = Disk(node.folder, folder / f"{node.name}.disk")
+                self._ended.callback(self.disks[node.name].end)
+            library = clocks.compiled(folder) if has_clocks else None
+            self.clocks = {node.name: clocks.Clock(node, library) for node in self.nodes} if library is not None else {}
             self.links: Optional[Links] = None
             if network != DIRECT:
                 self.links = Switched(self.nodes) if network == NAMESPACES else Proxied(self.nodes, ports)
                 self._ended.callback(self.links.end)
             self.server = kind(self.nodes, model, plant)
             self.server.patience = patience or self.server.patience
+            self._logs = LogWatch(self.nodes, self.server.crashes)
+            self.server.durability = durability or self.server.durability
         except BaseException:
             self._ended.close()
             raise
@@ -51,13 +63,16 @@ class Cluster:
             for node in self.nodes:
                 with node.inside():
                     self.server.prepare(node)
-                node.words = self.server.command(node)
                 self._start(node)
                 if self.server.in_turn:
                     self.wait_until_ready(node)
             self.wait_until_all_ready()
+            for node in self.nodes if self.clocks else []:
+                self.clocks[node.name].test_reached(node)
             with self.clients():
                 self.server.begun()
+            for disk in self.disks.values():
+                disk.sync()
         except BaseException:
             self.end()
             raise
@@ -79,6 +94,8 @@ class Cluster:
         return contextlib.nullcontext() if self.links is None else self.links.clients()
 
     def _start(self, node: Node) -> None:
+        """Its words are made anew at each start: a server may say others, by node.starts."""
+        node.words = self.server.command(node)
         node.start()
         if self.links is not None:
             self.links.up(node)
@@ -86,6 +103,21 @@ class Cluster:
     def wait_until_ready(self, node: Node) -> None:
         with node.inside():
             node.wait_until(lambda: self.server.ready(node), self.server.patience, "was not ready", self.stopped)
+
+    def is_ready(self, node: Node) -> bool:
+        with node.inside():
+            try:
+                self.server.ready(node)
+            except Exception:  # whatever it is, it is not ready
+                return False
+        return True
+
+    def leader(self) -> Optional[Node]:
+        """The node that the server says leads now; None where it names none."""
+        try:
+            return self.server.leader()
+        except Exception:  # nodes that are struck do not answer
+            return None
 
     # --- What strikes do ---
 
@@ -98,36 +130,11 @@ class Cluster:
         """It is ready some time later: while the others are cut off it may have to wait for them."""
         self._start(node)
 
-    def pause(self, node: Node) -> None:
-        node.pause()
-
-    def go_on(self, node: Node) -> None:
-        node.go_on()
-
-    def cut(self, node: Node) -> None:
-        """Clients do not reach it any more; other nodes do."""
-        self._links().cut(node.name, [CLIENTS])
-
-    def part(self, node: Node) -> None:
-        """The other nodes do not reach it any more; clients do."""
-        self._links().cut(node.name, self._others(node))
-
-    def slow(self, node: Node) -> None:
-        self._links().slow(node.name, [CLIENTS, *self._others(node)], SLOW)
-
-    def mend(self, node: Node) -> None:
-        self._links().open(node.name, [CLIENTS, *self._others(node)])
-
-    def _links(self) -> Links:
-        assert self.links is not None, "a strike on links in a cluster without any"
-        return self.links
-
-    def _others(self, node: Node) -> List[str]:
-        return [other.name for other in self.nodes if other is not node]
-
     def test_alive(self) -> None:
+        """Raises a Died where a node has ended by itself, or its log says that it has crashed."""
         for node in self.nodes:
             node.test_alive()
+        self._logs.look()
 
     def wait_until_all_ready(self) -> None:
         """Where nothing strikes any more."""

@@ -10,6 +10,14 @@ class ServerError(Exception):
     """A server is missing, does not start, has died by itself, or does not answer; or the command line asks for what is not there."""
 
 
+class Died(ServerError):
+    """A node has ended without being told to, or its log says that it has crashed. `how` says which."""
+
+    def __init__(self, node: str, how: str, log: pathlib.Path, said: str = "") -> None:
+        super().__init__(f"{node} {how}{said}")
+        self.node, self.how, self.log = node, how, log
+
+
 def where(fault: BaseException, path: Optional[pathlib.Path] = None) -> str:
     """What an exception says, and the line of the user's file, or else of this package, that it is of."""
     frames = traceback.extract_tb(fault.__traceback__)

@@ -1,11 +1,46 @@
-"""A process and all that it has started: servers like PostgreSQL and RabbitMQ are many processes, each in a session of its own."""
+"""A process and all that it has started: servers like PostgreSQL and RabbitMQ are many processes, each in a session of its own.
+
+A process that forks twice leaves its child without a parent. On Linux such an orphan is given to the nearest process above that adopts: so
+a server's first process adopts, and its orphans stay in its family; and the test adopts those of a server that has ended by itself.
+"""
 from __future__ import annotations
 
+import contextlib
+import ctypes
 import os
+import pathlib
 import signal
 from typing import Dict, List
 
 ROUNDS = 8  # in which a family that forks is stopped
+ADOPTS = 36  # PR_SET_CHILD_SUBREAPER
+MARK = "JEPMON_NODE"  # in the environment of each process of a node
+PROCESS = getattr(ctypes.CDLL(None), "prctl", None)  # of Linux; looked up here, not between a fork and an exec
+
+
+def adopt() -> None:
+    """This process adopts orphans below it from now on, also after an exec."""
+    if PROCESS is not None:
+        PROCESS(ADOPTS, 1, 0, 0, 0)
+
+
+def strays(mark: str) -> List[int]:
+    """Those that this process has adopted, with this mark in their environment."""
+    return [pid for pid in family(os.getpid())[1:] if parent_of(pid) == os.getpid() and f"{MARK}={mark}" in environment_of(pid)]
+
+
+def environment_of(pid: int) -> List[str]:
+    try:
+        return pathlib.Path(f"/proc/{pid}/environ").read_text(errors="replace").split("\0")
+    except OSError:
+        return []
+
+
+def kill_strays(mark: str) -> None:
+    for pid in strays(mark):
+        kill_family(pid)
+        with contextlib.suppress(ChildProcessError):
+            os.waitpid(pid, 0)
 
 
 def family(pid: int) -> List[int]:

@@ -12,6 +12,7 @@ import sys
 from typing import List, Set
 
 from .family import kill_family
+from .mounts import unmount_below
 
 
 class Guard:
@@ -64,6 +65,7 @@ def main() -> None:
     for pid in watched:
         kill_family(pid)
     for folder in folders:
+        unmount_below(folder)  # where who serves it was killed
         shutil.rmtree(folder, ignore_errors=True)
 
 

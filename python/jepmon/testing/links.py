@@ -1,12 +1,12 @@
-"""The test's side of the links: which way is cut, and which is slow. A process carries what goes over them: proxy.py on the loopback, or
-switch.py between network namespaces."""
+"""The test's side of the links: what each way does to what goes over it. A process carries it: proxy.py on the loopback, or switch.py
+between network namespaces."""
 from __future__ import annotations
 
 import contextlib
 import json
 import subprocess
 import threading
-from typing import TYPE_CHECKING, List, Sequence
+from typing import TYPE_CHECKING, Dict, Iterable, List, NamedTuple, Sequence, Tuple
 
 from .errors import ServerError
 from .guard import environment, module
@@ -16,7 +16,8 @@ from .proxy import CLIENTS
 if TYPE_CHECKING:
     from .node import Node, Ports
 
-__all__ = ["AUTO", "CLIENTS", "DIRECT", "Links", "NAMESPACES", "NETWORKS", "PROXY", "Proxied", "Switched", "network"]
+__all__ = ["AUTO", "CLIENTS", "CUT", "DIRECT", "Effect", "Links", "NAMESPACES", "NETWORKS", "PROXY", "Pair", "Proxied", "Switched", "both_ways",
+           "network"]
 
 AUTO, NAMESPACES, PROXY, DIRECT = "auto", "namespaces", "proxy", "direct"
 NETWORKS = (AUTO, NAMESPACES, PROXY)  # what --network takes
@@ -33,11 +34,39 @@ def network(asked: str, needs_links: bool) -> str:
     return asked
 
 
+Pair = Tuple[str, str]  # a way: who sends, and who gets it
+
+
+class Effect(NamedTuple):
+    """What happens to what goes over a way. Shares are of packets, and seconds are of each packet."""
+
+    cut: bool = False
+    delay: float = 0.0
+    jitter: float = 0.0  # at most, in addition to the delay
+    loss: float = 0.0
+    reorder: float = 0.0
+    corrupt: float = 0.0
+
+    def and_(self, other: Effect) -> Effect:
+        """What both do to a packet."""
+        loss, reorder, corrupt = (1 - (1 - one) * (1 - two) for one, two in zip(self[3:], other[3:]))
+        return Effect(self.cut or other.cut, self.delay + other.delay, self.jitter + other.jitter, loss, reorder, corrupt)
+
+
+CUT = Effect(cut=True)
+
+
+def both_ways(ones: Iterable[str], others: Sequence[str]) -> List[Pair]:
+    return [pair for one in ones for other in others for pair in ((one, other), (other, one))]
+
+
 class Links:
-    """Lets others reach each node by the links."""
+    """Lets others reach each node by the links. Some effects hold at a time; a way has all that hold for it."""
 
     def __init__(self, name: str, ends: Sequence[object], files: Sequence[int] = ()) -> None:
         self._lock = threading.Lock()
+        self._held: Dict[int, Tuple[List[Pair], Effect]] = {}
+        self._count = 0
         self._process = subprocess.Popen([*module(name), json.dumps(ends)], stdin=subprocess.PIPE, stdout=subprocess.PIPE,
                                          start_new_session=True, env=environment(), pass_fds=files)
 
@@ -51,29 +80,39 @@ class Links:
         """This thread is where clients are."""
         return contextlib.nullcontext()
 
-    def cut(self, one: str, others: List[str]) -> None:
-        self._both(one, others, "cut", "")
+    def hold(self, pairs: List[Pair], effect: Effect) -> int:
+        """The effect holds for these ways until its number is released."""
+        with self._lock:
+            self._count += 1
+            self._held[self._count] = pairs, effect
+            self._set(pairs)
+            return self._count
 
-    def slow(self, one: str, others: List[str], seconds: float) -> None:
-        self._both(one, others, "slow", f" {seconds}")
+    def release(self, number: int) -> None:
+        with self._lock:
+            self._set(self._held.pop(number)[0])
 
-    def open(self, one: str, others: List[str]) -> None:
-        self._both(one, others, "open", "")
-
-    def _both(self, one: str, others: List[str], command: str, rest: str) -> None:
-        for other in others:
-            self.tell(f"{command} {one} {other}{rest}")
-            self.tell(f"{command} {other} {one}{rest}")
+    def _set(self, pairs: List[Pair]) -> None:
+        for pair in pairs:
+            effect = Effect()
+            for held, one in self._held.values():
+                if pair in held:
+                    effect = effect.and_(one)
+            self._tell(f"way {' '.join(pair)} {' '.join(f'{float(value):.6g}' for value in effect)}")
 
     def tell(self, line: str) -> None:
-        assert self._process.stdin is not None and self._process.stdout is not None
         with self._lock:
-            try:
-                self._process.stdin.write(line.encode() + b"\n")
-                self._process.stdin.flush()
-                reply = self._process.stdout.readline().decode().strip()
-            except (OSError, ValueError) as fault:
-                raise ServerError(f"the process of the links has ended: {fault}") from fault
+            self._tell(line)
+
+    def _tell(self, line: str) -> None:
+        """The caller has the lock."""
+        assert self._process.stdin is not None and self._process.stdout is not None
+        try:
+            self._process.stdin.write(line.encode() + b"\n")
+            self._process.stdin.flush()
+            reply = self._process.stdout.readline().decode().strip()
+        except (OSError, ValueError) as fault:
+            raise ServerError(f"the process of the links has ended: {fault}") from fault
         if reply != "ok":
             raise ServerError(f"the process of the links can't do {line!r}: {reply or 'it has ended'}")
 

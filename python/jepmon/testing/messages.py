@@ -2,7 +2,7 @@
 from __future__ import annotations
 
 import threading
-from typing import TYPE_CHECKING, Dict, List, Set
+from typing import TYPE_CHECKING, Dict, List, NamedTuple, Set
 
 if TYPE_CHECKING:
     from ..long import LongObject
@@ -19,6 +19,16 @@ class Account:
     @property
     def lost(self) -> int:
         return max(0, len(self.missing) - self.may_have_come)
+
+
+class Missing(NamedTuple):
+    """What is missing of one queue: where its history is, and which values."""
+
+    name: str
+    part: str
+    key: int
+    values: List[int]
+    may_have_come: int
 
 
 class Messages:
@@ -58,6 +68,13 @@ class Messages:
         """The queues of which something is."""
         with self._lock:
             return [queue for queue, account in self._accounts.items() if account.lost]
+
+    @property
+    def listed(self) -> List[Missing]:
+        """What is missing of them."""
+        with self._lock:
+            return [Missing(queue.name, queue.part.name, queue.key, sorted(account.missing), account.may_have_come)
+                    for queue, account in self._accounts.items() if account.lost]
 
     @property
     def lost(self) -> int:

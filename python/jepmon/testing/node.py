@@ -11,8 +11,8 @@ import threading
 import time
 from typing import TYPE_CHECKING, Callable, Dict, List, Optional, Sequence, Tuple
 
-from .errors import ServerError
-from .family import continue_family, kill_family, stop_family
+from .errors import Died, ServerError
+from .family import MARK, adopt, continue_family, kill_family, kill_strays, stop_family
 
 if TYPE_CHECKING:
     from .guard import Guard
@@ -38,7 +38,10 @@ class Node:
         self.place: Optional[Place] = None  # its network namespace, where it has one
         self.user: Optional[str] = None  # by whom it is run, where it must not be root
         self.environment: Dict[str, str] = {}
+        self.preloaded: Dict[str, str] = {}  # of the environment too: the test's own
         self.words: List[str] = []
+        self.starts = 0  # how often it was started
+        self._mark = str(folder)
         self._guard = guard
         self._process: Optional["subprocess.Popen[bytes]"] = None
         self._lock = threading.RLock()
@@ -74,18 +77,22 @@ class Node:
             try:
                 process = subprocess.Popen(
                     as_user(self.user, self.words), stdin=subprocess.DEVNULL, stdout=log, stderr=subprocess.STDOUT, start_new_session=True,
-                    cwd=self.folder, env={**os.environ, **self.environment})
+                    cwd=self.folder, env={**os.environ, **self.environment, **self.preloaded, MARK: self._mark}, preexec_fn=adopt)
             except OSError as fault:
                 raise ServerError(f"{self.name} can't be started: {self.words[0]}: {fault.strerror}") from fault
             self._process = process
+            self.starts += 1
             self._guard.watch(process.pid)
 
     def kill(self) -> None:
         """By SIGKILL, all its processes at once, so that none can write anything down any more."""
         with self._lock:
             if self._process is not None:
+                had_ended = self._process.poll() is not None
                 kill_family(self._process.pid)
                 self._process.wait()
+                if had_ended:
+                    kill_strays(self._mark)
                 self._guard.leave(self._process.pid)
                 self._process = None
 
@@ -104,7 +111,7 @@ class Node:
         with self._lock:
             status = self._process.poll() if self._process is not None else None
         if status is not None:
-            raise ServerError(f"{self.name} has died by itself, {ended(status)}{self.said()}")
+            raise Died(self.name, f"has died by itself, {ended(status)}", self.log, self.said())
 
     # --- Waiting ---
 
@@ -135,6 +142,11 @@ class Node:
     def accepts(self, name: str = "client") -> None:
         """Raises an OSError where it does not listen at this port."""
         socket.create_connection((self.address, self.ports[name]), 1.0).close()
+
+    def write_log(self, text: str) -> None:
+        """Says in its log what the test did to it."""
+        with open(self.log, "a", encoding="utf-8") as log:
+            log.write(f"--- {text}\n")
 
     def said(self) -> str:
         """Where its log is, and its last lines, for an error."""

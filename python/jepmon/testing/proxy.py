@@ -8,15 +8,16 @@ Its one word is a JSON list of [port, port of the server, name of the node]. It 
     node n1 PID          the process of a node, by which the connections that it makes are known
     down n1              nothing listens for the node: a connection to it is refused, as where there were no link
     up n1                it listens as soon as the node does
-    cut A B              what A sends to B is held; A and B are names of nodes, or `clients`
-    slow A B SECONDS     it comes later by so much
-    open A B             it goes on
+    way A B CUT DELAY JITTER LOSS REORDER CORRUPT
+                         what A sends to B is held, or comes later, as Effect of links.py says; A and B are names of nodes, or `clients`. The
+                         proxy carries bytes and not packets: it takes no share of them
 """
 from __future__ import annotations
 
 import asyncio
 import json
 import os
+import random
 import sys
 from typing import Dict, List, Optional, Set, Tuple
 
@@ -36,11 +37,15 @@ class Way:
     def __init__(self) -> None:
         self.open = asyncio.Event()
         self.open.set()
-        self.delay = 0.0
+        self.delay = self.jitter = 0.0
 
     @property
     def is_struck(self) -> bool:
-        return bool(self.delay) or not self.open.is_set()
+        return bool(self.delay or self.jitter) or not self.open.is_set()
+
+    def set(self, cut: float, delay: float, jitter: float) -> None:
+        self.delay, self.jitter = delay, jitter
+        (self.open.clear if cut else self.open.set)()
 
 
 class Connection:
@@ -69,7 +74,7 @@ class Connection:
             ends = self._source, self._link[2]
             way = self._proxy.way(*(reversed(ends) if is_answer else ends))
             if way.open.is_set():
-                await asyncio.sleep(way.delay)
+                await asyncio.sleep(way.delay + random.random() * way.jitter)
                 if way.open.is_set():
                     return
             await way.open.wait()
@@ -147,9 +152,7 @@ class Proxy:
                 if name == rest[0] and port in self.listening:
                     self.listening.pop(port).close()
         else:
-            way = self.way(rest[0], rest[1])
-            way.delay = float(rest[2]) if command == "slow" else 0.0
-            (way.open.clear if command == "cut" else way.open.set)()
+            self.way(rest[0], rest[1]).set(*map(float, rest[2:5]))
             self.is_struck = any(way.is_struck for way in self.ways.values())
 
 

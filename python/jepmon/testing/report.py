@@ -3,10 +3,11 @@ from __future__ import annotations
 
 from typing import Iterator, List
 
-from ..run_folder import CAUSE, PAGE
+from ..run_folder import CAUSE, PAGE, RUN_PAGE
+from . import losses
 from .links import NAMESPACES, PROXY
 from .run import Given, Outcome
-from .strikes import KINDS, Plan
+from .strikes.plan import Plan
 
 
 NETWORKS = {NAMESPACES: "; each in a network namespace", PROXY: "; links by a proxy on the loopback"}
@@ -15,10 +16,13 @@ NETWORKS = {NAMESPACES: "; each in a network namespace", PROXY: "; links by a pr
 def heading(given: Given, plan: Plan, network: str) -> str:
     name = given.server.__name__
     nodes = "one node" if given.nodes == 1 else f"{given.nodes} nodes"
-    strikes = ", ".join(plan.kinds) or "no faults"
+    strikes = ", ".join(plan.names) or "no faults"
     planted = f"; planted: {given.server.plants[given.plant].text}" if given.plant else ""
+    reasons = list(dict.fromkeys(plan.left_out.values()))
+    left_out = "".join(f"left out: {', '.join(name for name, one in plan.left_out.items() if one == reason)}: {reason}\n"
+                       for reason in reasons)
     return (f"{name}, {given.model}: {nodes}, {given.clients} clients, {given.seconds:g} seconds, seed {given.seed}; {strikes}"
-            f"{NETWORKS.get(network, '')}{planted}\n")
+            f"{NETWORKS.get(network, '')}{planted}\n{left_out}")
 
 
 def text(outcome: Outcome) -> str:
@@ -37,10 +41,11 @@ def _lines(outcome: Outcome) -> Iterator[str]:
                f"were not refused timed out; {outcome.events:,} events" + (f" in {outcome.parts} parts" if outcome.parts > 1 else ""))
     yield from outcome.not_judged
     if outcome.strikes:
-        yield "strikes: " + ", ".join(f"{outcome.strikes[kind]} {kind}" for kind in KINDS if outcome.strikes[kind])
-    has_page = (outcome.part / PAGE).exists()
-    yield f"folder: {outcome.folder}" + (f", its page: {outcome.part / PAGE}" if has_page else "")
-    yield (outcome.verdict or "no verdict") + (f", and {outcome.lost} messages are lost" if outcome.lost else "")
+        yield "strikes: " + ", ".join(f"{count} {name}" for name, count in sorted(outcome.strikes.items()) if count)
+    yield f"folder: {outcome.folder}, its page: {outcome.folder / RUN_PAGE}"
+    if (outcome.part / PAGE).exists():
+        yield f"page of the bad key: {outcome.part / PAGE}"
+    yield outcome.verdict or "no verdict"
 
 
 def cause(outcome: Outcome) -> List[str]:
@@ -48,4 +53,4 @@ def cause(outcome: Outcome) -> List[str]:
     try:
         return (outcome.part / CAUSE).read_text(errors="replace").splitlines()
     except OSError:
-        return []
+        return losses.for_terminal(outcome.folder)

@@ -6,26 +6,35 @@ import pathlib
 import random
 import sys
 import time
-from typing import TYPE_CHECKING, Any, Callable, Counter, Dict, Iterator, List, NamedTuple, Optional, Type
+from typing import TYPE_CHECKING, Any, Callable, Counter, Dict, Iterator, List, NamedTuple, Optional, Tuple, Type
 
 from .. import command
 from ..errors import OutputError
 from ..kinds import BUDGETS
+from ..notes import OVER
 from ..run_folder import VERDICT
 from ..verdicts import NotLegal, Refused
+from . import client_log, losses
+from .after import FINDING, after_a_finding
 from .cluster import Cluster
-from .errors import ServerError, where
-from .generators import Pace, Phases
+from .crashes import finding
+from .errors import Died, ServerError, where
+from .facts import facts_of, leave_facts, leave_pages
+from .course import Course, Stage
+from .generators import Pace
 from .links import network
-from .server import ALL_STRIKES, Client, Server
-from .strikes import Nemesis, Plan
-from .workloads import WORKS, Work
+from .needs import planned
+from .server import Client, Server
+from .strikes.kind import NEEDS_CLOCK, NEEDS_DISK, NEEDS_LINKS
+from .strikes.nemesis import Nemesis
+from .workloads import Work, works_of
 
 if TYPE_CHECKING:
     from ..long import LongMonitor, LongOperation
 
 EVENTS = 1 << 18  # of a part
 PART = " of part-"  # in a verdict
+COUNTED = ("lost", "crashed")  # the first words of verdicts that no history shows
 PAUSE = 0.01  # seconds after an operation that was not ok: not thousands of refused connections a second
 
 
@@ -47,6 +56,11 @@ class Given(NamedTuple):
     patience: float  # 0: the server's own
     out: str
     keep: Optional[int]  # of parts that are legal
+    durability: str = ""  # how the server keeps what it acknowledges; empty: as its first one
+    keep_nodes: str = FINDING  # when the nodes' data are kept
+    stages: Tuple[Stage, ...] = ()  # of --phases
+    reserved: Tuple[float, ...] = ()  # of --reserve
+    times: int = 1  # how many tests, with one seed after the other
 
 
 class Outcome(NamedTuple):
@@ -80,11 +94,13 @@ class Test:
     def __init__(self, given: Given, progress: Callable[[float, LongMonitor, int], None]) -> None:
         self.given, self._progress = given, progress
         self.client = given.server.objects[given.model]
-        self.plan = Plan(given.nemesis, given.nodes, given.server.bears.get(given.model, ALL_STRIKES))
-        self.network = network(given.network, self.plan.needs_links)
+        self.plan = planned(given)
+        self.network = network(given.network, self.plan.needs(NEEDS_LINKS))
         self.begun = self.ended = 0.0
         self.at_work: Dict[str, Counter[str]] = {}
         self.struck: Counter[str] = Counter()
+        self.crash = ""  # the verdict on a server that has crashed
+        self.broken_off: Optional[Outcome] = None  # what there was, where Ctrl-C or a signal ended the test
 
     def run(self) -> Outcome:
         """Ctrl-C goes through, once all is ended. Raises a Refused of jepmon, as where there is no program, and an OSError where
@@ -92,27 +108,33 @@ class Test:
         from ..long import LongMonitor
 
         given = self.given
-        client, kind = self.client, WORKS[given.model]
-        monitor = LongMonitor(model=given.model, budget=BUDGETS[-1], expected=client.unsure, failed=client.certain, out=given.out,
-                              keep=given.keep, events=EVENTS, names="")
+        client, kind = self.client, works_of(given.server)[given.model]
+        monitor = LongMonitor(model=kind.model or given.model, budget=BUDGETS[-1], expected=client.unsure, failed=client.certain, out=given.out,
+                              keep=given.keep, events=EVENTS, names="", page=False)
         assert monitor.folder is not None
+        leave_facts(monitor.folder, facts_of(given, self.network, self.plan.names))
         work = kind(monitor, given.clients, given.keys)
         reason = ""
         try:
-            with monitor:
+            with monitor, client_log.kept_in(monitor.folder):
                 self._run(monitor, work)
         except NotLegal as found:
             reason = "" if not isinstance(found, Refused) else first_line(str(found))
+        except Died as died:
+            self.crash = (finding(died) or "") if self.begun else ""
+            reason = str(died)
         except ServerError as fault:
             reason = str(fault)
         except Exception as fault:
             reason = self._fault(fault)
         except BaseException:  # Ctrl-C
-            verdict = first_line(monitor.close())
-            leave(monitor.folder, verdict if verdict.startswith("illegal") else "", "the test was broken off")
+            self.broken_off = self._outcome(monitor, work, "the test was broken off")
+            leave(monitor.folder, self.broken_off.verdict, self.broken_off.reason)
+            leave_pages(monitor.folder)
             raise
         outcome = self._outcome(monitor, work, reason)
         leave(outcome.folder, outcome.verdict, outcome.reason)
+        leave_pages(outcome.folder)
         return outcome
 
     def _fault(self, fault: Exception) -> str:
@@ -124,18 +146,21 @@ class Test:
     def _run(self, monitor: LongMonitor, work: Work) -> None:
         given = self.given
         assert monitor.folder is not None
-        with Cluster(given.server, given.model, given.plant, given.nodes, monitor.folder, self.network, given.patience) as cluster:
+        with Cluster(given.server, given.model, given.plant, given.nodes, monitor.folder, self.network, given.patience,
+                     self.plan.needs(NEEDS_DISK), self.plan.needs(NEEDS_CLOCK), given.durability) as cluster, \
+                after_a_finding(cluster, monitor.folder, given.keep_nodes, lambda: work.lost):
             self.begun = time.monotonic()
-            nemesis = Nemesis(monitor, cluster, self.plan.strikes(given.seed, given.seconds), given.seconds)
+            course = Course(given.seed, given.rate, given.stages, given.reserved)
+            nemesis = Nemesis(monitor, cluster, self.plan.known, self.plan.lanes(given.seed, given.seconds), given.seconds,
+                              course.calm_from)
             self.struck = nemesis.struck
-            phases = Phases(given.seed)
 
             def thread(number: int) -> None:
                 try:
                     if number == given.clients:
                         nemesis.run()
                     else:
-                        self._client(monitor, work, cluster, phases, number)
+                        self._client(monitor, work, cluster, course, number)
                 except BaseException:
                     cluster.stopped.set()
                     raise
@@ -146,24 +171,24 @@ class Test:
                 self.ended, self.at_work = time.monotonic(), monitor.counts
             self._finish(monitor, work, cluster)
 
-    def _client(self, monitor: LongMonitor, work: Work, cluster: Cluster, phases: Phases, number: int) -> None:
+    def _client(self, monitor: LongMonitor, work: Work, cluster: Cluster, course: Course, number: int) -> None:
         """What one client does until the time is up."""
         given = self.given
         draws = random.Random(f"client {number} {given.seed}")
-        pace = Pace(given.rate / given.clients, draws)
+        pace = Pace(draws)
         end = self.begun + given.seconds
         with cluster.clients(), closing(cluster.server.client(number)) as client:
             while time.monotonic() < end and not cluster.stopped.is_set():
-                phase = phases.at(time.monotonic() - self.begun)
-                pace.wait(phase.speed)
-                if work.step(number, client, draws, phase.changes).outcome != "ok":
+                now = course.next(time.monotonic() - self.begun, number)
+                pace.wait(now.rate / given.clients)
+                if not now.goes_on or work.step(number, client, draws, now.changes).outcome != "ok":
                     time.sleep(PAUSE)
                 if number == 0:
                     self._progress(time.monotonic() - self.begun, monitor, sum(self.struck.values()))
 
     def _finish(self, monitor: LongMonitor, work: Work, cluster: Cluster) -> None:
         """All is mended by now. Each node must answer what is left to ask."""
-        monitor.note("the faults are over")
+        monitor.note(OVER)
         with contextlib.ExitStack() as over:
             cluster.wait_until_all_ready()
             over.enter_context(cluster.clients())
@@ -196,13 +221,16 @@ class Test:
                if counts.get(name, Counter())["ok"] < self.given.least]
         if verdict.startswith("illegal"):
             status = 1
+        elif self.crash:
+            verdict, status, reason = self.crash, 1, ""
         elif reason:
             verdict, status = "", 3
         elif few:
             verdict, status = "", 3
             reason = f"fewer than {self.given.least} operations were ok ({', '.join(few)}), of which nothing is said"
         elif work.lost:
-            status, reason = 1, f"{work.lost} messages were acknowledged, and never came: this was counted, and is not proved"
+            verdict, status = f"lost {work.lost} messages: acknowledged, and never dequeued; this was counted, and is not proved", 1
+            losses.leave(monitor.folder, work.lost, work.missing)
         elif not verdict.startswith("legal"):
             status = 2
         elif not_judged:
@@ -213,9 +241,10 @@ class Test:
 
 def leave(folder: pathlib.Path, verdict: str, reason: str) -> None:
     """The folder must not say legal where the test does not."""
-    if reason:
+    if reason or verdict.split(" ")[0] in COUNTED:
         try:
-            command.write_file(folder / VERDICT, (f"{verdict}; {reason}" if verdict else f"no verdict: {reason}") + "\n")
+            said = f"no verdict: {reason}" if not verdict else f"{verdict}; {reason}" if reason else verdict
+            command.write_file(folder / VERDICT, said + "\n")
         except OutputError:
             (folder / VERDICT).unlink(missing_ok=True)  # on a disk that is full
 

@@ -2,13 +2,15 @@
 from __future__ import annotations
 
 import shutil
-from typing import Callable, List, Mapping, NamedTuple, Sequence, Tuple, Type
+from typing import Callable, List, Mapping, NamedTuple, Optional, Sequence, Tuple, Type
 
 from ..endings import Exceptions
 from .errors import ServerError
 from .node import Node
+from .strikes.kind import Strike
+from .workloads import Work
 
-ALL_STRIKES = ("kill", "pause", "cut", "part", "slow")
+ALL_STRIKES = ("kill", "pause", "cut", "part", "slow", "halves", "oneway", "ring", "bridge", "loss", "reorder", "corrupt")
 
 
 class Client:
@@ -20,7 +22,7 @@ class Client:
     certain  it certainly did not take place, as where the connection was refused, so that nothing was sent: a :fail
     unsure   it may have taken place, or may yet, as after a timeout: an :info
 
-    Any other exception is a fault of the client, and ends the test. It must try nothing again by itself."""
+    Failed (jepmon.testing.Failed) is certain without being named, as where a message has come before. Any other exception is a fault of the client, and ends the test. It must try nothing again by itself."""
 
     certain: Exceptions = (ConnectionRefusedError,)
     unsure: Exceptions = (OSError,)
@@ -63,16 +65,23 @@ class Server:
 
     programs: Mapping[str, str] = {}  # each program that it needs, and the package of Debian that has it
     objects: Mapping[str, Type[Client]] = {}  # the models that it can be, and the client of each; the first is the default
-    bears: Mapping[str, Tuple[str, ...]] = {}  # of a model: the strikes under which it ought to be right, where not all are
+    bears: Mapping[str, Tuple[str, ...]] = {}  # of a model: the strikes under which it ought to be right, where not ALL_STRIKES are
+    survives_power: bool = False  # by its first durability: what it has acknowledged is synced, so that `all` has power and tear too
+    durabilities: Mapping[str, str] = {}  # how it may keep what it acknowledges, each with a text; --durability NAME sets self.durability
+    strikes: Mapping[str, Strike] = {}  # of its own, by name (strikes/kind.py)
+    cannot: Mapping[str, str] = {}  # strikes that it can't be tested under, and why
+    workloads: Mapping[str, Type[Work]] = {}  # of its own, by model: what clients do (workloads.py)
     plants: Mapping[str, Plant] = {}
     ports: Tuple[str, ...] = ("client",)  # the names of the ports of each node
     size: int = 1  # how many nodes there are, where --nodes does not say
     sizes: range = range(1, 8)
     in_turn: bool = False  # whether a node is started once the one before is ready
+    crashes: Sequence[str] = ()  # regular expressions: a line of a node's log that one of them matches is a crash, which is a finding
     patience: float = 120.0  # seconds until a node is ready, and until it answers again at the end
 
     def __init__(self, nodes: Sequence[Node], model: str, plant: str) -> None:
         self.nodes, self.model, self.plant = nodes, model, plant
+        self.durability = next(iter(self.durabilities), "")
 
     @classmethod
     def test_installed(cls) -> None:
@@ -80,6 +89,11 @@ class Server:
         if missing:
             packages = " ".join(sorted({cls.programs[program] for program in missing}))
             raise ServerError(f"{', '.join(missing)} is not installed: on Debian, apt-get install {packages}")
+
+    @classmethod
+    def version(cls) -> Sequence[str]:
+        """The words that print the version of the server, which the page of a run shows; none, where it has none."""
+        return ()
 
     def command(self, node: Node) -> List[str]:
         """The words that start a node, by the whole path of its program: it is run in node.folder, where its data go. It listens at
@@ -99,6 +113,10 @@ class Server:
 
     def begun(self) -> None:
         """All nodes are ready, before the first operation: makes tables, queues and the like."""
+
+    def leader(self) -> Optional[Node]:
+        """The node that leads, where the server has such a one and can say which. It may take a second at most, and raise."""
+        return None
 
     def node_of(self, number: int) -> Node:
         """The node of a client: each has one of its own, as far as they reach."""

@@ -1,19 +1,19 @@
 """The links between network namespaces (places.py): a process that takes each packet from the one and gives it to the other, and can lose
 or delay what goes one way.
 
-What is cut is lost, as on a wire: TCP sends it anew, so that a request that timed out may take place later.
+What is cut is lost, as on a wire: TCP sends it anew, so that a request that timed out may take place later. The same holds for a packet
+that is lost by itself, or has a bit that was flipped: the kernel that gets it finds its checksum wrong.
 
 Its one word is a JSON list of [name, address, file of packets]. It reads commands, a line each, and answers `ok`:
 
-    cut A B              what A sends to B is lost; A and B are of these names
-    slow A B SECONDS     it comes later by so much
-    open A B             it goes on
+    way A B CUT DELAY JITTER LOSS REORDER CORRUPT     what happens to what A sends to B, as Effect of links.py; A and B are of these names
 """
 from __future__ import annotations
 
 import heapq
 import json
 import os
+import random
 import select
 import socket
 import sys
@@ -23,6 +23,7 @@ from typing import Dict, List, Optional, Tuple
 from .places import PACKET
 
 End = Tuple[str, str, int]  # the name of a place, its address, and the file of its packets
+LATER = 0.02  # seconds by which a packet comes after later ones
 BATCH = 64  # packets of one file before it is the turn of the others
 ENDS = slice(12, 20)  # of a packet: the two addresses, from and to
 
@@ -32,8 +33,12 @@ class Way:
 
     def __init__(self, target: int) -> None:
         self.target = target
-        self.is_cut = False
-        self.delay = 0.0
+        self.is_cut = self.is_plain = False
+        self.set([0.0] * 6)
+
+    def set(self, effect: List[float]) -> None:
+        cut, self.delay, self.jitter, self.loss, self.reorder, self.corrupt = effect
+        self.is_cut, self.is_plain = bool(cut), not any(effect)
 
 
 class Switch:
@@ -43,6 +48,7 @@ class Switch:
         self._by_ends = {addresses[one] + addresses[other]: way for (one, other), way in self.ways.items()}
         self._late: List[Tuple[float, int, Way, bytes]] = []  # when, and of which number, so that they keep their order
         self._count = 0
+        self._draws = random.Random(1)
 
     def forward(self, source: int) -> None:
         """Takes what has come from one place. What is for nobody, as what IPv6 asks, is dropped."""
@@ -52,13 +58,26 @@ class Switch:
             except OSError:
                 return
             way = self._by_ends.get(packet[ENDS])
-            if way is None or way.is_cut:
+            if way is None:
                 continue
-            if way.delay:
-                self._count += 1
-                heapq.heappush(self._late, (time.monotonic() + way.delay, self._count, way, packet))
-            else:
+            if way.is_plain:
                 give(way, packet)
+            else:
+                self._strike(way, packet)
+
+    def _strike(self, way: Way, packet: bytes) -> None:
+        if way.is_cut or self._draws.random() < way.loss:
+            return
+        if self._draws.random() < way.corrupt:
+            packet = flipped(packet, self._draws)
+        late = way.delay + self._draws.random() * way.jitter
+        if self._draws.random() < way.reorder:
+            late += LATER
+        if late:
+            self._count += 1
+            heapq.heappush(self._late, (time.monotonic() + late, self._count, way, packet))
+        else:
+            give(way, packet)
 
     def give_late(self) -> Optional[float]:
         """Gives the packets whose time has come. Gives how long the next one has to wait."""
@@ -72,9 +91,13 @@ class Switch:
         return None
 
     def obey(self, words: List[str]) -> None:
-        way = self.ways[words[1], words[2]]
-        way.is_cut = words[0] == "cut"
-        way.delay = float(words[3]) if words[0] == "slow" else 0.0
+        self.ways[words[1], words[2]].set(list(map(float, words[3:])))
+
+
+def flipped(packet: bytes, draws: random.Random) -> bytes:
+    """With one bit that is another, after the addresses."""
+    at = draws.randrange(ENDS.stop, len(packet)) if len(packet) > ENDS.stop else 0
+    return packet[:at] + bytes([packet[at] ^ 1 << draws.randrange(8)]) + packet[at + 1:]
 
 
 def give(way: Way, packet: bytes) -> None:

@@ -9,14 +9,19 @@ import sys
 from typing import Dict, Iterable, Iterator, List, Optional, Type
 
 from .. import command, kinds
+from .after import ALWAYS, FINDING, NEVER
+from .course import reserved_of, stages_of
 from .errors import ServerError, where
 from .links import AUTO, NETWORKS
+from .needs import planned
 from .run import Given
 from .server import Server
-from .strikes import KINDS, Plan
+from .strikes.known import STRIKES
+from .workloads import works_of
 
 NAME = "test"
-SERVERS: Dict[str, str] = {"redis": "Redis", "etcd": "Etcd", "postgresql": "PostgreSQL", "rabbitmq": "RabbitMQ"}
+SERVERS: Dict[str, str] = {"redis": "Redis", "etcd": "Etcd", "postgresql": "PostgreSQL", "rabbitmq": "RabbitMQ",
+                           "zookeeper": "ZooKeeper", "beanstalkd": "Beanstalkd"}
 TEMPLATE = "template"
 MOST_CLIENTS = kinds.THREADS - 1
 DESCRIPTION = """Starts a server, lets clients use it while faults strike, and has it judged live by the proved program.
@@ -57,26 +62,39 @@ def given(words: Optional[List[str]]) -> Optional[Given]:
     nodes = parsed.nodes or (plant.nodes if plant else 0) or server.size
     if nodes not in server.sizes:
         raise ServerError(f"--nodes {nodes}: {parsed.server} takes {server.sizes[0]} to {server.sizes[-1]}")
+    if parsed.durability and parsed.durability not in server.durabilities:
+        raise ServerError(f"--durability {parsed.durability}: {parsed.server} has {_listed(server.durabilities) or 'none'}")
     nemesis = parsed.nemesis or (plant.nemesis if plant else "all")
-    Plan(nemesis, nodes, tuple(KINDS))  # what can't be is said before anything starts
-    return Given(server, model, parsed.plant or "", parsed.time, parsed.clients, parsed.keys, parsed.seed, nemesis, parsed.rate, nodes,
-                 parsed.network, parsed.least, parsed.patience, parsed.out, parsed.keep)
+    stages = stages_of(parsed.phases) if parsed.phases else ()
+    reserved = reserved_of(parsed.reserve, parsed.clients) if parsed.reserve else ()
+    seconds = stages[-1].end if stages else parsed.time
+    given = Given(server, model, parsed.plant or "", seconds, parsed.clients, parsed.keys, parsed.seed, nemesis, parsed.rate, nodes,
+                  parsed.network, parsed.least, parsed.patience, parsed.out, parsed.keep, parsed.durability or "", parsed.keep_nodes, stages, reserved,
+                  parsed.test_count)
+    planned(given)  # what can't be is said before anything starts
+    return given
 
 
 def _parser() -> Words:
     called = command.tool(NAME)
     parser = Words(prog=called, description=DESCRIPTION.format(tool=called), formatter_class=argparse.RawDescriptionHelpFormatter)
     parser.add_argument("server", metavar="SERVER", help=f"{', '.join(SERVERS)}, or a Python file that has a Server; {TEMPLATE} prints one")
-    parser.add_argument("--object", metavar="MODEL", choices=tuple(kinds.MODELS), help="what each key is: " + ", ".join(kinds.MODELS))
+    parser.add_argument("--object", metavar="MODEL", help="what each key is: " + ", ".join(kinds.MODELS))
     parser.add_argument("--plant", metavar="NAME", help="a fault of the server that is known, by its name")
+    parser.add_argument("--durability", metavar="NAME", help="how the server keeps what it acknowledges (the safest that it has)")
     parser.add_argument("--time", metavar="SECONDS", type=_positive("seconds"), default=20.0, help="how long clients are at work (20)")
     parser.add_argument("--clients", metavar="N", type=_within("clients", 1, MOST_CLIENTS), default=5, help="threads of clients (5)")
     parser.add_argument("--keys", metavar="N", type=_within("keys", 1, 1000), default=5, help="keys that are open to changes at once (5)")
     parser.add_argument("--rate", metavar="N", type=_positive("operations a second", zero=True), default=400.0,
                         help="operations a second of all clients; 0 is as many as they can (400)")
+    parser.add_argument("--phases", metavar="PHASES", help="what clients do when, as 5:strikes=off,20:rate=1000,5:changes=0:limit=200: each is "
+                        "its seconds, with a rate, a share of changes, a limit of operations, and whether something strikes; for --time")
+    parser.add_argument("--reserve", metavar="CLIENTS", help="clients that do one thing alone, as changes=2,reads=1")
+    parser.add_argument("--test-count", metavar="N", type=_within("tests", 1, 10_000), default=1,
+                        help="so many tests, each with the next seed, and a summary (1)")
     parser.add_argument("--seed", metavar="N", type=int, default=1, help="of what is drawn: operations, phases and strikes (1)")
-    parser.add_argument("--nemesis", metavar="STRIKES", help=f"all, none, or some of {', '.join(KINDS)}, as kill,pause; or a schedule, "
-                        "as kill:n1@3+0.5,pause@6: at 3 seconds, for half a second (all)")
+    parser.add_argument("--nemesis", metavar="STRIKES", help=f"all, none, or some of {', '.join(STRIKES)}, as kill,pause; with "
+                        "numbers, as slow:delay=0.2:lasting=1..5; or a schedule, as kill:n1@3+0.5,pause@6: at 3 seconds, for half a second (all)")
     parser.add_argument("--nodes", metavar="N", type=_within("nodes", 1, 9), default=0, help="how many, where the server can have several")
     parser.add_argument("--network", choices=NETWORKS, default=AUTO, help="by what links are cut and slow: namespaces, of which each node "
                         "has one (as root on Linux), or a proxy on the loopback; auto takes namespaces where it can")
@@ -87,6 +105,9 @@ def _parser() -> Words:
     parser.add_argument("--out", metavar="FOLDER", default="runs", help="the run gets a folder of its own there (runs)")
     parser.add_argument("--keep", metavar="N", type=_within("parts", 0, 1_000_000),
                         help="legal parts that stay in the folder, the newest (all); a part is 262,144 events, of some 20 megabytes")
+    parser.add_argument("--keep-nodes", choices=(FINDING, ALWAYS, NEVER), default=FINDING,
+                        help="when the data of each node are copied into the run's folder, as n1.data: after a finding, always or never "
+                        f"({FINDING})")
     return parser
 
 
@@ -98,6 +119,8 @@ def _described() -> Iterator[str]:
         yield f"  {name:<12}{', '.join(server.objects)}"
         for plant, planted in server.plants.items():
             yield f"      --plant {plant:<16}{planted.text}"
+        for name, text in server.durabilities.items():
+            yield f"      --durability {name:<11}{text}"
 
 
 def _positive(name: str, zero: bool = False) -> "type[float]":
@@ -158,7 +181,8 @@ def _of_file(path: pathlib.Path) -> Type[Server]:
     if not found:
         raise ServerError(f"{path} has no class that is a jepmon.testing.Server")
     server: Type[Server] = found[-1]
-    unknown = [model for model in server.objects if model not in kinds.MODELS]
+    works = works_of(server)
+    unknown = [model for model in server.objects if model not in works or (works[model].model or model) not in kinds.MODELS]
     if not server.objects or unknown:
         raise ServerError(f"{path}: {server.__name__}.objects names models and their clients, of {', '.join(kinds.MODELS)}; "
                           + (f"not {unknown[0]}" if unknown else "it is empty"))

@@ -4,12 +4,13 @@ from __future__ import annotations
 import itertools
 import random
 import time
-from typing import TYPE_CHECKING, Any, Callable, Dict, Iterator, Optional, Tuple, Type, Union
+from typing import TYPE_CHECKING, Any, Callable, Dict, Iterator, List, Optional, Tuple, Type, Union
 
-from .messages import Messages
+from .messages import Messages, Missing
 
 if TYPE_CHECKING:
     from ..long import Handle, LongMonitor, LongObject, LongOperation
+    from .server import Server
 
 Attempt = Callable[[Any], "LongOperation"]  # an operation by a client
 Asked = Callable[[Attempt], "LongOperation"]  # tries it until it is ok, by one client after the other
@@ -20,6 +21,7 @@ class Work:
     must be ok before anything is said. An object is left after CHANGES, for a new one; its key is the number that is its name."""
 
     names: Tuple[str, ...] = ()
+    model = ""  # by which it is judged, where that is not its name among a server's objects
     CHANGES = 200
 
     def __init__(self, monitor: LongMonitor, clients: int, keys: int) -> None:
@@ -45,6 +47,11 @@ class Work:
     def lost(self) -> int:
         """How many values were taken, and certainly lost, of which no event tells."""
         return 0
+
+    @property
+    def missing(self) -> List[Missing]:
+        """Where they were."""
+        return []
 
 
 class Registers(Work):
@@ -212,6 +219,10 @@ class Queues(Work):
     def lost(self) -> int:
         return self.messages.lost if self.is_drained else 0
 
+    @property
+    def missing(self) -> List[Missing]:
+        return self.messages.listed if self.is_drained else []
+
     def backlog(self, handle: Handle) -> int:
         newest: Optional[LongObject] = self.newest.get(handle)
         return self.messages.backlog(newest) if newest is not None else 0
@@ -233,3 +244,8 @@ def key_of(op: LongOperation) -> int:
 WORKS: Dict[str, Type[Work]] = {
     "register": Registers, "cas-register": CasRegisters, "mutex": Locks, "set": Sets, "fifo-queue": Queues, "unordered-queue": Queues,
 }
+
+
+def works_of(server: Type[Server]) -> Dict[str, Type[Work]]:
+    """What clients of a server do to each kind of object: to the known ones, and to its own."""
+    return {**WORKS, **server.workloads}

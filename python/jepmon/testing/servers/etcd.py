@@ -9,13 +9,13 @@ import base64
 import http.client
 import json
 import uuid
-from typing import Any, Dict, List, Optional, Type, Union
+from typing import Any, Dict, List, Optional, Sequence, Type, Union
 
 from ...endings import Exceptions
 from ..node import At, Node
 from ..server import Client, Leases, Plant, Server
 
-TIMEOUT = 1.0  # seconds
+TIMEOUT, LEADER_TIMEOUT = 1.0, 0.3  # seconds
 HEARTBEAT, ELECTION = 100, 1000  # milliseconds
 
 
@@ -135,11 +135,16 @@ class Etcd(Server):
     programs = {"etcd": "etcd-server"}
     objects = CLIENTS
     ports = ("client", "peer")
-    size, sizes = 3, range(1, 8)
+    size, sizes, survives_power = 3, range(1, 8), True
+    cannot = {name: "etcd is written in Go, and does not ask the C library for the time" for name in ("bump", "strobe")}
     plants = {
         "serializable": Plant("reads are serializable: a member answers without asking the others", "cas-register", "pause,part"),
         "lease": Plant("the lease is shorter than the work", "mutex"),
     }
+
+    @classmethod
+    def version(cls) -> Sequence[str]:
+        return ("etcd", "--version")
 
     def command(self, node: Node) -> List[str]:
         members = ",".join(f"{other.name}={url(other, other.reach['peer'])}" for other in self.nodes)
@@ -155,6 +160,20 @@ class Etcd(Server):
             client.read(0)
         finally:
             client.close()
+
+    def leader(self) -> Optional[Node]:
+        for node in self.nodes:
+            client = EtcdClient(node.listens_at)
+            try:
+                with node.inside():
+                    status = client.call("maintenance/status", LEADER_TIMEOUT)
+                if status["leader"] == status["header"]["member_id"]:
+                    return node
+            except OSError:
+                pass  # it is struck
+            finally:
+                client.close()
+        return None
 
     def client(self, number: int) -> Client:
         return PLANTED.get(self.plant, CLIENTS[self.model])(self.node_of(number).at)

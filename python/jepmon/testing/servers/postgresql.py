@@ -10,7 +10,7 @@ import os
 import pathlib
 import pwd
 import shutil
-from typing import Dict, List, Optional, Type
+from typing import Dict, List, Optional, Sequence, Type
 
 from ...endings import Exceptions
 from ..errors import ServerError
@@ -120,8 +120,10 @@ PLANTED: Dict[str, Type[SqlClient]] = {"read-committed": ReadCommitted, "snapsho
 
 class PostgreSQL(Server):
     objects = CLIENTS
-    bears = {"mutex": ("pause", "cut", "slow")}  # a kill ends each session, and its locks with it, while their holders work
-    sizes, in_turn = range(1, 4), True
+    bears = {"mutex": ("pause", "cut", "slow", "loss", "reorder", "corrupt")}  # a kill ends each session, and its locks with it, while their holders work
+    sizes, in_turn, survives_power = range(1, 4), True, True
+    durabilities = {"sync": "each commit is synced before it is answered, as by default",
+                    "async": "synchronous_commit=off: a commit is answered before it is written", "none": "fsync=off: nothing is synced"}
     plants = {
         "read-committed": Plant("a cas that reads, compares and changes at READ COMMITTED", "cas-register"),
         "snapshot": Plant("reads of one REPEATABLE READ transaction that goes on", "register"),
@@ -134,6 +136,10 @@ class PostgreSQL(Server):
     def test_installed(cls) -> None:
         if binaries() is None:
             raise ServerError("PostgreSQL is not installed: on Debian, apt-get install postgresql")
+
+    @classmethod
+    def version(cls) -> Sequence[str]:
+        return (program("postgres"), "--version")
 
     def prepare(self, node: Node) -> None:
         node.user = user()
@@ -151,8 +157,9 @@ class PostgreSQL(Server):
                 rules.write("host all,replication all samenet trust\n")
 
     def command(self, node: Node) -> List[str]:
-        """fsync is off: what was given to the kernel outlives the kill of a process, and no machine fails here."""
-        settings = {"fsync": "off", "max_connections": "100", "listen_addresses": node.address, "unix_socket_directories": str(node.folder),
+        settings = {"fsync": "off" if self.durability == "none" else "on",
+                    "synchronous_commit": "off" if self.durability == "async" else "on", "max_connections": "100", "listen_addresses": node.address,
+                    "unix_socket_directories": str(node.folder),
                     "wal_receiver_timeout": "5s"}
         return [program("postgres"), "-D", str(node.folder / "data"), "-p", str(node.ports["client"]),
                 *(word for name, value in settings.items() for word in ("-c", f"{name}={value}"))]

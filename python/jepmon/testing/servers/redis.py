@@ -1,5 +1,5 @@
-"""Redis: a primary, and replicas of it. Clients speak to the primary, which writes each command to its file before it answers
-(`appendonly yes`; `appendfsync no` is enough: what was given to the kernel outlives the kill of a process, and no machine fails here).
+"""Redis: a primary, and replicas of it. Clients speak to the primary, which writes each command to its file and syncs the file before it
+answers (`appendonly yes`, `appendfsync always`; --durability has the looser ones, of which a loss of power shows the difference).
 
 What an error says: a refused connection sent nothing, and an error as an answer says that the command was not done (`LOADING`,
 `READONLY`, `MISCONF`): both are a :fail. A timeout, or a connection that was cut, is an :info.
@@ -7,7 +7,7 @@ What an error says: a refused connection sent nothing, and an error as an answer
 from __future__ import annotations
 
 import uuid
-from typing import Dict, List, Optional, Type
+from typing import Dict, List, Optional, Sequence, Type
 
 from ...endings import Exceptions
 from ..node import At, Node
@@ -99,7 +99,9 @@ CLIENTS: Dict[str, Type[RedisClient]] = {"register": Register, "mutex": Lock, "f
 class Redis(Server):
     programs = {"redis-server": "redis-server"}
     objects = {**CLIENTS}
-    size, sizes, in_turn = 2, range(1, 6), True
+    size, sizes, in_turn, survives_power = 2, range(1, 6), True, True
+    durabilities = {"always": "each command is synced before it is answered", "everysec": "the file is synced each second, as by default",
+                    "no": "the file is never synced"}
     plants = {
         "replica": Plant("reads at a replica, which is a write behind", "register", "part"),
         "forgetful": Plant("the server keeps nothing on its disk", "register", "kill:n1", 1),
@@ -108,10 +110,14 @@ class Redis(Server):
         "lease": Plant("the lease is shorter than the work", "mutex", nodes=1),
     }
 
+    @classmethod
+    def version(cls) -> Sequence[str]:
+        return ("redis-server", "--version")
+
     def command(self, node: Node) -> List[str]:
         keeps = "no" if self.plant in ("forgetful", "early") else "yes"
         words = ["redis-server", "--port", str(node.ports["client"]), "--bind", node.address, "--dir", str(node.folder), "--save", "",
-                 "--protected-mode", "no", "--appendonly", keeps, "--appendfsync", "no", "--repl-diskless-sync-delay", "0",
+                 "--protected-mode", "no", "--appendonly", keeps, "--appendfsync", self.durability, "--repl-diskless-sync-delay", "0",
                  "--repl-timeout", "5"]
         return words + (["--replicaof", *map(str, self.nodes[0].at)] if node.number else [])
 

@@ -8,6 +8,6 @@ returns-clause-states g c =
     let r = c.requires.states in
     with_one g.M.State.Hash.hash_input old c.args.hashes.now.items r.hashed c.args.state c.args.hash c.push_reserved.new.self.items c.put_behind.new.items.items c.put_behind.new.index.last.items c.put_behind.new.index.before.items
     c.requires.hash r.once (λ at e. c.in_default.ensures.none refl at (ap (λ l. slice_get l at) c.deref.ensures.value ∙ e))
-    (c.push_reserved.ensures.items ∙ ap (λ l. l ++ c.args.state ∷ []) c.make_room.ensures.items)
-    (c.put_behind.ensures.put ∙ ap (λ l. l ++ c.args.hash ∷ []) c.make_room-2.ensures.items)
+    (c.push_reserved.ensures.items ∙ ap (λ l. l ++ c.args.state ∷ []) c.make_rooms.ensures.items)
+    (c.put_behind.ensures.put ∙ ap (λ l. l ++ c.args.hash ∷ []) c.make_rooms.ensures.hashes)
     c.put_behind.ensures.index

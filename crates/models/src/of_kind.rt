@@ -1,0 +1,107 @@
+//! The states of the objects of each kind, among those of any kind.
+ghost use Rattle.std.specs.Prelude.{◌≡◌, IfOk, map};
+ghost use Rattle.models.specs.declared.any_state.AnyState.{AnyState};
+
+use crate::any_state::AnyState;
+use crate::cas_register::CasRegister;
+use crate::fifo_queue::FifoQueue;
+use crate::finding::Found;
+use crate::mutex::Mutex;
+use crate::object::SeqObject;
+use crate::operation::Op;
+use crate::register::Register;
+use crate::set::Set;
+use crate::unordered_queue::UnorderedQueue;
+use std::alloc::{AllocError, Global};
+use values::{Items, Multiset, Spans};
+
+/// A sequential object whose states are among those of any kind.
+pub(crate) trait OfKind: SeqObject {
+    ghost as_any: { Self.State → AnyState };
+
+    /// The state, as one of any kind.
+    fn into_any(state: Self::State) -> AnyState
+        ensures { result ≡ as_any state };
+}
+
+impl OfKind for Register {
+    ghost use Rattle.models.specs.AnyState.{any};
+    ghost use Rattle.models.specs.declared.model_kind.ModelKind.TheVariants.{Register as OfThisKind};
+
+    ghost as_any = { λ state. any OfThisKind state };
+
+    fn into_any(state: Option<i64>) -> AnyState {
+        AnyState::Register(state)
+    }
+}
+
+impl OfKind for CasRegister {
+    ghost use Rattle.models.specs.AnyState.{any};
+    ghost use Rattle.models.specs.declared.model_kind.ModelKind.TheVariants.{CasRegister as OfThisKind};
+
+    ghost as_any = { λ state. any OfThisKind state };
+
+    fn into_any(state: Option<i64>) -> AnyState {
+        AnyState::CasRegister(state)
+    }
+}
+
+impl OfKind for Mutex {
+    ghost use Rattle.models.specs.AnyState.{any};
+    ghost use Rattle.models.specs.declared.model_kind.ModelKind.TheVariants.{Mutex as OfThisKind};
+
+    ghost as_any = { λ state. any OfThisKind state };
+
+    fn into_any(state: bool) -> AnyState {
+        AnyState::Mutex(state)
+    }
+}
+
+impl OfKind for FifoQueue {
+    ghost use Rattle.models.specs.AnyState.{any};
+    ghost use Rattle.models.specs.declared.model_kind.ModelKind.TheVariants.{FifoQueue as OfThisKind};
+
+    ghost as_any = { λ state. any OfThisKind state };
+
+    fn into_any(state: Items) -> AnyState {
+        AnyState::FifoQueue(state)
+    }
+}
+
+impl OfKind for Set {
+    ghost use Rattle.models.specs.AnyState.{any};
+    ghost use Rattle.models.specs.declared.model_kind.ModelKind.TheVariants.{Set as OfThisKind};
+
+    ghost as_any = { λ state. any OfThisKind state };
+
+    fn into_any(state: Spans) -> AnyState {
+        AnyState::Set(state)
+    }
+}
+
+impl OfKind for UnorderedQueue {
+    ghost use Rattle.models.specs.AnyState.{any};
+    ghost use Rattle.models.specs.declared.model_kind.ModelKind.TheVariants.{UnorderedQueue as OfThisKind};
+
+    ghost as_any = { λ state. any OfThisKind state };
+
+    fn into_any(state: Multiset) -> AnyState {
+        AnyState::UnorderedQueue(state)
+    }
+}
+
+/// The outcomes of the operation in the state of an object of this kind, with the states as those of any kind.
+pub(crate) fn outcomes_in<K: OfKind>(
+    alloc: Global,
+    state: &K::State,
+    op: &Op,
+) -> Result<Vec<(AnyState, Found)>, AllocError>
+    ensures { IfOk result (λ outcomes. outcomes.items
+        ≡ map (λ outcome. (K.as_any outcome.0, outcome.1)) (K.apply_to op.now state.now)) }
+{
+    let outcomes = K::apply(alloc, state, op)?;
+    outcomes
+        .into_iter()
+        .map(|outcome| (K::into_any(outcome.0), outcome.1))
+        .collect(alloc)
+}

@@ -1,0 +1,30 @@
+"""What the text of a fault says: what it does, of which kind it is, and to which nodes. jepmon-test notes a strike as
+
+    n1 is down, by kill -9 [kill n1, process; while slow n2]
+
+and a test of the user's own as it likes; then the kind is the text without the names of nodes."""
+from __future__ import annotations
+
+import re
+from typing import List
+
+STRIKE = re.compile(r"(?P<text>.+) \[(?P<name>[a-z-]+) (?P<node>n[0-9]+), [^\]]*\]")
+NODE = re.compile(r"\bn[0-9]+\b")
+
+
+def plain(text: str) -> str:
+    """What it does, without what jepmon-test notes beside it."""
+    found = STRIKE.fullmatch(text)
+    return found["text"] if found is not None else text
+
+
+def kind_of(text: str) -> str:
+    """The name of the strike, or the text without the nodes that it hits."""
+    found = STRIKE.fullmatch(text)
+    return found["name"] if found is not None else NODE.sub("\u2026", text)
+
+
+def nodes_of(text: str) -> List[str]:
+    """The nodes that it names, each once."""
+    found = STRIKE.fullmatch(text)
+    return [found["node"]] if found is not None else list(dict.fromkeys(NODE.findall(text)))

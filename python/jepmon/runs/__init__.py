@@ -1,0 +1,17 @@
+"""`jepmon-runs`: all runs of a folder at a glance, as lines and as a page, index.html, that leads to the page of each.
+
+summary.py  what a run's folder says of it
+index.py    the page; jepmon-test makes it anew at each end
+tool.py     the command
+"""
+from __future__ import annotations
+
+from typing import List, Optional
+
+__all__ = ["main"]
+
+
+def main(words: Optional[List[str]] = None) -> int:
+    from .tool import main as show
+
+    return show(words)

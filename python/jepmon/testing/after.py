@@ -1,0 +1,259 @@
+"""After a finding: the servers are whole again, the bad key is read once more at every node, and the nodes' data are kept.
+
+What is read then tells a write that was lost from a read that was stale, or nodes that differ. It is found by reading, and not proved.
+"""
+from __future__ import annotations
+
+import contextlib
+import os
+import pathlib
+import shutil
+import stat
+import sys
+import time
+from typing import Any, Callable, Dict, Iterator, List, NamedTuple, Optional, Sequence
+
+from .. import aftermath
+from ..fault_times import since
+from ..history import Event
+from ..kinds import ABSENT
+from ..rates.run import Statuses
+from ..run_folder import AFTER, HISTORY, LOST, write_whole
+from ..verdicts import Illegal
+from .cluster import Cluster
+from .crashes import finding
+from .errors import Died
+from .losses import Acknowledged, One, line, many, told
+
+FINDING, ALWAYS, NEVER = "finding", "always", "never"  # when the nodes' data are kept
+PATIENCE = 30.0  # seconds, at most, until the nodes are ready again
+ROUNDS = 5  # in which the nodes are read until they agree
+PAUSE = 0.4  # seconds between two rounds
+TRIES = 3  # of a read
+MOST = 10_000  # messages of a queue that are drained
+SHOWN = 120  # characters of a value
+
+
+class Reading(NamedTuple):
+    """What a node has answered: a value, or why there is none."""
+
+    value: Any
+    fault: str = ""
+
+    def __str__(self) -> str:
+        text = self.fault or ("ABSENT" if self.value is None else shown(self.value))
+        return text if len(text) <= SHOWN else text[:SHOWN] + " .."
+
+
+@contextlib.contextmanager
+def after_a_finding(cluster: Cluster, folder: pathlib.Path, keep: str, lost: Callable[[], int]) -> Iterator[None]:
+    """The block is the test. If it ends by a finding, or if messages are lost, what can be learned is learned before the servers are gone."""
+    found = False
+    try:
+        yield
+        found = lost() > 0
+    except Illegal as illegal:
+        found = True
+        read_again(cluster, illegal)
+        raise
+    except Died as died:
+        found = finding(died) is not None
+        raise
+    finally:
+        if keep == ALWAYS or keep == FINDING and found:
+            keep_nodes(cluster, folder)
+
+
+# --- The bad key, once more ---
+
+
+def read_again(cluster: Cluster, illegal: Illegal) -> None:
+    """Leaves in the folder of the part what was read. The verdict stands whatever comes of this, so that nothing is raised but Ctrl-C."""
+    part = pathlib.Path(illegal.folder)
+    try:
+        lines = _read_again(cluster, illegal, part)
+        if lines:
+            write_whole(part / AFTER, "".join(line + "\n" for line in lines))
+    except Exception as fault:
+        print(f"jepmon: the key was not read again: {type(fault).__name__}: {fault}", file=sys.stderr)
+
+
+def _read_again(cluster: Cluster, illegal: Illegal, part: pathlib.Path) -> List[str]:
+    if illegal.key is None:
+        return []
+    events, faults = aftermath.read(part / HISTORY, illegal.key)
+    fatal = next((event for event in events if event.index == illegal.index), None)
+    if fatal is None:
+        return []
+    key = int(Statuses(part).names.get(illegal.key, str(illegal.key)))
+    begun = max(event.index for event in events if event.process == fatal.process and event.index < fatal.index)
+    acknowledged = Acknowledged.of(events, begun, faults)
+    last = since(faults, fatal.fields.get("time", 0))
+    client = cluster.server.objects[cluster.server.model]
+    sentences = [f"The event came {last}." if last else ""]
+    lost: List[One] = []
+    if hasattr(client, "read"):
+        mend(cluster)
+        readings = readings_of(cluster, key)
+        sentences += [f"Once all faults were ended, key {key} was read again: {listed(readings)}.",
+                      verdict_on(fatal, readings, acknowledged)]
+        lost = lost_members(readings, acknowledged)
+    elif hasattr(client, "dequeue"):
+        mend(cluster)
+        rest = drained(cluster, key)
+        lost = lost_messages(events, rest, acknowledged)
+        sentences.append(verdict_on_queue(key, events, rest, lost))
+    if lost:
+        write_whole(part.parent / LOST, "".join(line(f"key {key}", one) for one in lost))
+    return [sentence for sentence in sentences if sentence]
+
+
+def mend(cluster: Cluster) -> None:
+    """The faults are over by now; the nodes may have to start still."""
+    cluster.stopped.clear()
+    cluster.server.patience = min(cluster.server.patience, PATIENCE)
+    for node in cluster.nodes:
+        node.go_on()
+    cluster.wait_until_all_ready()
+
+
+def drained(cluster: Cluster, key: int) -> List[int]:
+    """What a queue still has."""
+    found: List[int] = []
+    with cluster.clients():
+        client: Any = cluster.server.client(0)
+        with contextlib.closing(client):
+            while len(found) < MOST:
+                value = client.dequeue(key)
+                if value is None:
+                    break
+                found.append(value)
+    return found
+
+
+def lost_messages(events: Sequence[Event], rest: Sequence[int], acknowledged: Acknowledged) -> List[One]:
+    came = {event.value for event in events if event.kind == "ok" and event.name == "dequeue"} | set(rest)
+    return [one for one in acknowledged.values if one.value not in came]
+
+
+def verdict_on_queue(key: int, events: Sequence[Event], rest: Sequence[int], lost: Sequence[One]) -> str:
+    """Which messages are gone, once the queue was drained."""
+    said = f"Once all faults were ended, queue {key} was drained: {len(rest)} messages came."
+    if not lost:
+        return f"{said} Each message that was acknowledged has come: none is lost."
+    maybe = min(len(lost), sum(event.kind == "info" and event.name == "dequeue" for event in events))
+    doubt = f", {maybe} of which dequeues that timed out may have taken" if maybe else ""
+    return f"{said} Messages are LOST, {len(lost)} in all{doubt}: {many(lost)}."
+
+
+def readings_of(cluster: Cluster, key: int) -> Dict[str, Reading]:
+    """What each node that clients reach answers, by its name, once they agree, or have had some time to."""
+    readings: Dict[str, Reading] = {}
+    with cluster.clients():
+        for number in range(ROUNDS):
+            before, readings = readings, one_round(cluster, key)
+            if number and before == readings and len(set(map(str, readings.values()))) == 1:
+                break
+            time.sleep(PAUSE)
+    return readings
+
+
+def one_round(cluster: Cluster, key: int) -> Dict[str, Reading]:
+    found: Dict[str, Reading] = {}
+    for number in range(2 * len(cluster.nodes)):
+        name = cluster.server.node_of(number).name
+        if name not in found:
+            found[name] = one_reading(cluster, number, key)
+    return dict(sorted(found.items()))
+
+
+def one_reading(cluster: Cluster, number: int, key: int) -> Reading:
+    said = ""
+    for _ in range(TRIES):
+        client: Any = cluster.server.client(number)
+        try:
+            value = client.read(key)
+            return Reading(frozenset(value) if isinstance(value, (set, frozenset, list, tuple)) else value)
+        except Exception as fault:  # of whatever kind the client raises
+            said = f"no answer ({type(fault).__name__})"
+        finally:
+            client.close()
+    return Reading(None, said)
+
+
+def verdict_on(fatal: Event, readings: Dict[str, Reading], acknowledged: Acknowledged) -> str:
+    """What the readings tell: lost, stale or diverged. `acknowledged` is what was, before the operation began."""
+    values = [reading.value for reading in readings.values() if not reading.fault]
+    if not values:
+        return "No node answered, so it can't be told whether something is lost."
+    if any(value != values[0] for value in values):
+        return "Nodes DIVERGED: they still hold different values."
+    if isinstance(values[0], frozenset):
+        return verdict_on_set(fatal, values[0], acknowledged)
+    if fatal.name != "read":
+        return ""
+    wrong = None if fatal.value == ABSENT else fatal.value
+    if values[0] != wrong and any(one.value == values[0] for one in acknowledged.values):
+        return f"The read was STALE: the nodes hold {shown(values[0])}, which had been acknowledged before the read began."
+    if values[0] != wrong:
+        return f"LOST or STALE, which can't be told: a write of {shown(values[0])}, not acknowledged when the read began, took place since."
+    newest = acknowledged.newest
+    if newest is None:
+        return "The wrong answer stays."
+    return f"A write is LOST: the wrong answer stays. The write of {told(newest)}."
+
+
+def lost_members(readings: Dict[str, Reading], acknowledged: Acknowledged) -> List[One]:
+    """Those that no node has."""
+    sets = [reading.value for reading in readings.values() if isinstance(reading.value, frozenset)]
+    return acknowledged.missing(frozenset().union(*sets)) if sets else []
+
+
+def verdict_on_set(fatal: Event, held: "frozenset[int]", acknowledged: Acknowledged) -> str:
+    lost = acknowledged.missing(held)
+    if lost:
+        return f"Members are LOST, {len(lost)} in all: {many(lost)}."
+    if held == fatal.value:
+        return "The wrong answer stays."
+    return "The read was STALE: each member whose add was acknowledged is there."
+
+
+def listed(readings: Dict[str, Reading]) -> str:
+    """The readings, nodes that answered alike together."""
+    by_text: Dict[str, List[str]] = {}
+    for name, reading in readings.items():
+        by_text.setdefault(str(reading), []).append(name)
+    return "; ".join(f"{text} at {', '.join(names)}" for text, names in by_text.items())
+
+
+def shown(value: Any) -> str:
+    if isinstance(value, frozenset):
+        return "#{" + " ".join(map(str, sorted(value))) + "}"
+    return "ABSENT" if value in (None, ABSENT) else str(value)
+
+
+# --- The nodes' data ---
+
+
+def keep_nodes(cluster: Cluster, folder: pathlib.Path) -> None:
+    """Kills the nodes, and copies their folders into that of the run, as n1.data. What can't be copied is said."""
+    for node in cluster.nodes:
+        node.kill()
+        try:
+            shutil.copytree(node.folder, folder / f"{node.name}.data", symlinks=True, ignore=special, dirs_exist_ok=True)
+        except (OSError, shutil.Error) as fault:
+            reason: Optional[str] = fault.strerror if isinstance(fault, OSError) and fault.strerror else str(fault)[:200]
+            print(f"jepmon: the data of {node.name} are not kept whole: {reason}", file=sys.stderr)
+
+
+def special(path: str, names: List[str]) -> List[str]:
+    """Sockets, pipes and devices, which can't be copied."""
+    found = []
+    for name in names:
+        try:
+            mode = os.lstat(os.path.join(path, name)).st_mode
+        except OSError:
+            continue
+        if not (stat.S_ISREG(mode) or stat.S_ISDIR(mode) or stat.S_ISLNK(mode)):
+            found.append(name)
+    return found

@@ -1,0 +1,24 @@
+"""What client libraries log or warn of goes to a file of the run's folder: under faults it would flood the terminal."""
+from __future__ import annotations
+
+import contextlib
+import logging
+import pathlib
+from typing import Iterator
+
+NAME = "clients.log"
+
+
+@contextlib.contextmanager
+def kept_in(folder: pathlib.Path) -> Iterator[None]:
+    """For the block; there is no file where nothing was said."""
+    handler = logging.FileHandler(folder / NAME, encoding="utf-8", delay=True)
+    handler.setFormatter(logging.Formatter("%(asctime)s %(name)s %(levelname)s: %(message)s"))
+    logging.getLogger().addHandler(handler)
+    logging.captureWarnings(True)
+    try:
+        yield
+    finally:
+        logging.captureWarnings(False)
+        logging.getLogger().removeHandler(handler)
+        handler.close()

@@ -1,0 +1,119 @@
+"""What was acknowledged, and is gone: messages of queues, members of sets and writes of registers, each with the time of its
+acknowledgement, and the fault that followed."""
+from __future__ import annotations
+
+import pathlib
+from typing import Dict, Iterator, List, NamedTuple, Optional, Sequence
+
+from .. import aftermath
+from ..fault_times import ends_a_process, holding, seconds, since, until
+from ..history import Event
+from ..notes import Fault
+from ..run_folder import HISTORY, LOST, write_whole
+from .messages import Missing
+
+SHOWN = 10  # lines for a terminal
+
+
+class One(NamedTuple):
+    """A value whose operation was acknowledged."""
+
+    value: int
+    moment: int  # of the acknowledgement, in nanoseconds from the begin of the run
+    fault: str  # how long before which fault that was, or after which one, where none followed
+
+
+class Acknowledged(NamedTuple):
+    """Of one key: what was acknowledged before an event, in the order of the acknowledgements."""
+
+    values: List[One]
+
+    @classmethod
+    def of(cls, events: Sequence[Event], index: int, faults: Sequence[Fault]) -> Acknowledged:
+        found = []
+        for event in events:
+            brought = brought_by(event)
+            if event.kind == "ok" and event.index < index and brought is not None:
+                moment = event.fields.get("time", 0)
+                found.append(One(brought, moment, beside(faults, moment)))
+        return cls(found)
+
+    @property
+    def newest(self) -> Optional[One]:
+        return self.values[-1] if self.values else None
+
+    def missing(self, held: "frozenset[int]") -> List[One]:
+        return [one for one in self.values if one.value not in held]
+
+
+def brought_by(event: Event) -> Optional[int]:
+    """The value that an operation brings into its object."""
+    if event.name == "cas" and isinstance(event.value, tuple):
+        return event.value[1]
+    return event.value if event.name in ("write", "add", "enqueue") and isinstance(event.value, int) else None
+
+
+def beside(faults: Sequence[Fault], moment: int) -> str:
+    """The fault that ended a process at the moment; else the one that followed, or else the one that came last before it."""
+    if any(map(ends_a_process, holding(faults, moment))):
+        return since(faults, moment)
+    return until(faults, moment) or since(faults, moment)
+
+
+def told(one: One) -> str:
+    """As "5 was acknowledged at 1.04 s, 0.07 s before .."."""
+    return f"{one.value} was acknowledged at {seconds(one.moment)}" + (f", {one.fault}" if one.fault else "")
+
+
+def many(lost: Sequence[One], of: int = 12) -> str:
+    """These in one phrase, so many of them, with the faults of the first and the last one."""
+    shown = ", ".join(f"{one.value} (at {seconds(one.moment)})" for one in lost[:of]) + (f" and {len(lost) - of} more" if len(lost) > of else "")
+    first, last = lost[0], lost[-1]
+    faults = f"; the first one {first.fault}" if first.fault and len(lost) > 1 else f", {first.fault}" if first.fault else ""
+    return f"acknowledged {shown}{faults}" + (f", the last one {last.fault}" if last.fault and len(lost) > 1 else "")
+
+
+def line(name: str, one: One) -> str:
+    """Of a list."""
+    return f"{name}: {told(one)}\n"
+
+
+# --- Messages of queues ---
+
+
+def leave(folder: pathlib.Path, lost: int, missing: Sequence[Missing]) -> None:
+    """Lists the lost messages in the run's folder, those first that were acknowledged first. An OSError is the caller's."""
+    write_whole(folder / LOST, "".join(line + "\n" for line in lines(folder, lost, missing)))
+
+
+def lines(folder: pathlib.Path, lost: int, missing: Sequence[Missing]) -> Iterator[str]:
+    yield f"{lost} messages were acknowledged, and never came. This was counted, and is not proved."
+    for queue in missing:
+        if queue.may_have_come:
+            yield (f"queue {queue.name}: {queue.may_have_come} of the {len(queue.values)} that are listed may have been taken by dequeues "
+                   "that timed out")
+    for name, one in sorted(acknowledgements(folder, missing), key=lambda each: each[1].moment):
+        yield line(f"queue {name}", one).rstrip()
+
+
+def acknowledgements(folder: pathlib.Path, missing: Sequence[Missing]) -> "Iterator[tuple[str, One]]":
+    """When each of these messages was acknowledged, by the histories of the parts. Of a part that was removed nothing is known."""
+    for queue in missing:
+        path = folder / queue.part / HISTORY
+        if not path.exists():
+            continue
+        events, faults = aftermath.read(path, queue.key)
+        times: Dict[int, int] = {event.value: event.fields.get("time", 0) for event in events
+                                 if event.kind == "ok" and event.name == "enqueue" and isinstance(event.value, int)}
+        for value in sorted(queue.values):
+            if value in times:
+                yield queue.name, One(value, times[value], beside(faults, times[value]))
+
+
+def for_terminal(folder: pathlib.Path) -> List[str]:
+    """The first lines of the list; none where nothing is lost."""
+    try:
+        found = (folder / LOST).read_text("utf-8").splitlines()
+    except OSError:
+        return []
+    return found if len(found) <= SHOWN + 1 else found[:SHOWN] + [f".. and {len(found) - SHOWN} more lines in {folder / LOST}"]

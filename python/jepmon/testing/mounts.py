@@ -1,0 +1,77 @@
+"""Mounting by FUSE: a file system whose requests are read from, and answered to, a file of /dev/fuse. It takes root, on Linux."""
+from __future__ import annotations
+
+import ctypes
+import os
+import pathlib
+import tempfile
+from typing import List, Optional
+
+DEVICE = "/dev/fuse"
+NO_SUID, NO_DEVICES = 2, 4  # MS_NOSUID, MS_NODEV
+DETACH = 2  # MNT_DETACH: also where something is still open in it
+MOUNTS = "/proc/self/mounts"
+
+
+def mounted(point: str, name: str) -> int:
+    """Mounts at this folder. Gives the file of its requests; an OSError says that this machine, or this user, may not."""
+    requests = os.open(DEVICE, os.O_RDWR)
+    try:
+        options = f"fd={requests},rootmode=40000,user_id=0,group_id=0,allow_other,default_permissions"
+        _called("mount", name.encode(), os.fsencode(point), b"fuse", ctypes.c_ulong(NO_SUID | NO_DEVICES), options.encode())
+    except BaseException:
+        os.close(requests)
+        raise
+    return requests
+
+
+def unmount(point: str) -> None:
+    _called("umount2", os.fsencode(point), DETACH)
+
+
+def unmount_below(folder: str) -> None:
+    """Whatever is mounted in the folder; nothing where there is nothing."""
+    for point in reversed(points_below(folder)):
+        try:
+            unmount(point)
+        except OSError:
+            pass
+
+
+def points_below(folder: str) -> List[str]:
+    try:
+        lines = pathlib.Path(MOUNTS).read_text(errors="surrogateescape").splitlines()
+    except OSError:
+        return []
+    points = [line.split(" ")[1].replace("\\040", " ") for line in lines]
+    return [point for point in points if point.startswith(f"{folder}/")]
+
+
+def flush(point: str) -> None:
+    """Gives the file system what the kernel has not yet given it, as pages that a process changed in its memory."""
+    folder = os.open(point, os.O_RDONLY)
+    try:
+        _called("syncfs", folder)
+    finally:
+        os.close(folder)
+
+
+def why_not() -> Optional[str]:
+    """Why nothing can be mounted here; None where it can."""
+    with tempfile.TemporaryDirectory(prefix="jepmon-mount-") as point:
+        try:
+            requests = mounted(point, "jepmon")
+        except OSError as fault:
+            return f"{fault.filename}: {fault.strerror}"
+        except AttributeError as fault:
+            return str(fault)
+        unmount(point)
+        os.close(requests)
+    return None
+
+
+def _called(name: str, *given: object) -> None:
+    """A call of the C library that Python 3.9 does not have."""
+    library = ctypes.CDLL(None, use_errno=True)
+    if getattr(library, name)(*given) != 0:
+        raise OSError(ctypes.get_errno(), os.strerror(ctypes.get_errno()), f"{name} by FUSE")

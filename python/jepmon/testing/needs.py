@@ -1,0 +1,46 @@
+"""What strikes need of this machine, and whether it is here: asked before anything starts."""
+from __future__ import annotations
+
+from typing import TYPE_CHECKING, Callable, Dict, Optional
+
+from . import clocks, disks, places
+from .links import PROXY
+from .server import ALL_STRIKES, Server
+from .strikes import power
+from .strikes.kind import NEEDS_CLOCK, NEEDS_DISK, NEEDS_PACKETS
+from .strikes.known import strikes_of
+from .strikes.plan import Plan
+
+if TYPE_CHECKING:
+    from .run import Given
+
+
+def planned(given: Given) -> Plan:
+    """What --nemesis asks for. A ServerError says what can't be, and which strikes are left."""
+    server = given.server
+    strikes = strikes_of(server)
+    here: Dict[str, Callable[[], Optional[str]]] = {NEEDS_PACKETS: lambda: packets(given.network), NEEDS_DISK: disks.why_not,
+                                                        NEEDS_CLOCK: clocks.why_not}
+    found: Dict[str, Optional[str]] = {}  # by what is needed
+
+    def why_not(name: str) -> Optional[str]:
+        if name in server.cannot:
+            return server.cannot[name]
+        for need in sorted(strikes[name].needs & here.keys()):
+            if need not in found:
+                found[need] = here[need]()
+            if found[need]:
+                return found[need]
+        return None
+
+    on_power = tuple(power.STRIKES) if server.survives_power else ()
+    default = server.bears.get(given.model, (*ALL_STRIKES, *on_power, *server.strikes))
+    return Plan(given.nemesis, given.nodes, strikes, default, why_not, has_leader=server.leader is not Server.leader)
+
+
+def packets(network: str) -> Optional[str]:
+    """Why packets can't be struck; None where they can."""
+    if network == PROXY:
+        return "the proxy carries bytes, not packets: it takes --network namespaces"
+    reason = places.why_not()
+    return f"it takes network namespaces, which can't be had here: {reason}" if reason else None

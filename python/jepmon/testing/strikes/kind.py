@@ -1,0 +1,53 @@
+"""What a strike is. A server's file has strikes of its own:
+
+    @contextlib.contextmanager
+    def compacting(cluster, node, values):
+        compact(node.at, values["share"])     # the fault begins
+        yield                                 # it lasts
+                                              # what ends it stands here
+    class Mine(Server):
+        strikes = {"compact": Strike("{node} compacts {share:g} of its data", compacting, parameters={"share": Parameter(0.1, 1.0)})}
+"""
+from __future__ import annotations
+
+import math
+import random
+from typing import TYPE_CHECKING, Callable, ContextManager, FrozenSet, Mapping, NamedTuple
+
+if TYPE_CHECKING:
+    from ..cluster import Cluster
+    from ..node import Node
+
+PROCESS, LINKS, CLOCK, OTHER = "process", "links", "clock", "other"  # lanes
+ALONE = frozenset([PROCESS, CLOCK])  # lanes of which a node bears one strike at a time
+NEEDS_LINKS, NEEDS_PACKETS, NEEDS_DISK, NEEDS_CLOCK = "links", "packets", "disk", "clock"
+
+Values = Mapping[str, float]  # of the parameters, by name
+During = Callable[["Cluster", "Node", Values], ContextManager[None]]
+
+
+class Parameter(NamedTuple):
+    """What a strike is given: a number between these two, drawn anew for each strike. From a positive `least` on, small ones are drawn as
+    often as great ones (their logarithms are even)."""
+
+    least: float
+    most: float
+    lowest: float = 0.0  # that the command line may ask for
+    highest: float = 1_000_000.0
+
+    def drawn(self, draws: random.Random) -> float:
+        if self.least > 0:
+            return math.exp(draws.uniform(math.log(self.least), math.log(self.most)))
+        return draws.uniform(self.least, self.most)
+
+
+class Strike(NamedTuple):
+    """A kind of strike. `text` says what it does, for the history's notes, with {node} and the parameters by their names. `during` gives
+    a context: the fault begins as it is entered, and ends as it is left, from whatever cause."""
+
+    text: str
+    during: During
+    lane: str = OTHER  # strikes of different lanes, or on different nodes, go on at once
+    parameters: Mapping[str, Parameter] = {}
+    nodes: int = 1  # that there must be at least
+    needs: FrozenSet[str] = frozenset()  # NEEDS_..: what the machine must have

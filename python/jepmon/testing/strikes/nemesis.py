@@ -1,0 +1,150 @@
+"""The nemesis: strikes in lanes, each a thread, so that strikes overlap at any moment. Nothing is healed between."""
+from __future__ import annotations
+
+import contextlib
+import math
+import threading
+import time
+from typing import TYPE_CHECKING, Callable, Counter, Dict, Iterator, List, Mapping, Optional, Set, Tuple
+
+from .kind import ALONE, PROCESS, Strike
+from .plan import Lane, Planned
+from .told import Told, told
+
+if TYPE_CHECKING:
+    from ...long import LongMonitor
+    from ..cluster import Cluster
+    from ..node import Node
+
+GLANCE = 0.1  # seconds between two looks at the nodes
+
+
+class Nemesis:
+    """Strikes until the time is up, but while `calm_from` says so: it gives when the next calm begins, in seconds. `struck` counts how often
+    what has struck."""
+
+    def __init__(self, monitor: LongMonitor, cluster: Cluster, strikes: Mapping[str, Strike], lanes: List[Lane], seconds: float,
+                 calm_from: Callable[[float], float] = lambda seconds: math.inf) -> None:
+        self._calm_from = calm_from
+        self._monitor, self._cluster, self._strikes, self._lanes = monitor, cluster, strikes, lanes
+        self._begun = time.monotonic()
+        self._end = self._begun + seconds
+        self._lock = threading.Lock()
+        self._going_on: Dict[int, Told] = {}
+        self._taken: Set[Tuple[str, str]] = set()  # lanes of nodes that are being struck
+        self._count = 0
+        self._fault: Optional[BaseException] = None
+        self.struck: Counter[str] = Counter()
+
+    def run(self) -> None:
+        """Until all lanes have ended what they did. Raises what a lane has raised, or that a node has died by itself."""
+        threads = [threading.Thread(target=self._run, args=(lane,), name=f"strikes {number}") for number, lane in enumerate(self._lanes)]
+        for thread in threads:
+            thread.start()
+        try:
+            self._wait(self._end)
+        except BaseException as fault:
+            self._stop(fault)
+        for thread in threads:
+            thread.join()
+        if self._fault is not None:
+            raise self._fault
+
+    def _run(self, lane: Lane) -> None:
+        try:
+            late = 0.0  # by which strikes took longer than planned, as a restart does
+            for planned in lane.strikes:
+                if not self._wait(self._begun + planned.begin + late) or not self._wait_for_calm_to_end():
+                    return
+                with self._node(planned) as node:
+                    if node is None:
+                        return
+                    with self._strike(planned, node):
+                        now = time.monotonic()
+                        went_on = self._wait(min(now + planned.lasting, self._begun + self._calm_from(now - self._begun)))
+                    if not went_on or planned.settles and lane.is_shifted and not self._settled(planned, node):
+                        return
+                if lane.is_shifted:
+                    late = max(0.0, time.monotonic() - self._begun - planned.begin - planned.lasting)
+        except BaseException as fault:
+            self._stop(fault)
+
+    def _wait_for_calm_to_end(self) -> bool:
+        """Gives whether the run goes on after that."""
+        while self._calm_from(time.monotonic() - self._begun) <= time.monotonic() - self._begun:
+            if not self._wait(time.monotonic() + GLANCE):
+                return False
+        return True
+
+    def _stop(self, fault: BaseException) -> None:
+        """The first fault ends all lanes."""
+        with self._lock:
+            self._fault = self._fault or fault
+
+    @contextlib.contextmanager
+    def _strike(self, planned: Planned, node: Node) -> Iterator[None]:
+        kind = self._strikes[planned.name]
+        with self._lock:
+            self._count += 1
+            number = self._count
+            going_on = sorted(one.short for one in self._going_on.values())
+            strike = told(kind.text, planned.name, node.name, kind.lane, planned.values, going_on)
+            self._going_on[number] = strike
+        try:
+            with self._monitor.fault(strike.note()):
+                with self._lock:
+                    self.struck[planned.name] += 1
+                with kind.during(self._cluster, node, planned.values):
+                    yield
+        finally:
+            with self._lock:
+                del self._going_on[number]
+
+    @contextlib.contextmanager
+    def _node(self, planned: Planned) -> Iterator[Optional[Node]]:
+        """The node that is struck: the one that was planned, or else the next one that no other strike of this lane holds. None where the
+        time is up before there is one."""
+        lane = self._strikes[planned.name].lane
+        first = self._cluster.nodes[planned.node]
+        if planned.at_leader:
+            first = self._cluster.leader() or first
+        nodes = [first] if planned.is_named else self._cluster.nodes[first.number:] + self._cluster.nodes[:first.number]
+        node = self._taken_one(lane, nodes)
+        while node is None and self._wait(time.monotonic() + GLANCE):
+            node = self._taken_one(lane, nodes)
+        try:
+            yield node
+        finally:
+            if node is not None:
+                with self._lock:
+                    self._taken.discard((lane, node.name))
+
+    def _taken_one(self, lane: str, nodes: List[Node]) -> Optional[Node]:
+        with self._lock:
+            for node in nodes:
+                if lane not in ALONE or (lane, node.name) not in self._taken:
+                    self._taken.add((lane, node.name))
+                    return node
+        return None
+
+    def _settled(self, planned: Planned, node: Node) -> bool:
+        """Waits until the node is ready again, where its process was struck, so that a server that starts slowly does some work between
+        two strikes. Gives whether the run goes on."""
+        if self._strikes[planned.name].lane != PROCESS:
+            return True
+        end = time.monotonic() + self._cluster.server.patience
+        while time.monotonic() < end and not self._cluster.is_ready(node):
+            if not self._wait(time.monotonic() + GLANCE):
+                return False
+        return True
+
+    def _wait(self, until: float) -> bool:
+        """Waits, and looks after the nodes meanwhile. Gives whether the run goes on after that."""
+        while True:
+            self._cluster.test_alive()
+            now = time.monotonic()
+            if now >= self._end or self._fault or self._monitor.failure is not None or self._cluster.stopped.is_set():
+                return False
+            if now >= until:
+                return True
+            time.sleep(max(0.0, min(GLANCE, until - now, self._end - now)))

@@ -1,0 +1,56 @@
+"""What of a file was not synced: which blocks were written since its last sync, with what they had then. So its durable contents can be
+brought back, as after a power failure."""
+from __future__ import annotations
+
+import os
+import random
+from typing import Dict
+
+BLOCK, SECTOR = 4096, 512  # bytes; a disk writes a sector whole, or not at all
+
+
+class Unsynced:
+    """Of one file, from its last sync on. `file` is open to be read and written."""
+
+    def __init__(self, file: int) -> None:
+        self._file = file
+        self._length = os.fstat(file).st_size  # at the last sync
+        self._blocks: Dict[int, bytes] = {}  # by their numbers: what they had then, nothing beyond the length
+
+    @property
+    def size(self) -> int:
+        """Bytes that would be lost, in whole blocks."""
+        return len(self._blocks) * BLOCK
+
+    def before(self, at: int, size: int) -> None:
+        """So many bytes from here on will be written."""
+        for number in range(at // BLOCK, (at + size - 1) // BLOCK + 1 if size else 0):
+            if number not in self._blocks:
+                known = max(0, min(BLOCK, self._length - number * BLOCK))
+                self._blocks[number] = os.pread(self._file, known, number * BLOCK) if known else b""
+
+    def before_length(self, length: int) -> None:
+        """The file will be cut off there, or be longer."""
+        self.before(length, max(0, self._length - length))
+
+    def lose(self) -> None:
+        """All of it is lost."""
+        for number, had in self._blocks.items():
+            os.pwrite(self._file, had, number * BLOCK)
+        os.ftruncate(self._file, self._length)
+
+    def tear(self, draws: random.Random) -> None:
+        """Each sector of it is kept or lost, by a coin. The file is as long as the last one that was kept needs, and not shorter than it
+        was; sectors that were lost beyond its old length are zeros."""
+        now, length = os.fstat(self._file).st_size, self._length
+        for number, had in self._blocks.items():
+            begin = number * BLOCK
+            has = os.pread(self._file, BLOCK, begin)
+            made = bytearray()
+            for at in range(0, BLOCK, SECTOR):
+                is_kept = begin + at < now and draws.random() < 0.5
+                made += (has if is_kept else had)[at:at + SECTOR].ljust(SECTOR, b"\0")
+                if is_kept:
+                    length = max(length, min(now, begin + at + SECTOR))
+            os.pwrite(self._file, made, begin)
+        os.ftruncate(self._file, length)

@@ -1,0 +1,218 @@
+"""After a finding: the bad key read again, lost messages and members, crashes, and what is kept of the nodes."""
+from __future__ import annotations
+
+import pathlib
+import subprocess
+import tempfile
+import unittest
+from typing import Any, Dict, List, Tuple
+
+from jepmon.fault_times import since, until
+from jepmon.history import Event
+from jepmon.kinds import ABSENT
+from jepmon.notes import OVER, Fault
+from jepmon.testing import ServerError
+from jepmon.testing.after import Reading, listed, lost_members, lost_messages, verdict_on, verdict_on_queue
+from jepmon.testing.crashes import LogWatch, finding
+from jepmon.testing.errors import Died
+from jepmon.testing.losses import Acknowledged, lines, many
+from jepmon.testing.messages import Missing
+from jepmon.testing.node import Node
+from tests.python.test_testing_run import Runs
+
+SECOND = 1_000_000_000
+KILL = Fault("n1 is down, by kill -9 [kill n1, process]", 0, 2 * SECOND, 9, 3 * SECOND)
+SLOW = Fault("all links of n2 are slow [slow n2, links, delay=0.05; while kill n1]", 0, int(2.5 * SECOND), None, None)
+
+# Servers with one fault each, on the template's own.
+SERVES = '''
+class Mine(MyServer):
+    def command(self, node):
+        words = super().command(node)
+        code = """%s"""
+        return [words[0], "-c", "import runpy, sys, threading, time, os\\n" + code
+                + "\\nsys.argv[0] = FILE\\nrunpy.run_path(FILE, run_name='__main__')".replace("FILE", repr(words[1])), *words[2:]]
+'''
+PANICS = SERVES % """
+def die():
+    time.sleep(3); print('panic: assertion failed at raft.c:77', flush=True); os.abort()
+threading.Thread(target=die, daemon=True).start()"""
+SAYS_SO = (SERVES % """
+def die():
+    time.sleep(2); print('panic: assertion failed at raft.c:77', flush=True)
+threading.Thread(target=die, daemon=True).start()""").replace("(MyServer):\n", "(MyServer):\n    crashes = ('^panic: ',)\n")
+IS_STALE = '''
+class Client(MyClient):
+    reads = 0
+    def read(self, key):
+        Client.reads += 1
+        return 7777777 if Client.reads == 60 else super().read(key)
+class Mine(MyServer):
+    objects = {"register": Client}
+    def client(self, number):
+        return Client(self.nodes[0].at)
+'''
+
+
+def event(index: int, kind: str, name: str, value: Any, seconds: float, process: int = 0) -> Event:
+    return Event(index, kind, process, name, 0, value, index + 1, "", {"time": round(seconds * SECOND)})
+
+
+class Times(unittest.TestCase):
+    def test_how_long_after_which_fault(self) -> None:
+        for at, said in ((1.0, ""), (2.07, '0.07 s after "n1 is down, by kill -9" began'),
+                         (2.6, '0.10 s after "all links of n2 are slow" began, while "n1 is down, by kill -9" held')):
+            self.assertEqual(since([KILL, SLOW], round(at * SECOND)), said)
+        self.assertEqual(since([KILL, Fault(OVER, 0, 3 * SECOND, 0, 3 * SECOND)], round(3.5 * SECOND)),
+                         '1.50 s after "n1 is down, by kill -9" began, 0.50 s after it ended')
+        self.assertEqual(since([Fault("kill n1", 3, SECOND, 3, SECOND)], 2 * SECOND), '1.00 s after "kill n1"')
+
+    def test_how_long_before_which_fault(self) -> None:
+        self.assertEqual(until([SLOW, KILL], round(1.9 * SECOND)), '0.10 s before "n1 is down, by kill -9" began')
+        later = KILL._replace(begin_time=3 * SECOND, end_time=4 * SECOND)
+        self.assertEqual(until([SLOW, later], 2 * SECOND),
+                         '0.50 s before "all links of n2 are slow" began and 1.00 s before "n1 is down, by kill -9" began')
+        self.assertEqual(until([KILL], 5 * SECOND), "")
+
+
+class Verdicts(unittest.TestCase):
+    WRITES = [event(0, "invoke", "write", 5, 1.0), event(1, "ok", "write", 5, 1.9)]
+
+    def on(self, answer: Any, **nodes: Any) -> str:
+        readings = {name: value if isinstance(value, Reading) else Reading(value) for name, value in nodes.items()}
+        name = "read"
+        return verdict_on(event(9, "ok", name, answer, 3.5), readings, Acknowledged.of(self.WRITES, 9, [KILL]))
+
+    def test_of_a_register(self) -> None:
+        self.assertEqual(self.on(ABSENT, n1=None, n2=None), "A write is LOST: the wrong answer stays. The write of 5 was acknowledged at "
+                         '1.90 s, 0.10 s before "n1 is down, by kill -9" began.')
+        stale = "The read was STALE: the nodes hold 5, which had been acknowledged before the read began."
+        self.assertEqual(self.on(4, n1=5, n2=5), stale)
+        self.assertEqual(self.on(4, n1=6, n2=6), "LOST or STALE, which can't be told: a write of 6, not acknowledged when the read began, took "
+                         "place since.")
+        self.assertEqual(self.on(4, n1=5, n2=4), "Nodes DIVERGED: they still hold different values.")
+        self.assertEqual(self.on(4, n1=Reading(None, "no answer (TimeoutError)"), n2=5), stale)
+        self.assertIn("can't be told", self.on(4, n1=Reading(None, "no answer (TimeoutError)")))
+
+    def test_of_a_set(self) -> None:
+        adds = [event(index, "ok", "add", index, 1.9 + index / 10) for index in range(3)]
+        acknowledged = Acknowledged.of(adds, 9, [KILL])
+        fatal = event(9, "ok", "read", frozenset({1}), 3.5)
+        readings = {"n1": Reading(frozenset({1}))}
+        self.assertEqual([one.value for one in lost_members(readings, acknowledged)], [0, 2])
+        self.assertEqual(verdict_on(fatal, readings, acknowledged), "Members are LOST, 2 in all: acknowledged 0 (at 1.90 s), 2 (at 2.10 s); the "
+                         'first one 0.10 s before "n1 is down, by kill -9" began, the last one 0.10 s after "n1 is down, by kill -9" began.')
+        self.assertIn("STALE", verdict_on(fatal, {"n1": Reading(frozenset({0, 1, 2}))}, acknowledged))
+
+    def test_of_a_queue(self) -> None:
+        events = [event(index, "ok", "enqueue", index, 1.9) for index in range(4)]
+        events += [event(4, "ok", "dequeue", 3, 2.0), event(5, "info", "dequeue", None, 2.1)]
+        lost = lost_messages(events, [1], Acknowledged.of(events, 9, [KILL]))
+        self.assertEqual([one.value for one in lost], [0, 2])
+        self.assertRegex(verdict_on_queue(8, events, [1], lost), "^Once all faults were ended, queue 8 was drained: 1 messages came. Messages "
+                         "are LOST, 2 in all, 1 of which dequeues that timed out may have taken: acknowledged 0 ")
+        self.assertIn("none is lost", verdict_on_queue(8, events, [0, 1, 2], []))
+
+    def test_many_are_cut(self) -> None:
+        events = [event(index, "ok", "add", index, 1.0) for index in range(40)]
+        self.assertIn(" and 28 more", many(Acknowledged.of(events, 99, []).values))
+
+    def test_nodes_that_answer_alike(self) -> None:
+        self.assertEqual(listed({"n1": Reading(None), "n2": Reading(3), "n3": Reading(None)}), "ABSENT at n1, n3; 3 at n2")
+
+
+class Messages(unittest.TestCase):
+    def test_each_is_listed_with_its_time_and_the_fault_that_followed(self) -> None:
+        with tempfile.TemporaryDirectory() as room:
+            part = pathlib.Path(room, "part-0001")
+            part.mkdir()
+            (part / "history.edn").write_text("".join(line + "\n" for line in (
+                "{:type :invoke, :process 0, :f :enqueue, :value [3 163], :time 1000000000}",
+                "{:type :ok, :process 0, :f :enqueue, :value [3 163], :time 24750000000}",
+                '#_{:type :info, :process :nemesis, :f :begin-fault, :value "n1 is down, by kill -9", :time 24820000000}',
+                '#_{:type :info, :process :nemesis, :f :end-fault, :value "n1 is down, by kill -9", :time 25820000000}')))
+            found = list(lines(pathlib.Path(room), 1, [Missing("jobs", "part-0001", 3, [163], 0), Missing("other", "part-0009", 0, [1], 1)]))
+        self.assertEqual(found, ["1 messages were acknowledged, and never came. This was counted, and is not proved.",
+                                 "queue other: 1 of the 1 that are listed may have been taken by dequeues that timed out",
+                                 'queue jobs: 163 was acknowledged at 24.75 s, 0.07 s before "n1 is down, by kill -9" began'])
+
+
+class Crashes(unittest.TestCase):
+    def node(self, room: str) -> Node:
+        return Node(0, pathlib.Path(room), pathlib.Path(room, "n1.log"), {}, None)  # type: ignore[arg-type]
+
+    def test_a_line_of_the_log(self) -> None:
+        with tempfile.TemporaryDirectory() as room:
+            node = self.node(room)
+            watch = LogWatch([node], ["^panic: "])
+            watch.look()  # there is no log yet
+            node.log.write_text("no panic: here\npanic: half")
+            watch.look()  # a line that is not whole
+            with open(node.log, "a") as log:
+                log.write(" of it\n")
+            with self.assertRaises(Died) as died:
+                watch.look()
+            self.assertEqual(finding(died.exception), "crashed n1: it says in its log: panic: half of it")
+            watch.look()  # each line once
+            LogWatch([node], []).look()
+
+    def test_a_pattern_that_is_none(self) -> None:
+        with self.assertRaisesRegex(ServerError, r"'\(' is no regular expression"):
+            LogWatch([], ["("])
+
+    def test_whom_to_blame(self) -> None:
+        with tempfile.TemporaryDirectory() as room:
+            node = self.node(room)
+            for log, how, said in (("ready\npanic: at raft.c:77\nbye\n", "has died by itself, by signal 6",
+                                    "crashed n1: it has died by itself, by signal 6; its log says: panic: at raft.c:77"),
+                                   ("", "has died by itself, with status 0", "crashed n1: it has died by itself, with status 0"),
+                                   ("write: No space left on device\n", "has died by itself, with status 1", None),
+                                   ("ready\n", "has died by itself, by signal 9", None)):
+                node.log.write_text(log)
+                self.assertEqual(finding(Died("n1", how, node.log)), said)
+
+
+class AsAWhole(Runs):
+    def finding(self, server: str, *words: str) -> "Tuple[subprocess.CompletedProcess[str], pathlib.Path]":
+        ran = self.ran(server, *words)
+        self.assertEqual(ran.returncode, 1, ran.stdout + ran.stderr)
+        folder = (self.room / "runs" / "latest").resolve()
+        self.assertEqual(self.verdict_file(), ran.stdout.splitlines()[-1])
+        again = subprocess.run([folder / "judge-again"], stdout=subprocess.PIPE, stderr=subprocess.DEVNULL, universal_newlines=True,
+                               env=self.environment())
+        self.assertEqual((again.returncode, again.stdout.splitlines()[-1]), (1, ran.stdout.splitlines()[-1]))
+        self.assertTrue((folder / "run.html").exists())
+        return ran, folder
+
+    def test_a_server_that_panics(self) -> None:
+        ran, folder = self.finding(self.mine(PANICS), "--time", "60", "--nemesis", "none")
+        self.assertEqual(ran.stdout.splitlines()[-1],
+                         "crashed n1: it has died by itself, by signal 6; its log says: panic: assertion failed at raft.c:77")
+        self.assertEqual(ran.stderr, "")
+        self.assertTrue((folder / "n1.data" / "journal").exists())
+
+    def test_a_server_that_says_so(self) -> None:
+        ran, _ = self.finding(self.mine(SAYS_SO), "--time", "60", "--nemesis", "none", "--keep-nodes", "never")
+        self.assertEqual(ran.stdout.splitlines()[-1], "crashed n1: it says in its log: panic: assertion failed at raft.c:77")
+        self.assertFalse((self.room / "runs" / "latest" / "n1.data").exists())
+
+    def test_a_write_that_is_lost(self) -> None:
+        from jepmon.testing import template
+
+        ran, folder = self.finding(str(template.__file__), "--time", "60", "--plant", "forgetful")
+        self.assertRegex(" ".join(ran.stderr.split()), "A write is LOST: the wrong answer stays[.]|LOST or STALE")  # as a write was open then
+        self.assertRegex(" ".join(ran.stderr.split()), r'The event came [0-9.]+ s after "n1 is down, by kill -9" began')
+        self.assertIn("LOST", next(folder.glob("part-*/page.html")).read_text())
+        self.assertTrue((folder / "n1.data").is_dir())
+
+    def test_a_read_that_is_stale(self) -> None:
+        ran, _ = self.finding(self.mine(IS_STALE), "--time", "60", "--nemesis", "none")
+        self.assertIn("STALE", " ".join(ran.stderr.split()))
+
+    def test_what_is_kept_of_a_legal_run(self) -> None:
+        kept: Dict[str, List[str]] = {}
+        for words in ([], ["--keep-nodes", "always"]):
+            ran = self.ran(self.mine("class Mine(MyServer):\n    pass\n"), "--time", "2", "--least", "1", "--nemesis", "none", *words)
+            self.assertEqual(ran.returncode, 0, ran.stdout + ran.stderr)
+            kept[" ".join(words)] = [path.name for path in (self.room / "runs" / "latest").glob("n1.data/*")]
+        self.assertEqual(kept, {"": [], "--keep-nodes always": ["journal"]})
