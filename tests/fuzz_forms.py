@@ -39,13 +39,13 @@ class Tally:
         self.by_form: "Counter[str]" = collections.Counter()
         self.by_way: Dict[str, "Counter[str]"] = collections.defaultdict(collections.Counter)
         self.classes: Dict[str, List[Wrong]] = collections.defaultdict(list)
-        self.faults: List[str] = []
+        self.faults: Dict[str, List[str]] = collections.defaultdict(list)  # of the tool itself, by their lines
         self.pairs: Dict[str, List[Pair]] = collections.defaultdict(list)  # judged plainly and by shards, by what came of both
 
     def take(self, case: Case, judged: Judged, is_wrong: bool) -> None:
         fault, line = is_fault(judged)
         if fault:
-            self.faults.append(f"{case.ways}: {line}")
+            self.faults[line].append(str(case.ways))
         word = "wrong" if is_wrong else "judged" if judged.word == case.right else judged.word
         self.by_form[f"{case.form} {word}"] += 1
         for name in case.variations():
@@ -77,7 +77,7 @@ def main() -> int:
                 tally.classes[smallest.signature()].append(smallest)
     shown(tally, given)
     silent, noted, clocks, waiting = (tally.count(word) for word in ("SILENT", "NOTED", "CLOCKS", "waits"))
-    failed = (silent + len(tally.faults) + (noted if noted * NOTED_OF > given.count else 0)
+    failed = (silent + sum(map(len, tally.faults.values())) + (noted if noted * NOTED_OF > given.count else 0)
               + sum(not waits_for(pair.case.variations()) for pair in tally.pairs["another verdict"]))
     print(f"seed {given.seed}, {given.count} histories: {silent} wrong verdicts in silence, {noted} with a warning, "
           f"{clocks} by clocks that differ, {waiting} that wait for what is known, {time.process_time() - began:.0f} seconds of Python")
@@ -98,8 +98,8 @@ def words() -> argparse.Namespace:
 
 
 def shown(tally: Tally, given: argparse.Namespace) -> None:
-    for fault in tally.faults:
-        print(f"FAULT {fault}")
+    for line, ways in tally.faults.items():
+        print(f"{len(ways):6} FAULT {line}, as of {min(ways, key=len)}")
     classes = sorted(tally.classes.items(), key=lambda found: (not found[0].startswith("SILENT"), -len(found[1])))
     for signature, found in classes[:SHOWN]:
         smallest = min(found, key=lambda wrong: len(wrong.case.ops))
