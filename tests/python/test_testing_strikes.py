@@ -246,6 +246,12 @@ class Strikes(unittest.TestCase):
     def test_a_node_that_is_named_is_the_only_one(self) -> None:
         self.assertEqual(self.struck_nodes("one:n2:lasting=0.05..0.2:rest=0.01..0.02"), {"n2"})
 
+    def test_a_single_strike_is_one_at_a_time(self) -> None:
+        self.run_for("single:lasting=0.05..0.2:rest=0.01..0.02", 2.0, single=Strike("{node}", self.during, PROCESS, is_single=True))
+        self.assertGreater(len(self.told), 4)
+        for place, (_, what) in enumerate(sorted(self.told)):
+            self.assertTrue(what.startswith("end" if place % 2 else "begin"))
+
     def test_a_strike_goes_on_until_the_end_of_the_run_at_most(self) -> None:
         self.run_for("other:n1@0.1+60", 2.0)
         self.assertLess(self.told[-1][0], 30.0)

@@ -50,4 +50,5 @@ class Strike(NamedTuple):
     lane: str = OTHER  # strikes of different lanes, or on different nodes, go on at once
     parameters: Mapping[str, Parameter] = {}
     nodes: int = 1  # that there must be at least
+    is_single: bool = False  # one at a time, whichever node is struck
     needs: FrozenSet[str] = frozenset()  # NEEDS_..: what the machine, or the test, must have
