@@ -47,7 +47,7 @@ def _told(folder: RunFolder, bad: Bad) -> Told:
 
     events, faults = read(folder.path / HISTORY, bad.key)
     report = report_of(bad, len(events))
-    found = cause.explain(events, report, folder.options, program=folder.program)
+    found = cause.explain(events, report, folder.options, program=folder.program, faults=faults)
     found = found._replace(sentences=[*read_again(folder), *found.sentences]) if found is not None else None
     walked = page.walked(walk.walk(events, bad.model, bad.budget), {})
     drawn = page.render(page.PageInput(

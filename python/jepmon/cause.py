@@ -13,6 +13,7 @@ import textwrap
 from typing import Callable, Dict, List, Mapping, NamedTuple, Optional, Protocol, Sequence
 
 from . import names as spelling
+from .causes.beside import of_event
 from .causes.case import Case, Found, Mention, mentions
 from .causes.failures import of_another_model, of_failure
 from .causes.locks import of_mutex
@@ -24,6 +25,7 @@ from .causes.unknown import Over, of_unknown
 from .effort import Effort
 from .history import Event, of_key, operations
 from .kinds import MODELS
+from .notes import Fault
 from .program import Options, Report
 from .shrink import Part, smallest
 from .walk import walk
@@ -64,10 +66,11 @@ class Named(Protocol):
 
 
 def explain(events: Sequence[Event], report: Report, options: Options, names: Named = Names(), program: Optional[str] = None,
-            effort: Optional[Effort] = None, shrink: bool = True, known: Optional[Part] = None) -> Optional[Cause]:
+            effort: Optional[Effort] = None, shrink: bool = True, known: Optional[Part] = None,
+            faults: Sequence[Fault] = ()) -> Optional[Cause]:
     """The cause of a verdict: the events are those of the whole history, report is what the program said of them with these
     options. Most of the effort is for the smallest part; `shrink=False` leaves that out, and a part that is known to be illegal at the
-    same event takes its place. None where the verdict is neither illegal nor unknown. A ProgramError comes where the program can't be
+    same event takes its place. Of `faults` those are named that came before what it speaks of. None where the verdict is neither illegal nor unknown. A ProgramError comes where the program can't be
     asked."""
     line = next((line for line in report.keys if line.key == report.key), None)
     if line is None or line.index is None or report.word not in ("illegal", "unknown"):
@@ -81,21 +84,22 @@ def explain(events: Sequence[Event], report: Report, options: Options, names: Na
         found = of_unknown(Over(line.model, line.key, front, whole, own, named, program, effort))
     else:
         later = whole[len(front):]
-        walked = of_illegal(own, front, later, named, program, effort)
+        walked = of_illegal(own, front, later, named, program, effort, faults)
         part = known
         if shrink and known is None:
             hints = [mention.event.index for mention in walked.mentions] if walked is not None else []
             part = smallest(events, report, options, program, effort, hints)
         if walked is None and part is not None:
-            walked = of_part_alone(of_illegal(own, part.events, later, named, program, effort))
+            walked = of_part_alone(of_illegal(own, part.events, later, named, program, effort, faults))
         found = walked or untold(own, front, named)
+        found = found._replace(sentences=[*found.sentences, of_event(faults, front[-1])])
     told = {mention.event.index: mention for mention in sorted(found.mentions, key=lambda mention: bool(mention.note))}
     sentences = [sentence for sentence in [*found.sentences, effort.said] if sentence]
     return Cause(report.verdict, line.key, found.headline, sentences, [told[index] for index in sorted(told)], part, named)
 
 
 def of_illegal(options: Options, front: List[Event], later: List[Event], names: Names, program: Optional[str],
-               effort: Effort) -> Optional[Found]:
+               effort: Effort, faults: Sequence[Fault]) -> Optional[Found]:
     """What there is to say of a key that is illegal at the last of these events; None where the walk does not come to that."""
     made = operations(front, options.concurrency)
     fatal = next(operation for operation in made if operation.completion is front[-1])
@@ -103,7 +107,7 @@ def of_illegal(options: Options, front: List[Event], later: List[Event], names: 
     effort.learn(walked)
     if walked.status != "dead" or walked.fatal != front[-1]:
         return None
-    case = Case(options.model, front[-1].key, front, made, fatal, later, walked, options, names, program, effort)
+    case = Case(options.model, front[-1].key, front, made, fatal, later, walked, options, names, program, effort, faults)
     if fatal.invocation.name not in MODELS[options.model]:
         return of_another_model(case)
     return of_failure(case) if fatal.outcome == "fail" else BY_MODEL[options.model](case)

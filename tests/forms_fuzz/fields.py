@@ -37,6 +37,7 @@ KEYS: Dict[str, Callable[[int], Any]] = {
     "big": lambda key: key + (1 << 40),
     "nested": lambda key: ["t", key],
 }
+READS = ("read", "dequeue")  # whose keys are written as texts where others are numbers, by a variation
 CLIENTS: Dict[str, Callable[[int], Any]] = {
     "int": lambda client: client,
     "str": lambda client: f"c{client}",
@@ -55,8 +56,9 @@ def value_of(value: Any, ways: Variations, is_answer: bool = False) -> Any:
     return str(value) if is_answer and ways.get("stringly") else VALUES[ways.get("values", "int")](value, is_answer)
 
 
-def key_of(key: int, ways: Variations) -> Any:
-    return KEYS[ways.get("keys", "int")](key)
+def key_of(op: Op, ways: Variations) -> Any:
+    key = KEYS[ways.get("keys", "int")](op.key)
+    return str(key) if ways.get("alikekeys") and op.name in READS else key
 
 
 def client_of(client: int, ways: Variations) -> Any:
@@ -151,7 +153,7 @@ def key_fields(op: Op, ways: Variations) -> Dict[str, Any]:
         return {}
     if name in ("two", "twoknown"):
         return {"key": f"k{op.key // 2}", "bucket" if name == "two" else "topic": f"b{op.key % 2}"}
-    return {name: key_of(op.key, ways)}
+    return {name: key_of(op, ways)}
 
 
 MISSING: Dict[str, Callable[[str], Dict[str, Any]]] = {

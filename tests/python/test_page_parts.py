@@ -82,6 +82,15 @@ class Faults(unittest.TestCase):
     def test_by_time_without_times_it_is_left_out(self) -> None:
         self.assertEqual(faults.spans([page.Fault("a", 15, 25, "time")], [event(10), event(20)]), [])
 
+    def test_those_of_one_text_that_overlap_are_one(self) -> None:
+        many = [page.Fault("start", 1), page.Fault("start", 3), page.Fault("stop", 2, 4), page.Fault("start", 5, 5), page.Fault("stop", 6, 7)]
+        found = faults.spans(many, [event(index) for index in range(8)])
+        self.assertEqual(found, [("start", 0, 7), ("stop", 1, 3), ("start", 4, 4), ("stop", 5, 6)])
+
+    def test_of_many_faults_the_last_have_no_row(self) -> None:
+        found = faults.rows([(str(number), number, 100) for number in range(20)], len)
+        self.assertEqual([band.row for band in found], [*range(faults.ROWS), *[faults.NO_ROW] * (20 - faults.ROWS)])
+
     def test_rows_of_the_strip(self) -> None:
         found = faults.rows([("aaaa", 0, 10), ("bb", 2, 3), ("c", 12, 30), ("d", 13, 13)], lambda text: 2 * len(text))
         self.assertEqual([band.row for band in found], [0, 1, 0, 1])

@@ -201,7 +201,7 @@ class AsAWhole(Runs):
 
         ran, folder = self.finding(str(template.__file__), "--time", "60", "--plant", "forgetful")
         self.assertRegex(" ".join(ran.stderr.split()), "A write is LOST: the wrong answer stays[.]|LOST or STALE")  # as a write was open then
-        self.assertRegex(" ".join(ran.stderr.split()), r'The event came [0-9.]+ s after "n1 is down, by kill -9" began')
+        self.assertRegex(" ".join(ran.stderr.split()), r'Event [0-9]+ came [0-9.]+ s after "n1 is down, by kill -9" began')
         self.assertIn("LOST", next(folder.glob("part-*/page.html")).read_text())
         self.assertTrue((folder / "n1.data").is_dir())
 

@@ -5,10 +5,12 @@ from typing import Any, Callable, Iterable, List, Mapping, NamedTuple, Optional,
 
 from ..effort import Effort
 from ..history import Event, Operation
+from ..notes import Fault
 from ..objects import State
 from ..program import Options, check
 from ..shrinking.part import as_asked, text_of
 from ..walk import UNBOUNDED, GaveUp, Stop, Walk, Walker
+from .beside import before
 from .names import Names
 
 ASKED = 4  # other answers that the program is asked about
@@ -50,6 +52,7 @@ class Case(NamedTuple):
     names: Names
     program: Optional[str]
     effort: Effort
+    faults: Sequence[Fault] = ()  # that the history notes
 
     @property
     def object(self) -> str:
@@ -120,6 +123,11 @@ class Case(NamedTuple):
         except GaveUp:
             self.effort.leave_out("from which event on it must have taken place")
         return None
+
+    def ended_by(self, event: Event, owned: str) -> str:
+        """An event from which on something was impossible, whose operation is `owned`, and the fault that came before it."""
+        last = before(self.faults, event)
+        return f"event {event.index}, the :{event.kind} of {owned}" + (f", {last}" if last else "")
 
     def operation_of(self, event: Event) -> Operation:
         """The operation that the event is of."""

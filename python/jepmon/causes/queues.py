@@ -75,8 +75,7 @@ def out_of_order(case: Case, real: List[Operation]) -> Found:
     if last.event is None:
         return Found(headline, other_answers(case), mentions([case.fatal] + real[-2:]))
     by = case.operation_of(last.event)
-    ended = f"event {last.event.index}, the :{last.event.kind} of {case.names.owned(by)}"
-    sentence = f"{shown} can last have been in front just before {ended}."
+    sentence = f"{shown} can last have been in front just before {case.ended_by(last.event, case.names.owned(by))}."
     return Found(headline, [*other_answers(case), sentence], mentions([case.fatal, by] + real[-2:]))
 
 

@@ -25,7 +25,7 @@ def of_register(case: Case) -> Found:
     sentences, told = [while_open(case, value)], mentions([case.fatal])
     if last.event is not None and by is not None:
         ended = last.event
-        sentences.append(f"{shown} was last possible just before event {ended.index}, the :{ended.kind} of {case.names.owned(by)}.")
+        sentences.append(f"{shown} was last possible just before {case.ended_by(ended, case.names.owned(by))}.")
         told += [Mention(by.invocation, ""), Mention(ended, f"from here on {shown} is impossible")]
     source = last_source(bringers)
     if source is not None:

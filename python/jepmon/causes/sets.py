@@ -57,7 +57,7 @@ def of_lacking(case: Case, value: int, told: List[Mention]) -> str:
         return ""
     by = case.operation_of(last)
     told += mentions([by])
-    return f"{shown} can last have been missing just before event {last.index}, the :{last.kind} of {owned(case, by)}."
+    return f"{shown} can last have been missing just before {case.ended_by(last, owned(case, by))}."
 
 
 def of_strange(case: Case, value: int, told: List[Mention]) -> str:
@@ -79,7 +79,7 @@ def of_mixture(case: Case, answer: FrozenSet[int], told: List[Mention]) -> str:
         return "Each of its members may have been added, and each that it lacks may have been missing, but not all at one moment."
     by = case.operation_of(last)
     told += mentions([by])
-    return f"The set can last have been just that before event {last.index}, the :{last.kind} of {owned(case, by)}."
+    return f"The set can last have been just that before {case.ended_by(last, owned(case, by))}."
 
 
 def owned(case: Case, operation: Operation) -> str:

@@ -121,6 +121,29 @@ class Account:
             raise Refused(f"--strict-input takes no guess, and there {_are(len(self.guesses))}: say {options}")
 
 
+class Shifted(Account):
+    """The account of one of several files, whose lines come after those of others."""
+
+    def __init__(self, account: Account, base: int) -> None:
+        super().__init__()
+        self._account, self._base = account, base
+
+    def took(self, first: int, last: int) -> None:
+        self._account.took(first + self._base, last + self._base)
+
+    def skip(self, reason: str, lines: int = 1) -> None:
+        self._account.skip(reason, lines)
+
+    def skip_to(self, line: int, reason: str, comments: int = 0) -> None:
+        self._account.skip_to(line + self._base, reason, comments)
+
+    def guess(self, of: str, assumed: str, option: str) -> None:
+        self._account.guess(of, assumed, option)
+
+    def field(self, name: str) -> None:
+        self._account.field(name)
+
+
 def lines_of(text: str) -> int:
     """How many lines a text has; the last one may lack its line feed."""
     return text.count("\n") + (not text.endswith("\n") and text != "")

@@ -27,7 +27,7 @@ from ..shards.source import History
 from ..shards.splitting import judged_elsewhere
 from ..shards.tally import Tally
 from ..shrinking.part import as_asked, text_of
-from . import as_json, bad_keys, causes, large_key, least, results, terminal, turned, wide
+from . import as_json, bad_keys, causes, doubts, large_key, least, results, terminal, turned, wide
 from .hints import MOST_EVENTS, counted, is_legal_as
 from .judging import Task
 from .large import Large
@@ -122,6 +122,8 @@ def _judge_asked(given: Given, found: Large, page: Optional[Page], folder: Optio
 def _judge(given: Given, found: Large, history: Asked, session: shards.Session, page: Optional[Page], folder: Optional[Folder]) -> int:
     choice = chosen(session.tally, given.model, history.made)
     account_for(choice, history.account)
+    if history.made is not None:
+        doubts.account_for_types(history.made.names.values, given, history.account)
     options = session.options._replace(model=choice.common or EACH)
     path = os.path.join(session.tools.folder, "report.txt")
     with open(path, "wb") as file:
@@ -149,6 +151,7 @@ def _judge(given: Given, found: Large, history: Asked, session: shards.Session, 
         raise Refused(f"{found.name}: {few}")
     copies = {results.HISTORY: session.file.path, results.REPORT: path} if folder is not None else {}
     done = results.Results(found.name, recorded, task, report, keys, terminal.told(recorded, keys), copies)
+    beside += doubts.told(recorded, keys, given)
     results.write(page, folder, done)
     if given.json:
         counted_up = as_json.Counted(session.tally.events, verdict.keys, None, form_of(found), session.tally.outcomes(), of_report)

@@ -38,7 +38,7 @@ def explained(found: Recorded, key: Shown, effort: Effort) -> Shown:
     """The key with its cause."""
     try:
         cause = causes.explain(key.events, key.report, key.options, Names(found.value_names, found.key_names), effort=effort,
-                               known=key.decided.part if key.decided is not None else None)
+                               known=key.decided.part if key.decided is not None else None, faults=found.faults)
         if cause is not None and proviso(key):
             cause = cause._replace(proviso=proviso(key))
         return key._replace(cause=cause)

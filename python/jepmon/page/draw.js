@@ -3,6 +3,7 @@
 const chart = document.getElementById('chart');
 const AROUND = 500; // pixels beside what is to be seen that are drawn too
 const SVG = 'http://www.w3.org/2000/svg';
+const BANDS = 3; // bands over one another are as dark as so many at most
 const BAND_LABEL = 170; // pixels for the text of a short band (page/view.py keeps them free)
 const AXIS = 26, STRIP = 22, HELD = 26, GROWTH = 66;
 let shown = null; // the view that is shown, with its elements
@@ -200,11 +201,13 @@ function drawColumns(range) {
 
 // Faults: a band over the lanes, and its text in the strip above them.
 function drawBands(range) {
+  shown.field.style.setProperty('--share', Math.min(1, BANDS / shown.view.deepest));
   for (const band of shown.view.bands) {
     if (band.begin > range.right || Math.max(band.until, band.begin + 200) < range.left) continue;
     const moment = band.until <= band.begin;
     around(put(element('div', moment ? 'band moment' : 'band', shown.field), band.begin, 0, Math.max(2, band.until - band.begin),
-      shown.view.height));
+      shown.view.height)).title = band.text;
+    if (band.strip < 0) continue;
     const named = put(element('div', moment ? 'fault moment' : 'fault', shown.ticks), band.begin, AXIS + STRIP * band.strip,
       Math.max(band.until - band.begin, 2), null);
     named.title = band.text;

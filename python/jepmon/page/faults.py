@@ -3,7 +3,7 @@ from __future__ import annotations
 
 import bisect
 import itertools
-from typing import Callable, List, NamedTuple, Sequence, Tuple
+from typing import Callable, Dict, List, NamedTuple, Sequence, Tuple
 
 from ..history import Event
 from .given import AnyFault, Fault
@@ -19,6 +19,8 @@ ENDED_BY = {
     "bump-clock": ("reset-clock",),
     "strobe-clock": ("reset-clock",),
 }
+ROWS = 8  # of texts above the bars
+NO_ROW = -1
 STARTS, STOPS = "start-", "stop-"
 
 
@@ -40,7 +42,8 @@ def ended_by(name: str) -> Tuple[str, ...]:
 def spans(faults: Sequence[AnyFault], events: Sequence[Event]) -> List[Tuple[str, int, int]]:
     """The text of each fault that held at some of these events, and between which of them it began and ended: gap i is between
     event i and event i + 1, -1 before the first, and the last one after the last. One that is told by time, where an event has
-    no :time, is left out, and so is one that was over before the first event or began after the last."""
+    no :time, is left out, and so is one that was over before the first event or began after the last. Those of one text that meet are one:
+    a nemesis may begin what holds already, and end none of it."""
     indices = [event.index for event in events]
     times = [event.fields["time"] for event in events if isinstance(event.fields.get("time"), int)]
     times = list(itertools.accumulate(times, max))  # clocks may be set back
@@ -54,16 +57,33 @@ def spans(faults: Sequence[AnyFault], events: Sequence[Event]) -> List[Tuple[str
         end = last if fault.end is None else bisect.bisect_left(of_events, fault.end) - 1
         if begin < last and (end > -1 or fault.end is None):
             found.append((printable(fault.text), begin, end))
-    return found
+    return joined(found)
+
+
+def joined(found: Sequence[Tuple[str, int, int]]) -> List[Tuple[str, int, int]]:
+    """The spans, by their begins; those of one text that overlap are one. Moments stay as they are."""
+    made: List[Tuple[str, int, int]] = []
+    last: Dict[str, int] = {}  # the place in what was made, by text
+    for text, begin, end in found:
+        place = last.get(text)
+        if place is not None and begin < made[place][2] and begin < end:
+            made[place] = (text, made[place][1], max(made[place][2], end))
+            continue
+        last[text] = len(made)
+        made.append((text, begin, end))
+    return made
 
 
 def rows(bands: Sequence[Tuple[str, int, int]], room: Callable[[str], int]) -> List[Band]:
     """The bands with a row for each, so that no text (which takes so much room from its band's begin on) meets another in its
-    row."""
+    row. Where ROWS are taken a band has none (NO_ROW), and is a shade without a text."""
     taken: List[int] = []  # of each row: up to where it is taken
     found: List[Band] = []
     for text, begin, end in bands:
         free = next((row for row, until in enumerate(taken) if until <= begin), len(taken))
+        if free == ROWS:
+            found.append(Band(text, begin, end, NO_ROW))
+            continue
         if free == len(taken):
             taken.append(0)
         taken[free] = max(end, begin + room(text))

@@ -59,8 +59,16 @@ function viewOf(row, stretch, width) {
     fatalColumn: columnOf.has(given.fatal) ? columnOf.get(given.fatal) : xs.length,
   };
   view.strips = view.bands.reduce((most, band) => Math.max(most, band.strip + 1), 0);
+  view.deepest = deepest(view.bands);
   view.blocks = blocksOf(view);
   return view;
+}
+
+// How many bands lie over one another, at most.
+function deepest(bands) {
+  const edges = bands.filter((band) => band.until > band.begin).flatMap((band) => [[band.begin, 1], [band.until, -1]]);
+  let depth = 0;
+  return edges.sort((a, b) => a[0] - b[0] || a[1] - b[1]).reduce((most, [, step]) => Math.max(most, depth += step), 1);
 }
 
 // Which bars meet each stretch of so many pixels: what is drawn is looked up here.

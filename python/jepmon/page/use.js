@@ -226,7 +226,9 @@ function drawOverview() {
   pen.scale(ratio, ratio);
   const x = (place) => place / view.width * wide, y = (place) => 4 + place / view.height * (high - 8);
   pen.fillStyle = colours.getPropertyValue('--band');
+  pen.globalAlpha = Math.min(1, BANDS / view.deepest);
   for (const band of view.bands) pen.fillRect(x(band.begin), 0, Math.max(1, x(band.until) - x(band.begin)), high);
+  pen.globalAlpha = 1;
   for (const bar of view.bars) {
     pen.fillStyle = colours.getPropertyValue(colourOf(bar));
     pen.fillRect(x(bar.x), y(bar.y), Math.max(1, x(bar.right - bar.x)), Math.max(1.5, y(22) - 5));
@@ -287,6 +289,9 @@ window.addEventListener('beforeprint', () => {
   const left = chart.scrollLeft;
   drawRange({left, right: left + 2 * SHEET, top: 0, bottom: view.height});
   for (const [bar, made] of shown.drawn) made.querySelector('.label').style.marginLeft = `${Math.max(0, left - bar.x)}px`;
+  for (const fault of shown.ticks.querySelectorAll('.fault')) {
+    fault.firstChild.style.marginLeft = `${Math.max(0, left - parseFloat(fault.style.left))}px`;
+  }
 });
 window.addEventListener('afterprint', () => {
   for (const made of shown.drawn.values()) made.querySelector('.label').style.marginLeft = '';

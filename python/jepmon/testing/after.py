@@ -14,7 +14,6 @@ import time
 from typing import Any, Callable, Dict, Iterator, List, NamedTuple, Optional, Sequence
 
 from .. import aftermath
-from ..fault_times import since
 from ..history import Event
 from ..kinds import ABSENT
 from ..rates.run import Statuses
@@ -88,9 +87,8 @@ def _read_again(cluster: Cluster, illegal: Illegal, part: pathlib.Path) -> List[
     key = int(Statuses(part).names.get(illegal.key, str(illegal.key)))
     begun = max(event.index for event in events if event.process == fatal.process and event.index < fatal.index)
     acknowledged = Acknowledged.of(events, begun, faults)
-    last = since(faults, fatal.fields.get("time", 0))
     client = cluster.server.objects[cluster.server.model]
-    sentences = [f"The event came {last}." if last else ""]
+    sentences: List[str] = []
     lost: List[One] = []
     if hasattr(client, "read"):
         mend(cluster)

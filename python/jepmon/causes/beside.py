@@ -1,0 +1,29 @@
+"""Which fault came before an event that a cause speaks of."""
+from __future__ import annotations
+
+from typing import Sequence
+
+from ..fault_times import quoted, since
+from ..history import Event
+from ..notes import OVER, Fault
+
+
+def before(faults: Sequence[Fault], event: Event) -> str:
+    """How long after which fault the event came: `0.07 s after "n1 is down, by kill -9" began`. Where the history has no times, after which
+    one; nothing where none had begun by then."""
+    moment = event.fields.get("time")
+    if isinstance(moment, int) and any(fault.begin_time for fault in faults):
+        return since(faults, moment)
+    begun = [fault for fault in faults if fault.begin <= event.index and fault.text != OVER]
+    if not begun:
+        return ""
+    last = max(begun, key=lambda fault: fault.begin)
+    if last.end == last.begin:
+        return f"after {quoted(last)}"
+    return f"after {quoted(last)} " + ("began" if last.end is None or last.end > event.index else "ended")
+
+
+def of_event(faults: Sequence[Fault], event: Event) -> str:
+    """The sentence about the verdict's own event."""
+    last = before(faults, event)
+    return f"Event {event.index} came {last}." if last else ""
