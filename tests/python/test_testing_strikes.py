@@ -68,6 +68,9 @@ class Plans(unittest.TestCase):
         self.assertEqual(len(planned("all", nodes=1)), 1)
         self.assertEqual([len(planned(text, nodes=1)) for text in ("kill,bump", "kill,cut")], [2, 1])
 
+    def test_more_nodes_are_struck_by_more_at_a_time(self) -> None:
+        self.assertEqual([len(planned("all", nodes=nodes)) for nodes in (2, 3, 4, 5)], [2, 2, 4, 4])
+
     def test_a_kind_by_itself_and_a_node_by_itself(self) -> None:
         self.assertEqual({(one.name, one.node) for one in all_planned("kill:n2")}, {("kill", 1)})
 
@@ -185,7 +188,7 @@ class Strikes(unittest.TestCase):
 
     def setUp(self) -> None:
         self.told: List[Tuple[float, str]] = []
-        self.nodes = [mock.Mock(number=number) for number in range(3)]
+        self.nodes = [mock.Mock(number=number) for number in range(4)]
         for number, node in enumerate(self.nodes):
             node.name = f"n{number + 1}"
         self.cluster = mock.Mock(nodes=self.nodes, stopped=threading.Event())
@@ -210,7 +213,7 @@ class Strikes(unittest.TestCase):
 
     def run_for(self, text: str, seconds: float, **kinds: Strike) -> Nemesis:
         strikes = {"one": Strike("{node} is struck", self.during, PROCESS), "other": Strike("{node} too", self.during, OTHER), **kinds}
-        lanes = Plan(text, 3, strikes, (), has_leader=True).lanes(1, seconds)
+        lanes = Plan(text, 4, strikes, (), has_leader=True).lanes(1, seconds)
         self.begun = time.monotonic()
         nemesis = Nemesis(self.monitor, self.cluster, strikes, lanes, seconds)
         nemesis.run()
