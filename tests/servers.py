@@ -1,6 +1,6 @@
 #!/usr/bin/env python3
 """Runs jepmon-test on real servers: each under faults for 20 seconds, which must be legal; each under strikes on its clocks, where they can
-be set; each planted fault until it is found; and each looser durability until a loss of power shows it. It
+be set, and under those of its own; each planted fault until it is found; and each looser durability until a loss of power shows it. It
 ends with 'N passed, M failed', or 'N passed, M failed, K skipped' where a server is not installed (tests/setup installs them). With
 words, it runs the tests of these servers alone, as redis; a word like redis/lease runs one of them.
 """
@@ -34,7 +34,7 @@ AT_ONCE = 2  # tests; each of them mostly waits
 
 class Test(NamedTuple):
     server: str
-    what: str  # an object, a planted fault, a durability, `clocks` or `proxy`
+    what: str  # an object, a planted fault, a durability, `clocks`, `own` strikes or `proxy`
     words: List[str]
     statuses: Tuple[int, ...]
 
@@ -51,6 +51,8 @@ def tests(server: str) -> List[Test]:
     found += [Test(server, "proxy", ["--network", "proxy", "--time", str(SECONDS)], GOOD)]
     if "bump" not in kind.cannot and not clocks.why_not():
         found += [Test(server, "clocks", ["--nemesis", "all,bump,strobe", "--time", str(SECONDS)], GOOD)]
+    if kind.strikes:
+        found += [Test(server, "own", ["--nemesis", ",".join(kind.strikes), "--time", str(SECONDS)], GOOD)]
     if not disks.why_not():
         found += [Test(server, name, ["--durability", name, "--nemesis", "power", "--nodes", "1", "--time", str(seconds(server, name))], (1,))
                   for name in list(kind.durabilities)[1:]]

@@ -68,6 +68,9 @@ class Plans(unittest.TestCase):
         self.assertEqual(len(planned("all", nodes=1)), 1)
         self.assertEqual([len(planned(text, nodes=1)) for text in ("kill,bump", "kill,cut")], [2, 1])
 
+    def test_more_nodes_are_struck_by_more_at_a_time(self) -> None:
+        self.assertEqual([len(planned("all", nodes=nodes)) for nodes in (2, 3, 4, 5)], [2, 2, 4, 4])
+
     def test_a_kind_by_itself_and_a_node_by_itself(self) -> None:
         self.assertEqual({(one.name, one.node) for one in all_planned("kill:n2")}, {("kill", 1)})
 
@@ -185,7 +188,7 @@ class Strikes(unittest.TestCase):
 
     def setUp(self) -> None:
         self.told: List[Tuple[float, str]] = []
-        self.nodes = [mock.Mock(number=number) for number in range(3)]
+        self.nodes = [mock.Mock(number=number) for number in range(4)]
         for number, node in enumerate(self.nodes):
             node.name = f"n{number + 1}"
         self.cluster = mock.Mock(nodes=self.nodes, stopped=threading.Event())
@@ -210,7 +213,7 @@ class Strikes(unittest.TestCase):
 
     def run_for(self, text: str, seconds: float, **kinds: Strike) -> Nemesis:
         strikes = {"one": Strike("{node} is struck", self.during, PROCESS), "other": Strike("{node} too", self.during, OTHER), **kinds}
-        lanes = Plan(text, 3, strikes, (), has_leader=True).lanes(1, seconds)
+        lanes = Plan(text, 4, strikes, (), has_leader=True).lanes(1, seconds)
         self.begun = time.monotonic()
         nemesis = Nemesis(self.monitor, self.cluster, strikes, lanes, seconds)
         nemesis.run()
@@ -245,6 +248,12 @@ class Strikes(unittest.TestCase):
 
     def test_a_node_that_is_named_is_the_only_one(self) -> None:
         self.assertEqual(self.struck_nodes("one:n2:lasting=0.05..0.2:rest=0.01..0.02"), {"n2"})
+
+    def test_a_single_strike_is_one_at_a_time(self) -> None:
+        self.run_for("single:lasting=0.05..0.2:rest=0.01..0.02", 2.0, single=Strike("{node}", self.during, PROCESS, is_single=True))
+        self.assertGreater(len(self.told), 4)
+        for place, (_, what) in enumerate(sorted(self.told)):
+            self.assertTrue(what.startswith("end" if place % 2 else "begin"))
 
     def test_a_strike_goes_on_until_the_end_of_the_run_at_most(self) -> None:
         self.run_for("other:n1@0.1+60", 2.0)

@@ -104,26 +104,27 @@ class Nemesis:
     def _node(self, planned: Planned) -> Iterator[Optional[Node]]:
         """The node that is struck: the one that was planned, or else the next one that no other strike of this lane holds. None where the
         time is up before there is one."""
-        lane = self._strikes[planned.name].lane
+        kind = self._strikes[planned.name]
+        single = [(planned.name, "")] if kind.is_single else []
         first = self._cluster.nodes[planned.node]
         if planned.at_leader:
             first = self._cluster.leader() or first
         nodes = [first] if planned.is_named else self._cluster.nodes[first.number:] + self._cluster.nodes[:first.number]
-        node = self._taken_one(lane, nodes)
+        node = self._taken_one(kind.lane, nodes, single)
         while node is None and self._wait(time.monotonic() + GLANCE):
-            node = self._taken_one(lane, nodes)
+            node = self._taken_one(kind.lane, nodes, single)
         try:
             yield node
         finally:
             if node is not None:
                 with self._lock:
-                    self._taken.discard((lane, node.name))
+                    self._taken -= {(kind.lane, node.name), *single}
 
-    def _taken_one(self, lane: str, nodes: List[Node]) -> Optional[Node]:
+    def _taken_one(self, lane: str, nodes: List[Node], single: List[Tuple[str, str]]) -> Optional[Node]:
         with self._lock:
-            for node in nodes:
+            for node in nodes if not self._taken & set(single) else []:
                 if lane not in ALONE or (lane, node.name) not in self._taken:
-                    self._taken.add((lane, node.name))
+                    self._taken |= {(lane, node.name), *single}
                     return node
         return None
 
