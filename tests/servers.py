@@ -1,5 +1,6 @@
 #!/usr/bin/env python3
-"""Runs jepmon-test on real servers: each under faults for 20 seconds, which must be legal, and each planted fault until it is found. It
+"""Runs jepmon-test on real servers: each under faults for 20 seconds, which must be legal; each under strikes on its clocks, where they can
+be set, and under those of its own; each planted fault until it is found; and each looser durability until a loss of power shows it. It
 ends with 'N passed, M failed', or 'N passed, M failed, K skipped' where a server is not installed (tests/setup installs them). With
 words, it runs the tests of these servers alone, as redis; a word like redis/lease runs one of them.
 """
@@ -18,7 +19,7 @@ from typing import List, NamedTuple, Optional, Tuple, Type
 TOP = pathlib.Path(__file__).resolve().parent.parent
 sys.path.insert(0, str(TOP / "python"))
 
-from jepmon.testing import Server, ServerError  # noqa: E402
+from jepmon.testing import Server, ServerError, clocks, disks  # noqa: E402
 from jepmon.testing.words import SERVERS  # noqa: E402
 from program import PROGRAM  # noqa: E402
 
@@ -27,12 +28,13 @@ NONE = 3  # the status of what came to no verdict
 GOOD = (0, 2)  # on a busy machine so many operations may time out at once that a key is unknown
 PATIENT = ["--least", "3", "--patience", "600"]
 PATIENCE = 1800.0  # seconds, on a busy machine
+COUNTED = [("rabbitmq", "early")]
 AT_ONCE = 2  # tests; each of them mostly waits
 
 
 class Test(NamedTuple):
     server: str
-    what: str  # an object, a planted fault, or `proxy`
+    what: str  # an object, a planted fault, a durability, `clocks`, `own` strikes or `proxy`
     words: List[str]
     statuses: Tuple[int, ...]
 
@@ -47,12 +49,19 @@ def tests(server: str) -> List[Test]:
     kind = kind_of(server)
     found = [Test(server, model, ["--object", model, "--time", str(SECONDS)], GOOD) for model in kind.objects]
     found += [Test(server, "proxy", ["--network", "proxy", "--time", str(SECONDS)], GOOD)]
+    if "bump" not in kind.cannot and not clocks.why_not():
+        found += [Test(server, "clocks", ["--nemesis", "all,bump,strobe", "--time", str(SECONDS)], GOOD)]
+    if kind.strikes:
+        found += [Test(server, "own", ["--nemesis", ",".join(kind.strikes), "--time", str(SECONDS)], GOOD)]
+    if not disks.why_not():
+        found += [Test(server, name, ["--durability", name, "--nemesis", "power", "--nodes", "1", "--time", str(seconds(server, name))], (1,))
+                  for name in list(kind.durabilities)[1:]]
     return found + [Test(server, plant, ["--plant", plant, "--time", str(seconds(server, plant))], (1,)) for plant in kind.plants]
 
 
 def seconds(server: str, plant: str) -> int:
     """What is lost is found by counting, at the end: such a run ends by itself."""
-    return 2 * SECONDS if (server, plant) == ("rabbitmq", "early") else UNTIL_FOUND
+    return 2 * SECONDS if (server, plant) in COUNTED or server == "beanstalkd" else UNTIL_FOUND
 
 
 def kind_of(server: str) -> Type[Server]:

@@ -15,7 +15,7 @@ import sys
 from typing import Iterator, List, Optional
 
 from . import command
-from .forms import Refused, door, files, mapping_words
+from .forms import Refused, door, files, mapping_words, meant_words
 from .forms.recorded import Options, Recorded, recorded
 from .judge import models
 from .judge.hints import outcomes
@@ -61,6 +61,7 @@ def _given(arguments: Optional[List[str]]) -> argparse.Namespace:
     parser.add_argument("file", nargs="?", default="-", metavar="FILE", help="a history of JSON or CSV, or a log; - for standard input")
     parser.add_argument("--key", metavar="K", type=number("a key", KEYS), help="the history has no keys: each value is of key K")
     parser.add_argument("--nil-is-absent", action="store_true", help="null is what a missing key answers, and is judged")
+    meant_words.add(parser)
     mapping_words.add(parser)
     parser.add_argument("--strict-input", action="store_true", help="refuse each guess, as of the key, in place of turning by it")
     try:
@@ -71,7 +72,8 @@ def _given(arguments: Optional[List[str]]) -> argparse.Namespace:
 
 def _found(given: argparse.Namespace) -> Recorded:
     source = files.found(given.file)
-    options = Options(None if given.key is None else str(given.key), given.nil_is_absent, None, mapping_words.of(given))
+    options = Options(None if given.key is None else str(given.key), given.nil_is_absent, None, mapping_words.of(given), True, given.values,
+                      tuple(given.absent), given.initial)
     try:
         if door.form_of(source, options) in (door.OWN, door.JEPSEN, door.KEYED):
             raise Refused(f"it is EDN: {command.tool('from-jepsen')} turns it")

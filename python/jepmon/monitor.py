@@ -50,7 +50,7 @@ from .program import Options
 from .record import Record
 from .run_folder import RunFolder, new_folder
 from .telling import Telling, test_unknown
-from .values import integer, key_of, told
+from .values import NONE, integer, key_of, missing, told
 from .verdicts import NotLegal, Unknown
 
 
@@ -73,6 +73,8 @@ class Monitor:
                  said once, on standard error, and the test goes on
     unknown      "raise": a key over its budget ends the test by Unknown. "drop": it is judged up to there, its later operations
                  are not told any more, the other keys go on, and nothing is raised; see dropped. The log has it taken back
+    initial      what each key of a register holds before its first operation; else it is missing. begin says it of one key
+    absent       what the store answers for a missing key in place of None, as "" or 0; writing it deletes the key
     log          gets each line that tells something, with its :time in nanoseconds since the monitor was made, and the notes;
                  `jepmon script` with the same options judges it again. A file is best open(path, "w", buffering=1), by lines:
                  so it is whole where the test is killed
@@ -91,9 +93,11 @@ class Monitor:
         unknown: str = "raise",
         failed: Exceptions = (),
         out: Union[str, os.PathLike[str], None] = None,
+        initial: Optional[int] = None,
+        absent: object = NONE,
     ) -> None:
         test_unknown(unknown)
-        ends = endings(expected, failed)
+        ends, of_missing = endings(expected, failed), missing(initial, absent)
         options = Options(concurrency, model, budget)
         begun, clock = datetime.datetime.now().astimezone(), time.monotonic_ns()
         exchange = Exchange(options.words(), timeout, program)
@@ -104,7 +108,7 @@ class Monitor:
             raise
         self.concurrency = concurrency
         self.folder: Optional[pathlib.Path] = folder.path if folder is not None else None  # of this run
-        self._telling = Telling(exchange, Record(log, folder, clock), options, unknown, ends)
+        self._telling = Telling(exchange, Record(log, folder, clock), options, unknown, ends, missing=of_missing)
         self._numbers = Numbers(self._telling.names)
 
     # --- Operations, each a block ---
@@ -118,7 +122,7 @@ class Monitor:
 
     def cas(self, key: int, old: Optional[int], new: Optional[int]) -> Operation:
         """Sets the key to new where it is old. Where the store says that it was not: op.fail()."""
-        return Operation(self._telling, "cas", key, f"[{integer(told(old))} {self._brought(key, new)}]")
+        return Operation(self._telling, "cas", key, f"[{integer(told(self._telling.missing.seen(old)))} {self._brought(key, new)}]")
 
     def add(self, key: int, value: int) -> Operation:
         return Operation(self._telling, "add", key, self._brought(key, value))
@@ -139,6 +143,7 @@ class Monitor:
 
     def _brought(self, key: int, value: Optional[int]) -> str:
         """The text of a value that an operation brings in."""
+        value = self._telling.missing.seen(value)
         text = integer(told(value))
         if value is not None and value != ABSENT:
             self._numbers.test(key_of(key), value)
@@ -175,7 +180,7 @@ class Monitor:
     # --- What is said of a key ---
 
     def begin(self, key: int, value: Optional[int] = ABSENT) -> None:
-        """Says what a register holds at first; without it, the first operation on the key says ABSENT."""
+        """Says what a register holds at first; without it, the first operation on the key says what Monitor(initial=..) has, or ABSENT."""
         self._telling.begin(key_of(key), self._brought(key, value))
 
     def set_model(self, key: int, model: str) -> None:

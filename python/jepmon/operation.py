@@ -6,7 +6,7 @@ from typing import Any, Optional, Protocol, Type
 
 from .endings import Endings, outcome_of
 from .kinds import ANSWERED
-from .values import Value, integer, key_of, members, told
+from .values import Missing, Value, integer, key_of, members, told
 from .verdicts import NotLegal
 
 UNSET: Any = object()
@@ -17,6 +17,7 @@ class Teller(Protocol):
     """Whom operations tell of."""
 
     endings: Endings
+    missing: Missing
 
     def invoke(self, name: str, key: int, part: str) -> Optional[int]:
         """The thread of jepmon that it is on; none where it was not told."""
@@ -112,6 +113,8 @@ class Operation(Block):
         if self._misused is not None:
             return self._end_misused(error)
         if error is None:
+            if self.value is not UNSET:
+                self.__dict__.update(value=self._telling.missing.seen(self.value))
             self._end(self._said_outcome())
             return False
         outcome = outcome_of(error, self._telling.endings)

@@ -9,7 +9,7 @@ from .conclusion import Conclusion, leave_cause, leave_page, leave_verdict
 from .endings import Endings
 from .exchange import Exchange
 from .hints import hint_of_model, hint_of_refusal, hint_of_unknown
-from .kinds import ABSENT, REGISTERS
+from .kinds import REGISTERS
 from .lines import End, Line, LineQueue
 from .notes import BEGIN
 from .owner import OwnedLock
@@ -17,7 +17,7 @@ from .processes import Processes
 from .program import Options
 from .record import Record
 from .told import Told
-from .values import integer
+from .values import Missing
 from .verdicts import Illegal, NotLegal, Refused, Unknown
 
 BROKEN_OFF = "the exchange with jepmon was broken off"
@@ -39,9 +39,9 @@ class Telling:
     to the test."""
 
     def __init__(self, exchange: Exchange, record: Record, options: Options, unknown: str, endings: Endings,
-                 homes: Optional[Dict[int, int]] = None) -> None:
+                 homes: Optional[Dict[int, int]] = None, missing: Missing = Missing()) -> None:
         self.lock = OwnedLock()
-        self.unknown, self.endings = unknown, endings
+        self.unknown, self.endings, self.missing = unknown, endings, missing
         self.told = Told()
         self.dropped: Dict[int, Unknown] = {}  # keys over their budget that are not told any more, and what was said of them
         self.length = 0  # events that were told
@@ -70,7 +70,7 @@ class Telling:
         with self.lock:
             self._test_running()
             if key not in self.dropped and self.is_register(key):
-                self._begin(key, integer(ABSENT))
+                self._begin(key, str(self.missing.initial))
             if key in self.dropped:
                 return None
             thread = self._processes.take()

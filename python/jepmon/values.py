@@ -1,7 +1,7 @@
 """Keys and values of a live test, as they are told to jepmon: integers, and ABSENT for what a missing key answers."""
 from __future__ import annotations
 
-from typing import Any, Iterable, Union
+from typing import Any, Iterable, NamedTuple, Tuple, Union
 
 from .kinds import ABSENT, KEYS, VALUES
 
@@ -18,6 +18,17 @@ def key_of(key: Any) -> int:
 def told(value: Any) -> Any:
     """None stands for a missing key."""
     return ABSENT if value is None else value
+
+
+class Missing(NamedTuple):
+    """What a register holds before its first operation, and which answer beside None means that a key is missing."""
+
+    initial: int = ABSENT
+    answers: Tuple[Any, ...] = ()  # none or one, which may be of any type
+
+    def seen(self, value: Any) -> Any:
+        """None for an answer that means a missing key. False and 0 are two answers, as 1 and 1.0 are."""
+        return None if any(type(value) is type(answer) and value == answer for answer in self.answers) else value
 
 
 def integer(value: Any) -> str:
@@ -37,3 +48,12 @@ def members(value: Any) -> str:
 def readable(line: str) -> str:
     """A line of a history, for people."""
     return line.replace(str(ABSENT), "ABSENT")
+
+
+NONE: Any = object()  # no answer but None means a missing key
+
+
+def missing(initial: Any, absent: Any) -> Missing:
+    """What the options of a monitor say."""
+    answers = () if absent is NONE else (absent,)
+    return Missing(int(integer(told(Missing(answers=answers).seen(initial)))), answers)

@@ -14,6 +14,7 @@ from .printed import FORMS, OF_EVENTS, REGISTERS_ALONE, Printed, drawn, printed,
 TOGETHER = 100  # cases whose verdicts are asked for at once
 PLAIN = 18  # histories of each model by which the usual lines of a form are learned
 HARMLESS: Sequence[Variations] = ({}, {"keys": "str"}, {"values": "str", "clients": "str"})  # variations that ask for no warning
+SETTLED_BY = {"skew": "--skew", "missing": "--absent", "gozero": "--absent"}  # the option that settles a variation
 KEPT = ("form", "seed")  # of the variations: what is none
 
 
@@ -41,10 +42,15 @@ class Wrong(NamedTuple):
     judged: Judged
     warnings: List[str]
 
+    @property
+    def word(self) -> str:
+        """SILENT, NOTED, or CLOCKS: the verdict is right by the times that were printed, and a line says that they have to be of one clock."""
+        return "SILENT" if not self.warnings else "CLOCKS" if "skew" in self.case.ways else "NOTED"
+
     def signature(self) -> str:
         """The class of the fault, by which cases are counted."""
         ways = " ".join(f"{name}={self.case.ways[name]}" for name in self.case.variations())
-        return f"{'NOTED' if self.warnings else 'SILENT'} {self.case.right}->{self.judged.word} {self.case.form}: {ways}"
+        return f"{self.word} {self.case.right}->{self.judged.word} {self.case.form}: {ways}"
 
 
 def cases(seed: int, count: int, form: Optional[str] = None) -> Iterator[Case]:
@@ -105,7 +111,8 @@ class Examiner:
             return None
         again = self.room.judged(case.printed())
         self.learn(case.form)
-        return Wrong(case, again, self.usual.warnings(case.form, again))
+        options = [SETTLED_BY[name] for name in case.variations() if name in SETTLED_BY]
+        return Wrong(case, again, self.usual.warnings(case.form, again, options))
 
     def is_within_errors(self, case: Case) -> bool:
         """Whether an illegal history may have been legal by the times that were printed: the errors of clocks that were stated, or

@@ -37,6 +37,7 @@ KEYS: Dict[str, Callable[[int], Any]] = {
     "big": lambda key: key + (1 << 40),
     "nested": lambda key: ["t", key],
 }
+READS = ("read", "dequeue")  # whose keys are written as texts where others are numbers, by a variation
 CLIENTS: Dict[str, Callable[[int], Any]] = {
     "int": lambda client: client,
     "str": lambda client: f"c{client}",
@@ -52,11 +53,13 @@ def value_of(value: Any, ways: Variations, is_answer: bool = False) -> Any:
         return None
     if isinstance(value, (tuple, frozenset)):
         return [value_of(member, ways, is_answer) for member in (value if isinstance(value, tuple) else sorted(value))]
-    return str(value) if is_answer and ways.get("stringly") else VALUES[ways.get("values", "int")](value, is_answer)
+    written = VALUES[ways.get("values", "int")](value, is_answer)
+    return str(written) if is_answer and ways.get("stringly") and isinstance(written, (int, float)) else written
 
 
-def key_of(key: int, ways: Variations) -> Any:
-    return KEYS[ways.get("keys", "int")](key)
+def key_of(op: Op, ways: Variations) -> Any:
+    key = KEYS[ways.get("keys", "int")](op.key)
+    return str(key) if ways.get("alikekeys") and op.name in READS else key
 
 
 def client_of(client: int, ways: Variations) -> Any:
@@ -151,7 +154,7 @@ def key_fields(op: Op, ways: Variations) -> Dict[str, Any]:
         return {}
     if name in ("two", "twoknown"):
         return {"key": f"k{op.key // 2}", "bucket" if name == "two" else "topic": f"b{op.key % 2}"}
-    return {name: key_of(op.key, ways)}
+    return {name: key_of(op, ways)}
 
 
 MISSING: Dict[str, Callable[[str], Dict[str, Any]]] = {
@@ -169,6 +172,17 @@ def missing_fields(op: Op, name: str, ways: Variations) -> Dict[str, Any]:
     return MISSING[ways["missing"]](name)
 
 
+def options_of(ways: Variations) -> List[str]:
+    """What a user says of values, if the variation has it said: what a missing key answers, and that a number and its text are one."""
+    words: List[str] = []
+    absent = "" if ways.get("gozero") else {"empty": "", "zero": "0", "None": "None"}.get(ways.get("missing", ""))
+    if absent is not None and not (absent == "0" and ways.get("values") == "zero"):
+        words += ["--absent", absent]
+    if ways.get("stringly") or ways.get("values") == "mixfloat":
+        words += ["--values", "number"]
+    return words
+
+
 WORDS: Dict[str, Dict[str, str]] = {
     "plain": {},
     "kv": {"read": "get", "write": "put"},
@@ -181,7 +195,3 @@ WORDS: Dict[str, Dict[str, str]] = {
 
 def word_of(op: Op, ways: Variations) -> str:
     return WORDS[ways.get("words", "plain")].get(op.name, op.name)
-
-
-def members(values: List[Any], open_with: str, close_with: str) -> str:
-    return open_with + " ".join(map(str, values)) + close_with

@@ -5,7 +5,7 @@ import json
 import random
 from typing import Any, Dict, List, Sequence
 
-from .fields import Variations, clock_of, value_of
+from .fields import READS, Variations, clock_of, value_of
 from .histories import Op
 from .rows import is_answered, twice
 from .truth import points
@@ -37,9 +37,11 @@ def _body(op: Op, side: int, ways: Variations) -> str:
     return spelled(value_of(value, ways, answered))
 
 
-def _key(key: int, ways: Variations) -> str:
+def _key(op: Op, ways: Variations) -> str:
     way = ways.get("keys", "int")
-    return str(key + (1 << 40)) if way == "big" else KEYS[way].format(key)
+    if ways.get("alikekeys") and op.name in READS:
+        way = "numstr" if way == "int" else way
+    return str(op.key + (1 << 40)) if way == "big" else KEYS[way].format(op.key)
 
 
 # --- EDN ---
@@ -72,7 +74,7 @@ def events(ops: Sequence[Op], ways: Variations, chance: random.Random) -> str:
 
 def _fields(op: Op, side: int, process: int, ways: Variations) -> Dict[str, str]:
     kind = "invoke" if side == 0 else op.outcome
-    body, key = _body(op, side, ways), _key(op.key, ways)
+    body, key = _body(op, side, ways), _key(op, ways)
     value = body if ways.get("nokeys") or ways.get("keyfield") else f"[{key} {body}]"
     if ways.get("tuplemap") and not ways.get("nokeys"):
         value = f"{{:key {key}, :value {body}}}"

@@ -7,7 +7,7 @@ import os
 import pathlib
 import re
 import tempfile
-from typing import Dict, FrozenSet, List, NamedTuple, Tuple
+from typing import Dict, FrozenSet, List, NamedTuple, Sequence, Tuple
 
 from jepmon import command
 from jepmon.judge import tool
@@ -75,8 +75,10 @@ class Usual:
     def knows(self, form: str) -> bool:
         return form in self._shapes
 
-    def warnings(self, form: str, judged: Judged) -> List[str]:
-        return [line for line in judged.lines if line.startswith("judge: ") and shape(line) not in self._shapes[form]]
+    def warnings(self, form: str, judged: Judged, options: Sequence[str]) -> List[str]:
+        """The lines that are not usual, or that name one of these options."""
+        return [line for line in judged.lines if line.startswith("judge: ")
+                and (shape(line) not in self._shapes[form] or any(option in line for option in options))]
 
 
 def is_fault(judged: Judged) -> Tuple[bool, str]:

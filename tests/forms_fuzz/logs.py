@@ -87,7 +87,7 @@ def otlp(ops: Sequence[Op], ways: Variations, chance: random.Random) -> str:
 def _span(op: Op, ways: Variations, end: int) -> Dict[str, Any]:
     attributes = [_attribute("client", op.client)]
     if not ways.get("nokeys"):
-        attributes.append(_attribute("key", key_of(op.key, ways)))
+        attributes.append(_attribute("key", key_of(op, ways)))
     if op.name == "cas":
         attributes += [_attribute(name, value_of(part, ways)) for name, part in zip(("old", "new"), op.part)]
     elif op.part is not None:

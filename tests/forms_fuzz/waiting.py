@@ -5,7 +5,7 @@ from typing import Dict, List
 
 WAITS: Dict[str, str] = {
     "gozero": "absent values", "missing": "absent values", "stringly": "types that look alike", "values": "types that look alike",
-    "skew": "clock errors", "outcome": "dequeues of false", "several": "several files",
+    "alikekeys": "keys that look alike",
 }
 
 

@@ -13,6 +13,7 @@ from typing import Iterator, List, Tuple
 from unittest import mock
 
 from jepmon import command
+from jepmon.forms import door
 from jepmon.judge import tool
 
 from . import TOP
@@ -102,6 +103,17 @@ class Ways(unittest.TestCase):
             with self.subTest(more=more):
                 self.assertEqual(self.agree(["h.edn"])[0], want)
 
+    def test_times_that_go_back_in_jepmons_own_form(self) -> None:
+        """Two clients hold a lock, and their files stand one behind the other."""
+        lines = [f"{{:type :{kind}, :process {process}, :f :{name}, :value [0 nil], :time {time}}}\n" for process, name, kind, time in (
+            (0, "acquire", "invoke", 1), (0, "acquire", "ok", 2), (0, "release", "invoke", 7), (0, "release", "ok", 8), (1, "acquire", "invoke", 3),
+            (1, "acquire", "ok", 4))]
+        (self.room / "h.edn").write_text("".join(lines))
+        self.assertEqual(self.agree(["h.edn"]), (1, "illegal key 0 index 3"))
+        self.assertEqual(self.agree(["h.edn", "--order", "lines"]), (0, "legal"))
+        (self.room / "h.edn").write_text("".join(line.replace("{", f"{{:index {index}, ") for index, line in enumerate(lines)))
+        self.assertEqual(self.agree(["h.edn"]), (0, "legal"))
+
     def test_commands(self) -> None:
         (self.room / "h.edn").write_text("[:model 7 :register]\n" + own("7", "1"))
         said: List[str] = []
@@ -109,9 +121,25 @@ class Ways(unittest.TestCase):
             self.assertEqual((tool.main(["h.edn"]), tool.main(["h.edn", "--jobs", "1"])), (0, 3))
         self.assertIn("line 1: [:model 7 :register] is a command of jepmon script, which shards do not take", said[-1])
 
+    def test_what_is_long_goes_to_shards(self) -> None:
+        """By itself, of whatever form; here what has more than 3 events is long."""
+        row = '{{"client": 0, "op": "{}", "key": "k", "value": {}, "start": {}, "end": {}}}\n'
+        texts = {"a.jsonl": row.format("write", 1, 1, 2) + row.format("read", 2, 3, 4),
+                 "b.csv": "client,op,key,value,start,end\n0,write,k,1,1,2\n1,read,k,2,3,4\n",
+                 "c.edn": own(":k", "2"), "d.txt": "".join(f"{p}\t:{kind}\t:{name}\t[:k {part}]\n" for kind, p, name, part in (
+                     ("invoke", 0, "write", "1"), ("ok", 0, "write", "1"), ("invoke", 1, "read", "nil"), ("ok", 1, "read", "2")))}
+        for name, text in texts.items():
+            (self.room / name).write_text(text)
+            want = judged([name])
+            self.assertEqual(want[0], 1)
+            with self.subTest(name=name), mock.patch.object(door, "MOST_WHOLE", 3):
+                with mock.patch.object(tool, "_judge_whole", side_effect=AssertionError("by one check")):
+                    self.assertEqual(judged([name]), want)
+
     def test_two_processes(self) -> None:
         (self.room / "h.edn").write_text("".join(
-            f"{{:process 0, :type :{kind}, :f :write, :key :{key}, :value 1}}\n" for key in "abc" for kind in ("invoke", "ok")))
+            f"{{:process 0, :type :{kind}, :f :{name}, :key :{key}, :value {part}}}\n" for key in "abc" for name, kind, part in (
+                ("write", "invoke", "1"), ("write", "ok", "1"), ("read", "invoke", "nil"), ("read", "ok", "1"))))
         self.assertEqual(self.agree(["h.edn"], "1", "2"), (0, "legal"))
 
 

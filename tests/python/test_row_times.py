@@ -1,10 +1,10 @@
 """The order of rows: times of a stated unit, dates, clock errors, events whose times go back, and rows that are there twice."""
 from __future__ import annotations
 
+import random
 import unittest
 from typing import Any, Dict, List
 
-from jepmon.forms import intervals
 from jepmon.forms.mapping import Mapping
 
 from .translated import Case, events, lines, made, operation
@@ -128,7 +128,7 @@ class TimesThatGoBack(Case):
 class Times(Case):
     def test_equal_ones_are_a_guess(self) -> None:
         rows = [event(1, "invoke", 5), event(1, "ok", 5), event(0, "invoke", 5, "release"), event(0, "ok", 5, "release")]
-        self.assertIn("--order", self.guessed(lines(*rows)))
+        self.assertIn("--order lines or --order times", self.guessed(lines(*rows)))
         self.assertEqual([line[:4] for line in events(lines(*rows), mapping=SAYS._replace(order="times"))], ["invo", "invo", "ok 0", "ok 1"])
 
     def test_none_and_clients_that_stand_together_are_a_guess(self) -> None:
@@ -168,15 +168,13 @@ class Twice(Case):
 
 class Lost(unittest.TestCase):
     def test_against_all_pairs(self) -> None:
-        import random
-
         draw = random.Random(4)
         for _ in range(40):
-            made = [intervals.Interval(0, None, "write", draw.choice("xy"), 1, None, call, call + draw.randrange(9), "ok", None, 0)
-                    for call in (draw.randrange(40) for _ in range(12))]
-            pairs = [(one, other) for one in made for other in made if one.key == other.key and one.ends is not None]
-            want = sum(one.ends < other.call <= one.ends + 6 for one, other in pairs if one.ends is not None)
-            self.assertEqual(intervals.lost(made, 3), want)
+            rows = [operation(key=draw.choice("xy"), start=call, end=call + draw.randrange(9), seq=number)
+                    for number, call in enumerate(draw.randrange(40) for _ in range(12))]
+            want = sum(one["end"] < other["start"] <= one["end"] + 6 for one in rows for other in rows if one["key"] == other["key"])
+            notes = made(lines(*rows), mapping=SAYS._replace(skew="3ms", time_unit="ms")).notes
+            self.assertTrue(any(f"by 3ms: {want} orders" in note for note in notes), (want, notes))
 
 
 if __name__ == "__main__":

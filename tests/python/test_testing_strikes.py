@@ -64,6 +64,13 @@ class Plans(unittest.TestCase):
         for seed in range(10):
             self.assertLessEqual(max(one.lasting for one in all_planned("all", seed=seed, seconds=4.0)), 1.0)
 
+    def test_one_node_is_struck_by_one_thing_at_a_time(self) -> None:
+        self.assertEqual(len(planned("all", nodes=1)), 1)
+        self.assertEqual([len(planned(text, nodes=1)) for text in ("kill,bump", "kill,cut")], [2, 1])
+
+    def test_more_nodes_are_struck_by_more_at_a_time(self) -> None:
+        self.assertEqual([len(planned("all", nodes=nodes)) for nodes in (2, 3, 4, 5)], [2, 2, 4, 4])
+
     def test_a_kind_by_itself_and_a_node_by_itself(self) -> None:
         self.assertEqual({(one.name, one.node) for one in all_planned("kill:n2")}, {("kill", 1)})
 
@@ -92,7 +99,7 @@ class Plans(unittest.TestCase):
         found = plan("all", 1, why_not=why_not)
         self.assertEqual((found.names, found.left_out), (["kill", "pause", "slow", "reorder", "corrupt"],
                                                          {"cut": "there is no wire", "loss": "there is no wire"}))
-        with self.assertRaisesRegex(ServerError, r"^--nemesis loss: there is no wire; there are kill, pause, slow, reorder, corrupt$"):
+        with self.assertRaisesRegex(ServerError, r"^--nemesis loss: there is no wire; there are kill, pause, slow, reorder, corrupt, "):
             plan("kill,loss", 1, why_not=why_not)
 
     def test_the_leader(self) -> None:
@@ -181,7 +188,7 @@ class Strikes(unittest.TestCase):
 
     def setUp(self) -> None:
         self.told: List[Tuple[float, str]] = []
-        self.nodes = [mock.Mock(number=number) for number in range(3)]
+        self.nodes = [mock.Mock(number=number) for number in range(4)]
         for number, node in enumerate(self.nodes):
             node.name = f"n{number + 1}"
         self.cluster = mock.Mock(nodes=self.nodes, stopped=threading.Event())
@@ -206,14 +213,14 @@ class Strikes(unittest.TestCase):
 
     def run_for(self, text: str, seconds: float, **kinds: Strike) -> Nemesis:
         strikes = {"one": Strike("{node} is struck", self.during, PROCESS), "other": Strike("{node} too", self.during, OTHER), **kinds}
-        lanes = Plan(text, 3, strikes, (), has_leader=True).lanes(1, seconds)
+        lanes = Plan(text, 4, strikes, (), has_leader=True).lanes(1, seconds)
         self.begun = time.monotonic()
         nemesis = Nemesis(self.monitor, self.cluster, strikes, lanes, seconds)
         nemesis.run()
         return nemesis
 
     def test_a_schedule_overlaps(self) -> None:
-        nemesis = self.run_for("one:n1@0.2+0.8,one:n2@0.4+0.2,other:n1@0.5+0.2", 1.5)
+        nemesis = self.run_for("one:n1@0.2+0.8,one:n2@0.4+0.2,other:n1@0.5+0.2", 3.0)
         self.assertEqual([what for _, what in self.told], ["begin n1", "begin n2", "begin n1", "end n2", "end n1", "end n1"])
         for (at, _), wanted in zip(self.told, (0.2, 0.4, 0.5, 0.6, 0.7, 1.0)):
             self.assertGreaterEqual(at, wanted)
@@ -222,12 +229,12 @@ class Strikes(unittest.TestCase):
         self.assertEqual(dict(nemesis.struck), {"one": 2, "other": 1})
 
     def test_the_leader_is_struck(self) -> None:
-        self.run_for("one:leader@0.1+0.1", 0.4)
+        self.run_for("one:leader@0.1+0.1", 2.0)
         self.assertEqual(self.noted, ["n3 is struck [one n3, process]"])
 
     def struck_nodes(self, text: str) -> "set[str]":
         """Of two lanes of strikes on processes; no node is struck by both at once."""
-        self.run_for(text, 1.0)
+        self.run_for(text, 2.0)
         going_on: List[str] = []
         for _, what in sorted(self.told):
             word, node = what.split()
@@ -242,8 +249,14 @@ class Strikes(unittest.TestCase):
     def test_a_node_that_is_named_is_the_only_one(self) -> None:
         self.assertEqual(self.struck_nodes("one:n2:lasting=0.05..0.2:rest=0.01..0.02"), {"n2"})
 
+    def test_a_single_strike_is_one_at_a_time(self) -> None:
+        self.run_for("single:lasting=0.05..0.2:rest=0.01..0.02", 2.0, single=Strike("{node}", self.during, PROCESS, is_single=True))
+        self.assertGreater(len(self.told), 4)
+        for place, (_, what) in enumerate(sorted(self.told)):
+            self.assertTrue(what.startswith("end" if place % 2 else "begin"))
+
     def test_a_strike_goes_on_until_the_end_of_the_run_at_most(self) -> None:
-        self.run_for("other:n1@0.1+60", 0.4)
+        self.run_for("other:n1@0.1+60", 2.0)
         self.assertLess(self.told[-1][0], 30.0)
         self.assertEqual(self.told[-1][1], "end n1")
 

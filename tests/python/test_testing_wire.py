@@ -8,11 +8,14 @@ import time
 import unittest
 from typing import Callable, List, Tuple
 
+from jepmon.testing import Came, Failed
 from jepmon.testing.node import ADDRESS
+from jepmon.testing.servers.beanstalkd import Queue
 from jepmon.testing.wire.amqp import Amqp, method, short
 from jepmon.testing.wire.postgres import Postgres, SqlError, values
 from jepmon.testing.wire.resp import Redis, RedisError, request
 from jepmon.testing.wire.streams import Stream
+from jepmon.testing.wire.zookeeper import Found, NoSession, ZooKeeper, ZooKeeperError
 
 PATIENCE = 60.0
 
@@ -50,6 +53,80 @@ class OfRedis(Scripted):
         with self.assertRaisesRegex(ConnectionError, "closed"):
             redis.call("GET", "k")
         self.assertFalse(redis.stream.is_open)
+
+
+class OfZooKeeper(Scripted):
+    """A frame is its length and what it holds; an answer begins with the number of what was asked, a transaction and an error."""
+
+    SESSION = b"\0\0\0\x25" + struct.pack(">iiq", 0, 60_000, 7) + b"\0\0\0\x10" + b"p" * 16 + b"\0"
+    STAT = b"\0" * 32 + struct.pack(">i", 5) + b"\0" * 32  # four times and transactions, the version, and the rest
+
+    def answer(self, number: int, error: int = 0, rest: bytes = b"") -> bytes:
+        body = struct.pack(">iqi", number, 99, error) + rest
+        return struct.pack(">i", len(body)) + body
+
+    def connection(self, *answers: bytes) -> ZooKeeper:
+        zookeeper = ZooKeeper(self.server(*answers), PATIENCE)
+        self.addCleanup(zookeeper.close)
+        return zookeeper
+
+    def test_a_node_is_read_with_its_version(self) -> None:
+        zookeeper = self.connection(self.SESSION, self.answer(1, 0, b"\0\0\0\2" + b"12" + self.STAT), self.answer(2, -101))
+        self.assertEqual(zookeeper.get("/r1"), Found(b"12", 5))
+        self.assertIsNone(zookeeper.get("/r2"))
+        self.assertEqual(self.asked[1], b"\0\0\0\x10" + b"\0\0\0\1" + b"\0\0\0\4" + b"\0\0\0\3/r1" + b"\0")
+
+    def test_a_node_that_is_not_there_is_created(self) -> None:
+        zookeeper = self.connection(self.SESSION, self.answer(1, -101), self.answer(2))
+        zookeeper.put("/r1", b"12")
+        self.assertEqual([int.from_bytes(asked[8:12], "big") for asked in self.asked[1:]], [5, 1])
+
+    def test_an_error_says_that_it_did_not_take_place(self) -> None:
+        zookeeper = self.connection(self.SESSION, self.answer(1, -103), b"")
+        with self.assertRaises(ZooKeeperError) as caught:
+            zookeeper.set("/r1", b"12", 4)
+        self.assertEqual(caught.exception.code, -103)
+        with self.assertRaisesRegex(ConnectionError, "closed"):
+            zookeeper.set("/r1", b"12")
+        self.assertFalse(zookeeper.stream.is_open)
+
+    def test_no_session_says_that_nothing_was_asked(self) -> None:
+        with self.assertRaises(NoSession):
+            self.connection(b"").get("/r1")
+        with self.assertRaisesRegex(NoSession, "run out"):
+            self.connection(self.SESSION[:8] + b"\0\0\0\0" + self.SESSION[12:]).get("/r1")
+
+
+class OfBeanstalkd(Scripted):
+    def queue(self, *answers: bytes) -> Queue:
+        queue = Queue(self.server(*answers), Came())
+        self.addCleanup(queue.close)
+        return queue
+
+    def test_a_job_goes_by_its_tube(self) -> None:
+        queue = self.queue(b"USING q7\r\n", b"INSERTED 1\r\n", b"INSERTED 2\r\n", b"DRAINING\r\n")
+        queue.enqueue(7, 123)
+        queue.enqueue(7, 4)
+        with self.assertRaisesRegex(Failed, "DRAINING"):
+            queue.enqueue(7, 5)
+        self.assertEqual(self.asked, [b"use q7\r\n", b"put 10 0 5 3\r\n123\r\n", b"put 10 0 5 1\r\n4\r\n", b"put 10 0 5 1\r\n5\r\n"])
+
+    def test_a_job_comes_and_one_that_has_come_does_not_count(self) -> None:
+        reserved = b"RESERVED 9 3\r\n123\r\n"
+        queue = self.queue(b"WATCHING 2\r\n", b"WATCHING 1\r\n", reserved, b"DELETED\r\n", reserved, b"NOT_FOUND\r\n", b"TIMED_OUT\r\n", b"")
+        self.assertEqual(queue.dequeue(7), 123)
+        with self.assertRaisesRegex(Failed, "come before"):
+            queue.dequeue(7)
+        self.assertIsNone(queue.dequeue(7))
+        with self.assertRaises(Failed):
+            queue.dequeue(7)  # the connection has ended: what may have been sent comes again
+        self.assertEqual(self.asked[:4], [b"watch q7\r\n", b"ignore default\r\n", b"reserve-with-timeout 0\r\n", b"delete 9\r\n"])
+
+    def test_a_job_whose_answer_is_missing_may_be_inserted(self) -> None:
+        with self.assertRaises(OSError):
+            self.queue(b"USING q7\r\n", b"").enqueue(7, 1)
+        with self.assertRaises(Failed):
+            self.queue(b"").enqueue(7, 1)  # the tube was not named yet
 
 
 class OfStreams(Scripted):

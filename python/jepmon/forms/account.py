@@ -49,9 +49,12 @@ class Account:
 
     def took(self, first: int, last: int) -> None:
         """Records the lines of an event. A line that holds several events counts once."""
-        self._latest = max(last - max(first - 1, self._until), 0)
+        if first > self._until:
+            self._latest, self._until = last - first + 1, last
+        else:
+            self._latest = max(last - self._until, 0)
+            self._until = max(self._until, last)
         self.taken += self._latest
-        self._until = max(self._until, last)
 
     def drop(self, reason: str) -> None:
         """Skips the lines that were taken last: they hold no event."""
@@ -119,6 +122,29 @@ class Account:
         if self.guesses:
             options = ", ".join(dict.fromkeys(guess.option for guess in self.guesses))
             raise Refused(f"--strict-input takes no guess, and there {_are(len(self.guesses))}: say {options}")
+
+
+class Shifted(Account):
+    """The account of one of several files, whose lines come after those of others."""
+
+    def __init__(self, account: Account, base: int) -> None:
+        super().__init__()
+        self._account, self._base = account, base
+
+    def took(self, first: int, last: int) -> None:
+        self._account.took(first + self._base, last + self._base)
+
+    def skip(self, reason: str, lines: int = 1) -> None:
+        self._account.skip(reason, lines)
+
+    def skip_to(self, line: int, reason: str, comments: int = 0) -> None:
+        self._account.skip_to(line + self._base, reason, comments)
+
+    def guess(self, of: str, assumed: str, option: str) -> None:
+        self._account.guess(of, assumed, option)
+
+    def field(self, name: str) -> None:
+        self._account.field(name)
 
 
 def lines_of(text: str) -> int:

@@ -10,16 +10,19 @@ import itertools
 from typing import Any, Dict, Iterable, Iterator, List, NamedTuple, Optional, Sequence, Set
 
 from .. import edn, history, kinds
+from ..edn import Value
 from ..from_jepsen.collect import Asked
 from ..from_jepsen.events import History
+from ..from_jepsen.meant import EXACT, Meant, spelled
 from ..from_jepsen.refusal import NoKey
 from ..from_jepsen.source import Texts
 from ..from_jepsen.turn import Turned, collected, written
 from ..from_jepsen.write import OF_SHARDS, Limits
 from . import Refused, detect, edn_rows, log_rows, logs, others, own_front, rows, rows_told
-from .account import KEY, Account
+from .account import KEY, Account, Shifted
+from .clients import Clients
 from .clock import nanoseconds
-from .files import Source
+from .files import Several, Source
 from .mapping import LINES, Mapping
 from .written import Written
 
@@ -38,15 +41,38 @@ class Options(NamedTuple):
     model: Optional[str] = None  # that is stated for all keys
     mapping: Mapping = Mapping()  # what is said of the fields of rows, and of the order of events
     guesses_key: bool = True  # whether a history without keys is one object, if no key is said
+    values: Optional[str] = None  # which values are one: "exact", "text" or "number"
+    absent: Sequence[str] = ()  # the texts of answers that mean that a key is missing
+    initial: Optional[str] = None  # what each register holds at first
+
+    @property
+    def missing_is_judged(self) -> bool:
+        return self.nil_is_absent or bool(self.absent)
+
+    @property
+    def meant(self) -> Meant:
+        return Meant(self.values or EXACT, frozenset(self.absent))
+
+    @property
+    def first(self) -> Optional[Value]:
+        """What each register holds at first, as it is judged; none if that is a missing key."""
+        value = None if self.initial is None else self.meant.value(spelled(self.initial))
+        return None if value == "nil" else value
+
+    @property
+    def says_of_values(self) -> bool:
+        return self.missing_is_judged or self.initial is not None or not self.meant.says_nothing
 
     def asked(self, order: Optional[str]) -> Asked:
         """The same of events in Jepsen's form, which are taken in this order."""
         skew = 0 if self.mapping.skew is None else nanoseconds(self.mapping.skew)
-        return Asked(self.key, self.nil_is_absent, order, self.mapping.contradictions, 0 if order == LINES else skew)
+        return Asked(self.key, self.missing_is_judged, order, self.mapping.contradictions, 0 if order == LINES else skew, meant=self.meant)
 
 
 def form_of(source: Source, options: Options) -> str:
     """The form of a history, by how it begins. Refused if it is none that is known, or has no event."""
+    if isinstance(source, Several):
+        return _form_of_several(source, options)
     if options.mapping.line is not None:
         return detect.LINES
     form = detect.CSV if options.mapping.columns else detect.form_of(source.front)
@@ -54,20 +80,39 @@ def form_of(source: Source, options: Options) -> str:
         raise Refused("there is no event in it: nothing was judged")
     if form != detect.EDN:
         return LOG if form == detect.LOG else form
-    is_plain = options.key is None and not options.nil_is_absent and options.mapping.order in (None, LINES) and options.mapping.skew is None
+    is_plain = options.key is None and not options.says_of_values and options.mapping.order in (None, LINES) and options.mapping.skew is None
     if is_plain and own_front.is_own(source.front):
-        return OWN
+        is_asked = options.mapping.order == LINES
+        return OWN if is_asked or own_front.is_in_order(source.front, source.texts()) else JEPSEN
     return KEYED if edn_rows.is_one(source.front) else JEPSEN
+
+
+def _form_of_several(source: Several, options: Options) -> str:
+    """The form of all these files."""
+    if options.mapping.order == LINES:
+        raise Refused("several files have no order of lines: leave --order lines out")
+    forms = {}
+    for part in source.parts:
+        try:
+            form = form_of(part, options)
+        except Refused as refusal:
+            raise Refused(f"{part.name}: {refusal}") from refusal
+        forms[JEPSEN if form == OWN else form] = part.name
+    if len(forms) > 1:
+        listed = ", ".join(f"{name} is {form}" for form, name in forms.items())
+        raise Refused(f"files of one history are of one form: {listed}")
+    return next(iter(forms))
 
 
 class Translation:
     """A history of another form than jepmon's own, event by event."""
 
-    def __init__(self, form: str, read: History, account: Account, nil_is_absent: bool, notes: Sequence[str], texts: Optional[Texts]) -> None:
+    def __init__(self, form: str, read: History, account: Account, nil_is_absent: bool, notes: Sequence[str], texts: Optional[Texts],
+                 initial: Optional[Value]) -> None:
         self.form = form
         self.history = read
         self.account = account
-        self.nil_is_absent = nil_is_absent
+        self.nil_is_absent, self.initial = nil_is_absent, initial
         self.notes = notes  # of how it came about
         self._texts = texts  # in EDN, whose events say more than was kept of them
 
@@ -80,7 +125,7 @@ class Translation:
 
     def turned(self, in_shards: bool) -> Turned:
         """It in jepmon's own form."""
-        return written(self.history, self.nil_is_absent, OF_SHARDS if in_shards else Limits())
+        return written(self.history, self.nil_is_absent, OF_SHARDS if in_shards else Limits(), self.initial)
 
     def beside(self, wanted: Set[int], begun: int) -> Dict[int, Dict[str, Any]]:
         """What the events of these indices say of when they came, and of errors; so many events come before the history's own."""
@@ -103,22 +148,22 @@ def translated(source: Source, form: str, options: Options) -> Translation:
     account = Account()
     if form == JEPSEN:
         _refuse_others(source.front, options)
-        read = _collected(source, options, account)
-        return Translation(form, read, account, options.nil_is_absent, (), source)
+        read = _collected(source, options, account, source)
+        return Translation(form, read, account, options.missing_is_judged, (), source, options.first)
     if form == LOG:
         log = logs.Log(source)
-        read = _collected(log, options, account)
+        read = _collected(log, options, account, source)
         read.is_of_rows = True
         if not log.has_times:
             log.blocks.close(account)
-        return Translation(form, read, account, options.nil_is_absent, (), log)
+        return Translation(form, read, account, options.missing_is_judged, (), log, options.first)
     made = _of_rows(source, form, options, account)
-    return Translation(form, made.history, account, options.nil_is_absent or made.nil_is_absent, made.notes, None)
+    return Translation(form, made.history, account, options.missing_is_judged or made.nil_is_absent, made.notes, None, options.first)
 
 
 def _of_rows(source: Source, form: str, options: Options, account: Account) -> Written:
     """The events of rows; those without keys are of the one object that they are then."""
-    asked = rows_told.Asked(options.mapping, options.model is not None, options.asked(LINES))
+    asked = rows_told.Asked(options.mapping, options.model is not None, options.asked(LINES), source)
     try:
         return _written(source, form, asked, account)
     except NoKey:
@@ -133,9 +178,19 @@ def _written(source: Source, form: str, asked: rows_told.Asked, account: Account
     if form == KEYED:
         made = edn_rows.written(source, account, asked)
     else:
-        made = rows_told.written(lambda part: rows_of(form, source.texts(), asked.mapping, part), account, asked)
+        made = rows_told.written(lambda part: _rows(source, form, asked.mapping, part), account, asked)
     account.close(source.lines())
     return made
+
+
+def _rows(source: Source, form: str, mapping: Mapping, account: Account) -> Iterator[rows.Row]:
+    """The rows of a file, or of several."""
+    if not isinstance(source, Several):
+        yield from rows_of(form, source.texts(), mapping, account)
+        return
+    for part, base in zip(source.parts, source.bases):
+        for line, fields in rows_of(form, part.texts(), mapping, Shifted(account, base)):
+            yield rows.Row(base + line, fields)
 
 
 def rows_of(form: str, texts: Iterable[str], mapping: Mapping, account: Account) -> Iterator[rows.Row]:
@@ -149,16 +204,20 @@ def rows_of(form: str, texts: Iterable[str], mapping: Mapping, account: Account)
     return rows.of_csv(texts, mapping, account)
 
 
-def _collected(texts: Texts, options: Options, account: Account) -> History:
+def _collected(texts: Texts, options: Options, account: Account, source: Source) -> History:
     """The events of EDN; those whose values have no keys are of the one object that they are then."""
+    clients = Clients(source, options.mapping.clients)
     asked = options.asked(options.mapping.order)
+    if isinstance(source, Several):
+        asked = asked._replace(clients=clients.named, parts=tuple(zip(source.bases, source.parts)) if texts is source else ())
     try:
-        return collected(texts, asked, account)
+        read = collected(texts, asked, account)
     except NoKey:
         if options.key is not None or not options.guesses_key:
             raise
-    read = collected(texts, asked._replace(key="0"), account)
-    account.guess(*NO_KEYS)
+        read = collected(texts, asked._replace(key="0"), account)
+        account.guess(*NO_KEYS)
+    clients.close(account)
     return read
 
 

@@ -1,6 +1,8 @@
 """Where a recorded history lies: a file, one compressed by gzip, a folder as Jepsen's store/latest, standard input."""
 from __future__ import annotations
 
+import bisect
+import collections
 import io
 import os
 import pathlib
@@ -78,6 +80,53 @@ class Source:
     def _is_marked(self) -> bool:
         with self._opened() as file:
             return next(decoding.unpacked(decoding.pieces_of(file)), b"").startswith(decoding.MARK)  # type: ignore[arg-type]
+
+
+class Several(Source):
+    """The history that several files tell together, as those of several clients. Lines are counted through all of them."""
+
+    def __init__(self, parts: Sequence[Source]) -> None:
+        self.parts = parts
+        self.name = f"{parts[0].name} and {len(parts) - 1} more"
+        self.path, self.is_plain = None, False
+        self.front = parts[0].front
+        self._text = None
+        self.bases: List[int] = []  # how many lines come before those of each
+        count = 0
+        for part in parts:
+            collections.deque(part.texts(), 0)
+            self.bases.append(count)
+            count += part.lines()
+        self._count = count
+        self.notes = [f"{part.name}: {note}" for part in parts for note in part.notes]
+        self.notes.append("lines are counted through: " + ", ".join(
+            f"{part.name} has {base + 1} to {end}" for part, base, end in zip(parts, self.bases, [*self.bases[1:], count])))
+
+    def texts(self) -> Iterator[str]:
+        """The texts, one behind the other."""
+        for part in self.parts:
+            last = ""
+            for piece in part.texts():
+                last = piece
+                yield piece
+            if last and not last.endswith("\n"):
+                yield "\n"
+
+    def lines(self) -> int:
+        return self._count
+
+    def part_of(self, line: int) -> str:
+        """The name of the file that has a line."""
+        return self.parts[bisect.bisect_left(self.bases, line) - 1].name
+
+
+def several(words: Sequence[str]) -> Source:
+    """The history in these files and folders, each of which has a part of it; one is all of it."""
+    if len(words) == 1:
+        return found(words[0])
+    if len(set(words)) < len(words):
+        raise Refused(f"{next(word for word in words if words.count(word) > 1)}: it is named twice")
+    return Several([found(word) for word in words])
 
 
 def found(word: str) -> Source:

@@ -33,6 +33,7 @@ class Interval(NamedTuple):
     outcome: str  # "ok", "fail" or "info"
     error: Optional[str]
     mark: int  # by which rows are told apart; 0 of a read
+    last: int = 0  # the line of its completion, if that is another one
 
 
 class Fault(NamedTuple):
@@ -92,14 +93,14 @@ class Operations:
         self._ends: Dict[Any, List[Time]] = {}  # of those that have certainly returned
 
     def take(self, interval: Interval, keeps_times: bool) -> None:
-        line, client, name, key, argument, answer, call, ends, outcome, error, mark = interval
+        line, client, name, key, argument, answer, call, ends, outcome, error, mark, last = interval
         self._count += 1
         self._returned += ends is not None
         self._clients.add(client)
         key = () if key is MISSING else key
         value = answer if outcome == "ok" and name in ANSWERED else argument
         begun = line, name, key, () if argument is MISSING else argument, call, None, mark
-        self._timeline.operation(client, call, ends, outcome, begun, (line, name, key, () if value is MISSING else value, ends, error, mark))
+        self._timeline.operation(client, call, ends, outcome, begun, (last or line, name, key, () if value is MISSING else value, ends, error, mark))
         if keeps_times:
             named = key if isinstance(key, (str, int, float)) else element(key)
             self._calls.setdefault(named, []).append(call)

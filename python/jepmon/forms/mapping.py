@@ -22,6 +22,7 @@ from . import Refused
 from .vocabulary import ABSENT, MEANINGS, OPERATIONS, TYPES, UNITS, Slot, plain, slot_of
 
 LINES, INDEX, TIMES = ORDERS = ("lines", "index", "times")  # the orders in which events are taken
+APART, ONE = CLIENTS = ("apart", "one")
 MEMBERS = ("fields", "ignore", "rows", "line", "columns", "operations", "outcomes", "absent", "time_unit")
 
 
@@ -40,6 +41,7 @@ class Mapping(NamedTuple):
     time_unit: Optional[str] = None
     order: Optional[str] = None
     skew: Optional[str] = None
+    clients: Optional[str] = None  # whether a client of one name in several files is one, or as many as files have it
     unfinished: bool = False  # whether it is said that a client does one operation after the other
     contradictions: Map[str, str] = {}  # the type of an :ok of EDN that is answered by false ("false"), or has an :error ("error")
 

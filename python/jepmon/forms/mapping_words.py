@@ -6,7 +6,7 @@ from typing import Tuple
 
 from . import mapping
 from .clock import nanoseconds
-from .mapping import ORDERS, Mapping
+from .mapping import CLIENTS, ORDERS, Mapping
 from .vocabulary import UNITS
 
 CONTRADICTIONS = ("false", "error")
@@ -30,6 +30,7 @@ def add_order(parser: argparse.ArgumentParser) -> None:
     group = parser.add_argument_group("events of any form")
     group.add_argument("--order", choices=ORDERS, help="take events in the order of their lines, of their :index, or of their times")
     group.add_argument("--skew", metavar="TIME", help="each clock may be wrong by so much, as 5ms: orders within it are not taken as certain")
+    group.add_argument("--clients", choices=CLIENTS, help="of several files: clients of one name are apart, a client for each file, or one")
     group.add_argument("--outcome", metavar="WORD=KIND", action="append", default=[], type=_contradiction, help="false=fail: an :ok of EDN that is "
                        "answered by false is a :fail; error=info: an :ok with an :error is an :info; KIND is ok, fail or info")
 
@@ -45,7 +46,7 @@ def of_order(given: argparse.Namespace) -> Mapping:
     """What the options of any form say."""
     if given.skew is not None:
         nanoseconds(given.skew)  # which refuses what is none
-    return Mapping(order=given.order, skew=given.skew, contradictions=dict(given.outcome))
+    return Mapping(order=given.order, skew=given.skew, clients=given.clients, contradictions=dict(given.outcome))
 
 
 def of(given: argparse.Namespace) -> Mapping:
@@ -56,5 +57,5 @@ def of(given: argparse.Namespace) -> Mapping:
     for field in given.ignore:
         made = made.with_ignored(field)
     any_form = of_order(given)
-    return made._replace(time_unit=given.time_unit or made.time_unit, order=any_form.order, skew=any_form.skew,
+    return made._replace(time_unit=given.time_unit or made.time_unit, order=any_form.order, skew=any_form.skew, clients=any_form.clients,
                          contradictions=any_form.contradictions, unfinished=given.unfinished is not None)

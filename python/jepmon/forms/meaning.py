@@ -63,6 +63,8 @@ class Reader:
         if self.of_operations is None:
             self.of_operations = (call[1] not in (None, MISSING) and self._kind(word[1]) != "invoke"
                                   or "return" in uses and ("duration" in uses or not {"type", "time"} & set(uses)))
+            if not self.of_operations and word[0] is None and "duration" in uses and "time" in uses:
+                self._refuse_time_alone(line, uses["time"][0].name, list(fields))
         kind, name, of_type = self._kind_and_name(line, word, said)
         if "index" in uses:
             self._test_index(line, uses["index"][0], fields)
@@ -202,6 +204,11 @@ class Reader:
                 span = clock.span(line, fields[use.name], use.slot.unit)
                 at, end_at = (at, at + span) if at is not None else ((end_at or 0) - span, end_at)
         return None, at, end_at
+
+    def _refuse_time_alone(self, line: int, name: str, names: List[str]) -> None:
+        """Refuses rows with one time and a duration."""
+        raise Refused(f"line {line}: this row has a duration, and {shown(name)} is its call or its return: say --map {shown(name)}=call, or --map "
+                      f"{shown(name)}=return; {_listed(names)}")
 
     def refuse_bare(self) -> None:
         """Refuses rows that all tell of no operation."""

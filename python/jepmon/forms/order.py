@@ -7,6 +7,7 @@ from .account import ORDER, Account
 
 TOGETHER = ("the events of each client stand together, as in files put one behind the other, and have no times: they are taken in the "
             "order in which they stand")
+EITHER = "--order lines or --order times"  # which settles the order of events with one time
 LEAST = 4  # events of each of two clients
 
 

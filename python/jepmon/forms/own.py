@@ -24,6 +24,7 @@ NOTE = re.compile(r'#_\{(?:[^{}"\\]|"(?:[^"\\\n]|\\.)*")*\}[ \t\r]*')
 COMMAND = re.compile(r"\[:(?:(model) ([0-9]{1,5}) :([a-z-]+)|(budget) ([0-9]{1,5}) ([0-9]{1,6})|(rewind) ([0-9]{1,7})|verdict)\]\r?")
 COMMAND_LINE = re.compile(rf"^{COMMAND.pattern}$", re.M)
 INDEX = re.compile(r",? :index ([0-9]{1,10})(?![0-9])")
+TIME = re.compile(r",? :time ([0-9]{1,19})(?![0-9])")
 FAULTS = frozenset({"partition", "heal", "pause", "resume", "crash", "restart", "lose-replies"})  # jepmon's own
 
 NIL, NUMBER, PAIR, SET = "n", "0", "[", "#"  # the parts of events, by how they begin
@@ -134,13 +135,21 @@ def facts_of(events: List[str], numbers: List[int]) -> Optional[Facts]:
     """What these lines tell, where each is an event that the program takes after those before it."""
     facts, opened = Facts(), {}  # type: Facts, Opened
     keys, infos, count = facts.keys, facts.infos, facts.outcomes
+    latest = 0
     for index, (line, number) in enumerate(zip(events, numbers)):
         found = EVENT.fullmatch(line)
         if found is None:
             return None
         kind, process, name, key, part, further = found.groups()
-        if ":index" in further and not _is_index(further, index):
-            return None
+        if ":index" in further:
+            if not _is_index(further, index):
+                return None
+        elif ":time" in further:
+            time = TIME.search(further)
+            if time is not None:
+                if int(time.group(1)) < latest:
+                    return None  # its lines are not in the order of its events
+                latest = int(time.group(1))
         facts.lines.append(number)
         if process == ":nemesis":
             if name not in FAULTS:

@@ -1,12 +1,31 @@
-"""Whether a text is in jepmon's own form, by its first event."""
+"""Whether a text is in jepmon's own form, by its first event, and whether its lines are in the order of its events."""
 from __future__ import annotations
 
+import itertools
+import operator
 import re
+from typing import Iterable
 
 from ..shards.doubt import Doubt
 from ..shards.lines import HEAD, rows_of
 
 EVENT = re.compile(r"\{(?::index [0-9]+,? )?:type :[a-z]+,? :process [0-9:]")
+
+
+TIME = re.compile(r", :time ([0-9]{1,19})(?![0-9])")
+
+
+def is_in_order(front: str, texts: Iterable[str]) -> bool:
+    """Whether no :time goes back. It is asked where the first events have a time and no :index, which would be the order."""
+    if ":time" not in front or ":index" in front:
+        return True
+    latest = 0
+    for text in texts:
+        times = [latest, *map(int, TIME.findall(text))]
+        if not all(map(operator.le, times, itertools.islice(times, 1, None))):
+            return False
+        latest = times[-1]
+    return True
 
 
 def is_own(front: str) -> bool:

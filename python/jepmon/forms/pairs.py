@@ -96,7 +96,7 @@ class Pairs:
         told = begun._replace(name=name, value=value, answer=answer, outcome=kind, call=begun.time, ends=returns,
                               error=end.error if end is not None else None,
                               key=begun.key if begun.key is not MISSING or end is None else end.key)
-        return intervals.of_told(told, self._writer)
+        return intervals.of_told(told, self._writer)._replace(last=0 if end is None else end.line)
 
 
 def _time(told: Told) -> Time:

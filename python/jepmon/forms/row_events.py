@@ -9,7 +9,7 @@ from .answers import answered, completed
 from .clock import Time
 from .mapping import LINES, Mapping
 from .meaning import ANSWERED, MISSING, Reader, Told
-from .order import Blocks
+from .order import EITHER, Blocks
 from .unfinished import Unfinished
 from .written import Writer, element, value_of, word
 
@@ -97,7 +97,7 @@ class Events:
         self._unfinished.close()
         if self._order is None and self._ties:
             self._account.guess(ORDER, f"events of several clients have one time, {self._ties} times, first in line {self._first_tie}: they are taken "
-                                "in the order in which they stand, and --order times takes them as open at once", "--order")
+                                "in the order in which they stand, not as open at once", EITHER)
         if self._order is None and self._latest is None:
             self._blocks.close(self._account)
         return [f"client {number} is {element(name)}" for name, number in self._clients.items()]

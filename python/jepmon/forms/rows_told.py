@@ -2,17 +2,19 @@
 from __future__ import annotations
 
 import itertools
-from typing import Callable, Iterable, Iterator, NamedTuple
+from typing import Callable, Iterable, Iterator, NamedTuple, Optional
 
 from ..from_jepsen import collect
 from . import etcd, intervals
 from .account import ORDER, Account
+from .clients import Clients
 from .clock import nanoseconds
+from .files import Source
 from .log_rows import OTHERS
 from .mapping import LINES, TIMES, Mapping
-from .meaning import Reader, Told
+from .meaning import MISSING, Reader, Told
 from .pairs import Pairs
-from .row_events import Events, TimesGoBack
+from .row_events import Events, TimesGoBack, is_nemesis
 from .rows import Row
 from .shapes import shown
 from .written import Writer, Written
@@ -26,6 +28,7 @@ class Asked(NamedTuple):
     mapping: Mapping = Mapping()
     has_model: bool = False
     of_events: collect.Asked = collect.Asked()  # the same of the events that are made of them
+    source: Optional[Source] = None  # which has them
 
 
 def written(rows: Rows, account: Account, asked: Asked = Asked()) -> Written:
@@ -53,6 +56,7 @@ class _Turning:
         self._writer = Writer(collector)
         self._reader = Reader(asked.mapping, account, asked.has_model)
         self._is_etcd = False
+        self._clients = Clients(asked.source, asked.mapping.clients)
 
     def written(self) -> Written:
         told = self._told()
@@ -64,7 +68,7 @@ class _Turning:
         told = itertools.chain([first], told)
         if self._reader.of_operations:
             return self._of_operations(intervals.of_told(each, self._writer) for each in told)
-        if self._mapping.order == TIMES or self._mapping.skew is not None:
+        if self._mapping.order == TIMES or self._mapping.skew is not None or self._clients.are_of_several_files:
             return self._of_events_by_times(told, 0)
         events = Events(self._writer, self._reader, self._account, self._mapping)
         for each in told:
@@ -97,6 +101,7 @@ class _Turning:
         return self._writer.written(notes, self._is_etcd)
 
     def _close(self) -> None:
+        self._clients.close(self._account)
         for name in self._reader.close():
             self._account.field(name)
 
@@ -112,5 +117,7 @@ class _Turning:
             told = self._reader.told(row)
             if told is None:
                 self._account.drop(OTHERS)
-            else:
+            elif told.client is MISSING or is_nemesis(told):
                 yield told
+            else:
+                yield told._replace(client=self._clients.named(told.client, told.line)) if self._clients.are_of_several_files else told

@@ -24,16 +24,18 @@ from __future__ import annotations
 
 import itertools
 import re
-from typing import Any, Dict, Iterable, Iterator, List, Mapping, NamedTuple, NoReturn, Optional, Tuple
+from typing import Any, Callable, Dict, Iterable, Iterator, List, Mapping, NamedTuple, NoReturn, Optional, Sequence, Tuple
 
 from .. import edn, faults, kinds
 from ..edn import Many, Value, canonical, integer, shown, spelling
 from ..forms.account import Account
 from .clients import NEMESIS, Clients, is_name
 from .events import Event, Fault, History, Left, Row, is_pair, tuple_of
+from .meant import Meant
 from .order import Order, number_of
 from .outcomes import Outcomes
 from .plain import Plain, plain_of
+from .source import Texts
 from .refusal import NoKey, Refusal, Unpaired, refuse
 from .spool import Spool, event_of, row_of, value_of
 
@@ -83,6 +85,9 @@ class Asked(NamedTuple):
     order: Optional[str] = None  # by which events are taken: "lines", "index" or "times"; None: as they stand, or by what they say
     outcomes: Mapping[str, str] = {}  # the type of what is an :ok and says that it is none, by "false" and "error"
     skew: int = 0  # nanoseconds by which each clock may be wrong
+    clients: Optional[Callable[[str, int], str]] = None  # of several files: the name of a client by the line of its event
+    parts: Sequence[Tuple[int, Texts]] = ()  # the same files, each with how many lines come before its own
+    meant: Meant = Meant()  # which values are one, and which are none
 
 
 class Collector:
@@ -90,8 +95,9 @@ class Collector:
 
     def __init__(self, asked: Asked, account: Account) -> None:
         self.lone_key = None if asked.key is None else canonical(asked.key)
-        self.nil_is_absent = asked.nil_is_absent
+        self.nil_is_absent, self.meant = asked.nil_is_absent, asked.meant
         self.account = account
+        self.names = asked.clients
         self.order: Optional[Order] = None if asked.order else Order()
         self.clients, self.outcomes = Clients(), Outcomes(asked.outcomes)
         self.open: Dict[int, Row] = {}
@@ -106,7 +112,7 @@ class Collector:
         """The history of a text that comes in pieces."""
         pieces = Counted(pieces)
         front = next(pieces, "")
-        plain = plain_of(front, self.lone_key is None)
+        plain = plain_of(front, self.lone_key is None) if self.meant.says_nothing else None
         elements = edn.Reader(itertools.chain((front,), pieces)).history(plain.find if plain is not None else None)
         try:
             for element in elements:
@@ -195,6 +201,8 @@ class Collector:
     def take_told(self, line: int, kind: str, process: int, name: str, value: Pair, beside: Any) -> None:
         """Takes an event that was told by something else than EDN, with what else that said: its time, and an error."""
         key, part = value
+        if not self.meant.says_nothing:
+            part = self.meant.part(name, part)
         if key is None and self.lone_key is not None:
             key = self.lone_key
         is_pair = name == ":cas" and type(part) is Many and len(part.members) == 2
@@ -216,7 +224,7 @@ class Collector:
                 self.open[process] = row
             else:
                 del self.open[process]
-            if self.history.is_plain and not all(map(is_plain, flat[1] if is_pair else (flat,))):
+            if self.history.is_plain and not (all(map(is_plain, flat[1])) if is_pair else is_plain(flat)):
                 self.history.is_plain = False
             self.history.count(row)
             self.rows.append(row)
@@ -264,7 +272,7 @@ class Collector:
             refuse(element.line, f"this is no map, so no event: {text} (is this Jepsen's history.edn?)")
         stated, kind = integer(fields.get(":index")), fields.get(":type")
         index = stated if stated is not None and stated in NATURAL else count
-        process = self.clients.number_of(fields.get(":process"), kind == ":invoke")
+        process = self.clients.number_of(self.named(fields.get(":process"), element.line), kind == ":invoke")
         if process is not None and not (kind == ":info" and process in self.clients.names and process not in self.open):
             if self.order is not None:
                 self.order.take(element.line, stated, number_of(fields.get(":time")))
@@ -275,6 +283,12 @@ class Collector:
             self.history.events.append(Fault(f":f {fields[':f']}, :value {spelling(fields[':value'])}", index))
         else:
             self.leave_out(element, fields)
+
+    def named(self, process: Optional[Value], line: int) -> Optional[Value]:
+        """The client that an event states, of several files by its file too."""
+        if self.names is None or not isinstance(process, str) or not (is_name(process) or integer(process) is not None):
+            return process
+        return '"' + self.names(process, line).replace('"', "'") + '"'
 
     def leave_out(self, element: edn.Element, fields: Dict[str, Value]) -> None:
         """Leaves out the event of a process that is no client, as :nemesis."""
@@ -325,7 +339,8 @@ class Collector:
             plain = canonical(value)
             if kind == ":invoke":
                 refuse_value_of_read(line, name, plain)
-            known = self.taken_apart(line, name, plain)
+            key, part = self.taken_apart(line, name, plain)
+            known = key, self.meant.part(name, part)
             if kind == ":invoke":
                 self.test_part(line, name, known[1])
             if len(self.known) < MOST_KNOWN and (isinstance(known[1], str) or name == ":cas"):
@@ -397,7 +412,7 @@ class Collector:
         known = self.known.get((":invoke", invoked.name, value))
         if known is not None:
             return known[1] == invoked.part
-        return self.part_of(value) == invoked.part
+        return self.meant.part(invoked.name, self.part_of(value)) == invoked.part
 
     def part_of(self, value: Value) -> Value:
         """The part of a completion's value, with a key or without one."""
@@ -431,7 +446,7 @@ class Collector:
 
 def is_plain(part: str) -> bool:
     """Whether a part is nil, or an integer that is a value of jepmon."""
-    return part == "nil" or len(part) < 19 and part.lstrip("-").isdigit()
+    return part.isdigit() and part.isascii() and len(part) < 19 or part == "nil" or part[0] == "-" and part[1:].isdigit() and len(part) < 19
 
 
 def refuse_operation(line: int, name: Optional[Value]) -> NoReturn:

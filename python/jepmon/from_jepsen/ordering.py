@@ -8,7 +8,7 @@ Two runs in one file are no history: there the :index begins again, and a client
 from __future__ import annotations
 
 import itertools
-from typing import Callable, Dict, Iterable, Iterator, List, Optional, Set, Tuple
+from typing import Callable, Dict, Iterable, Iterator, List, Optional, Sequence, Set, Tuple
 
 from .. import edn
 from ..edn import Value, integer, spelling
@@ -97,44 +97,61 @@ class Facts:
 
 def ordered(texts: Texts, asked: Asked, account: Account, fault: Optional[Refusal]) -> History:
     """The history, with its events in their order. The fault of the order in which they stand is raised if no other one is known."""
-    facts = read(texts(), account)
-    order = asked.order or (TIMES if asked.skew else found(facts, account, fault))
+    facts = read(texts(), asked, account)
+    order = asked.order or (TIMES if asked.skew else of_files(facts, account) if asked.clients is not None else found(facts, account, fault))
     collector = Collector(asked._replace(order=order), scratch := Account())
     if order == LINES:
         history = collector.collect(texts())
     else:
-        collector.count = by_index(texts(), facts, collector) if order == INDEX else by_time(texts(), asked.skew, collector)
+        collector.count = by_index(texts(), asked, facts, collector) if order == INDEX else by_time(texts(), asked, collector)
         history = collector.finished()
     for guess in scratch.guesses:
         account.guess(*guess)
     return history
 
 
-def read(texts: Iterable[str], account: Account) -> Facts:
+def of_files(facts: Facts, account: Account) -> str:
+    """By what the events of several files are in order."""
+    if None not in facts.times:
+        account.guess(ORDER, "the times of all files are of one clock, or of clocks that agree", "--skew 0ms")
+        return TIMES
+    if facts.is_indexed():
+        return INDEX
+    raise OutOfOrder(f"line {facts.lines[facts.times.index(None)]}: this event has no :time, and there are several files: which came first?")
+
+
+def read(texts: Iterable[str], asked: Asked, account: Account) -> Facts:
     """What the events say of their order; their lines are accounted for."""
-    facts, pieces = Facts(), Counted(texts)
-    for element, process, fields in elements(pieces):
+    facts, parts = Facts(), parts_of(texts, asked)
+    for element, process, fields in elements(parts, asked):
         if process is None:
             account.took_none(f"of {spelling(fields.get(':process', 'nil'))}", element.line, element.last_line)
         else:
             account.took(element.line, element.last_line)
             facts.take(element.line, process, fields)
     facts.close()
-    account.skip(GAP, pieces.lines - account.taken - sum(account.skipped.values()))
-    account.close(pieces.lines)
+    lines = parts[-1][0] + parts[-1][1].lines
+    account.skip(GAP, lines - account.taken - sum(account.skipped.values()))
+    account.close(lines)
     return facts
 
 
-def elements(texts: Iterable[str]) -> Iterator[Tuple[edn.Element, Optional[str], Fields]]:
+def parts_of(texts: Iterable[str], asked: Asked) -> List[Tuple[int, Counted]]:
+    """The text, or those of several files, each with how many lines come before it."""
+    return [(base, Counted(part.texts())) for base, part in asked.parts] or [(0, Counted(texts))]
+
+
+def elements(parts: Sequence[Tuple[int, Counted]], asked: Asked) -> Iterator[Tuple[edn.Element, Optional[str], Fields]]:
     """The events, each with its client, if it is of one."""
     clients = Clients()
     try:
-        for element in edn.Reader(texts).history():
+        for element in itertools.chain.from_iterable(edn.Reader(pieces, line=base + 1).history() for base, pieces in parts):
             fields = edn.fields_of(element.value)
             if fields is None:
                 refuse(element.line, f"this is no map, so no event: {edn.shown(element.value, 60)} (is this Jepsen's history.edn?)")
             is_client = clients.number_of(fields.get(":process"), fields.get(":type") == ":invoke") is not None
-            yield element, spelling(fields[":process"]) if is_client else None, fields
+            process = spelling(fields[":process"]) if is_client else None
+            yield element, process if process is None or asked.clients is None else asked.clients(process, element.line), fields
     except edn.Unreadable as unreadable:
         raise Refusal(str(unreadable)) from unreadable
 
@@ -168,12 +185,12 @@ def found(facts: Facts, account: Account, fault: Optional[Refusal]) -> str:
     return TIMES
 
 
-def by_index(texts: Iterable[str], facts: Facts, collector: Collector) -> int:
+def by_index(texts: Iterable[str], asked: Asked, facts: Facts, collector: Collector) -> int:
     """Takes the events in the order of the :index, what is no client's behind the event before which it stands."""
     if not facts.is_indexed():
         raise OutOfOrder("not each event has an :index of its own: there is no order by it")
     rows, last = SortedRows(), -1
-    for place, (element, process, fields) in enumerate(elements(texts)):
+    for place, (element, process, fields) in enumerate(elements(parts_of(texts, asked), asked)):
         index = integer(fields.get(":index"))
         last = last if index is None else index
         rows.put((last, place, element.line, element.text))
@@ -183,11 +200,11 @@ def by_index(texts: Iterable[str], facts: Facts, collector: Collector) -> int:
     return count
 
 
-def by_time(texts: Iterable[str], skew: int, collector: Collector) -> int:
+def by_time(texts: Iterable[str], asked: Asked, collector: Collector) -> int:
     """Takes the operations in the order of their times, each wider by a clock error."""
-    timeline, faults = timeline_of(texts)
+    timeline, faults = timeline_of(texts, asked)
     count = 0
-    for moment in timeline.moments(skew, skew):
+    for moment in timeline.moments(asked.skew, asked.skew):
         while faults and moment.given is not None and faults[-1][0] <= moment.given[2]:
             collector.take(again(*faults.pop()[2:]), count)
         if moment.given is None:
@@ -204,12 +221,12 @@ def by_time(texts: Iterable[str], skew: int, collector: Collector) -> int:
     return count
 
 
-def timeline_of(texts: Iterable[str]) -> Tuple[Timeline, List[Tuple[Time, int, int, str]]]:
+def timeline_of(texts: Iterable[str], asked: Asked) -> Tuple[Timeline, List[Tuple[Time, int, int, str]]]:
     """The operations of clients, and what the nemesis did, by its time, the latest first."""
     timeline, faults = Timeline(), []  # type: Timeline, List[Tuple[Time, int, int, str]]
     opened: Dict[str, Tuple[Time, int, str]] = {}
     latest: Dict[str, Time] = {}
-    for element, process, fields in elements(texts):
+    for element, process, fields in elements(parts_of(texts, asked), asked):
         time, line = number_of(fields.get(":time")), element.line
         if process is None:
             faults.append((0 if time is None else time, -line, line, element.text))

@@ -29,7 +29,7 @@ from typing import Iterable
 
 from .. import command
 from ..edn import integer
-from ..forms import door, files, mapping_words
+from ..forms import door, files, mapping_words, meant_words
 from ..kinds import KEYS
 from .refusal import Refusal
 from .turn import Turned
@@ -49,6 +49,7 @@ def words() -> argparse.Namespace:
     parser.add_argument("--key", metavar="K", help="the history has no keys: each of its values is of key K, 0 to 65535")
     parser.add_argument("--nil-is-absent", action="store_true", help="nil is what a missing key answers, and is judged")
     parser.add_argument("--strict-input", action="store_true", help="refuse each guess, as of the order or of an outcome")
+    meant_words.add(parser)
     mapping_words.add_order(parser)
     parser.add_argument("--shards", action="store_true", help="for shards: any number of keys, and of operations that are open at once")
     try:
@@ -62,7 +63,8 @@ def words() -> argparse.Namespace:
 
 def turned(given: argparse.Namespace, source: files.Source) -> Turned:
     """The history in jepmon's form. Tells how it was read."""
-    options = door.Options(given.key, given.nil_is_absent, None, mapping_words.of_order(given), guesses_key=False)
+    options = door.Options(given.key, given.nil_is_absent, None, mapping_words.of_order(given), False, given.values,
+                           tuple(given.absent), given.initial)
     form = door.form_of(source, options)
     if form not in (door.OWN, door.JEPSEN, door.KEYED):
         raise Refusal(f"it is {form}, and Jepsen's history.edn is EDN; {command.tool('from-json')} turns it")

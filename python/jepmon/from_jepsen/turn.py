@@ -5,6 +5,7 @@ from typing import Dict, Iterator, List, Mapping, Optional
 
 from ..forms.account import Account
 from ..forms.mapping import INDEX, TIMES
+from ..edn import Value
 from ..kinds import REGISTERS
 from ..names import Names
 from .collect import Asked, Collector
@@ -63,7 +64,7 @@ def collected(source: Source, asked: Asked, account: Account) -> History:
     """The events of a history, in their order."""
     texts, lines = texts_of(source), Account()
     try:
-        if asked.order in (INDEX, TIMES) or asked.order is None and asked.skew:
+        if asked.order in (INDEX, TIMES) or asked.order is None and asked.skew or asked.clients is not None:
             history = ordered(texts, asked, lines, None)
         else:
             history = Collector(asked, lines).collect(texts())
@@ -76,13 +77,13 @@ def collected(source: Source, asked: Asked, account: Account) -> History:
     return history
 
 
-def written(history: History, nil_is_absent: bool, limits: Limits) -> Turned:
-    """The history as it is written within these limits."""
+def written(history: History, nil_is_absent: bool, limits: Limits, initial: Optional[Value] = None) -> Turned:
+    """The history as it is written within these limits, and what each register holds at first, where that is known."""
     if history.nil_fault is not None and not nil_is_absent:
         raise history.nil_fault
     models = models_of_keys(history)
-    if nil_is_absent:  # what begins with a write is no set
+    if nil_is_absent or initial is not None:  # what begins with a write is no set
         models = {key: [model for model in possible if model in REGISTERS] or possible for key, possible in models.items()}
-    writer = Writer(history, models, nil_is_absent, limits)
+    writer = Writer(history, models, nil_is_absent, limits, initial)
     by_number = {writer.keys.number(key): possible for key, possible in models.items()}
     return Turned(writer, by_number, common(models), list(notes(history, writer)), list(advice(history, models, writer)))

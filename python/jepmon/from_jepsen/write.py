@@ -2,9 +2,9 @@
 from __future__ import annotations
 
 import itertools
-from typing import Any, Dict, Iterator, NamedTuple, Sequence, Tuple
+from typing import Any, Dict, Iterator, NamedTuple, Optional, Sequence, Tuple
 
-from ..edn import Many, Value
+from ..edn import Many, Value, integer
 from ..kinds import KEYS, REGISTERS, THREADS, VALUES
 from ..names import ABSENT, Names
 from .events import Event, History
@@ -30,10 +30,11 @@ MOST_KNOWN = 10_000  # operations whose texts are remembered
 class Writer:
     """Writes the events of a history in jepmon's form, and after them in comments what numbers stand for."""
 
-    def __init__(self, history: History, models: Models, nil_is_absent: bool, limits: Limits) -> None:
-        self.history = history
+    def __init__(self, history: History, models: Models, nil_is_absent: bool, limits: Limits, initial: Optional[Value] = None) -> None:
+        self.history, self.initial = history, initial
+        begins = nil_is_absent or initial is not None
         self.is_of_shards = limits is OF_SHARDS
-        self.registers = {key for key, possible in models.items() if nil_is_absent and possible[0] in REGISTERS}
+        self.registers = {key for key, possible in models.items() if begins and possible[0] in REGISTERS}
         self.sets = {key for key, possible in models.items() if possible == ["set"]}
         self.keys = Numbering(lambda: history.keys, KEYS if len(history.keys) <= len(KEYS) else limits.keys)
         self.values = Numbering(self._values, VALUES)
@@ -45,7 +46,9 @@ class Writer:
 
     def _values(self) -> Iterator[Value]:
         """The values of all events; none where they are plain, since they stay as they are."""
-        if self.history.is_plain:
+        if self.initial is not None:
+            yield self.initial
+        if self.history.is_plain and (self.initial is None or integer(self.initial) is not None):
             return
         for row in itertools.chain.from_iterable(self.history.events.batches()):
             part = row[4] if len(row) > 2 else "nil"
@@ -68,9 +71,10 @@ class Writer:
 
     def texts(self) -> Iterator[str]:
         """The lines with their line feeds, many in a text."""
+        first = self.absent if self.initial is None else self.values(self.initial)
         for key in (key for key in self.history.keys if key in self.registers):
             for kind in (":invoke", ":ok"):
-                yield f"{{:type {kind}, :process 0, :f :write, :value [{self.keys(key)} {self.absent}]}}\n"
+                yield f"{{:type {kind}, :process 0, :f :write, :value [{self.keys(key)} {first}]}}\n"
         stays = self.keys.stays and self.values.stays and self.absent == "nil" and not self.processes.renumbered
         processes = OnThreads(self.processes.threads) if self.processes.renumbered else OwnProcesses()
         for batch in self.history.events.batches():

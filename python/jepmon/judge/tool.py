@@ -16,7 +16,7 @@ from ..forms import Beyond, Refused, door, files
 from ..forms.door import Translation
 from ..forms.recorded import Recorded, of_own, of_translation
 from ..program import CURE, Options, find_program
-from . import as_json, bad_keys, by_shards, events, hints, large, least, models, rates, results, terminal, wide, words
+from . import as_json, bad_keys, by_shards, doubts, events, hints, large, least, models, rates, results, terminal, ties, wide, words
 from .judging import Task, judged
 from .outputs import Folder, Page
 from .words import NAME, Given
@@ -77,7 +77,7 @@ def _judge(given: Given) -> int:
 
 
 def _judge_to(given: Given, page: Optional[Page], folder: Optional[Folder]) -> int:
-    source = files.found(given.history)
+    source = files.several(given.histories)
     for note in source.notes:
         say(note)
     with named(source):
@@ -143,6 +143,8 @@ def _judge_whole(source: files.Source, found: Recorded, given: Given, page: Opti
     report = judged(task)
     report, decided = wide.anew(report, task.options, functools.partial(events.of_keys, found), given.wide_seconds)
     task = task._replace(wide_seconds=given.wide_seconds if decided else None, least=given.least)
+    with named(source):
+        ties.test(source, found, task, report, given.said)
     beside = list(hints.after(found, task, report, source, given.said, given.cause))
     few = least.reason(given, report.word, least.telling(found.facts.outcomes, models.answered(found.facts)))
     if not given.json and not few:
@@ -154,6 +156,7 @@ def _judge_whole(source: files.Source, found: Recorded, given: Given, page: Opti
     of_report = bad_keys.found(report.keys)
     keys = bad_keys.shown(found, task, report, of_report.bad, functools.partial(events.with_fields, found), given.cause, decided)
     done = results.Results(source.name, found, task, report, keys, terminal.told(found, keys))
+    beside += doubts.told(found, keys, given)
     results.write(page, folder, done)
     rates.write(given, folder, source.name, found, task, report)
     if given.json:
@@ -168,6 +171,7 @@ def _task(found: Recorded, given: Given) -> Task:
     """How the history is to be judged."""
     choice = models.chosen(found.facts, given.model, found.stated, found.possible)
     models.account_for(choice, found.account)
+    doubts.account_for_types(found.value_names, given, found.account)
     concurrency = given.concurrency or models.concurrency_of(found.facts)
     if concurrency is None:
         raise Refused("its processes fit no concurrency from 1 to 64")

@@ -3,10 +3,10 @@ from __future__ import annotations
 
 import argparse
 import sys
-from typing import List, NamedTuple, Optional
+from typing import List, NamedTuple, Optional, Sequence
 
 from .. import command, kinds
-from ..forms import Refused, mapping_words
+from ..forms import Refused, mapping_words, meant_words
 from ..forms.door import Options as Said
 from ..forms.mapping import Mapping
 
@@ -29,7 +29,7 @@ are not proved. Exit status: 0 legal, 1 illegal, 2 unknown, 3 where there is no 
 class Given(NamedTuple):
     """What the command line says."""
 
-    history: str
+    histories: List[str]
     model: Optional[str]
     concurrency: Optional[int]
     budget: int
@@ -46,12 +46,15 @@ class Given(NamedTuple):
     strict_input: bool = False
     json: bool = False
     least: int = 1
+    values: Optional[str] = None
+    absent: Sequence[str] = ()
+    initial: Optional[str] = None
     mapping: Mapping = Mapping()  # what is said of the fields of rows
 
     @property
     def said(self) -> Said:
         """What is said of the history."""
-        return Said(self.key, self.nil_is_absent, self.model, self.mapping)
+        return Said(self.key, self.nil_is_absent, self.model, self.mapping, values=self.values, absent=self.absent, initial=self.initial)
 
 
 class Words(command.Words):
@@ -76,7 +79,8 @@ def number(name: str, limits: range) -> "type[int]":
 def given(words: Optional[List[str]]) -> Given:
     called = command.tool(NAME)
     parser = Words(prog=called, description=DESCRIPTION.format(tool=called), formatter_class=argparse.RawDescriptionHelpFormatter)
-    parser.add_argument("history", nargs="?", metavar="HISTORY", help="a file or a folder; - or nothing is standard input")
+    parser.add_argument("history", nargs="*", metavar="HISTORY", help="a file or a folder; - or nothing is standard input; several files, as "
+                        "those of several clients, are one history in the order of their times")
     parser.add_argument("--model", metavar="NAME", choices=tuple(kinds.MODELS),
                         help="the object that each key is, in place of the one found: " + ", ".join(kinds.MODELS))
     parser.add_argument("--concurrency", metavar="N", type=number("a number of threads", range(1, kinds.PROCESSES.stop)),
@@ -97,6 +101,7 @@ def given(words: Optional[List[str]]) -> Given:
     parser.add_argument("--nil-is-absent", action="store_true", help="nil is what a missing key answers, and is judged")
     parser.add_argument("--strict-input", action="store_true", help="refuse each guess, as of the model or of a key, in place of judging by it")
     mapping_words.add(parser)
+    meant_words.add(parser)
     parser.add_argument("--wide", action="store_true", help=f"take up to {LONG} seconds, in place of {SHORT}, to decide keys that are over "
                         "their budget by what is known afterwards")
     parser.add_argument("--wide-seconds", metavar="N", type=number("a number of seconds", range(0, MOST_SECONDS + 1)),
@@ -112,12 +117,12 @@ def given(words: Optional[List[str]]) -> Given:
     try:
         parsed = parser.parse_args(words)
         mapping = mapping_words.of(parsed)
-        if parsed.history is None and sys.stdin is not None and sys.stdin.isatty():
+        if not parsed.history and sys.stdin is not None and sys.stdin.isatty():
             parser.error("no history is named, and standard input is a terminal")
     except Refused as fault:
         raise Refused(f"{fault}; see {command.tool(NAME)} --help") from fault
     key = None if parsed.key is None else str(parsed.key)
     seconds = parsed.wide_seconds if parsed.wide_seconds is not None else LONG if parsed.wide else SHORT
-    return Given(parsed.history or "-", parsed.model, parsed.concurrency, parsed.budget, parsed.workers, key, parsed.nil_is_absent,
+    return Given(parsed.history or ["-"], parsed.model, parsed.concurrency, parsed.budget, parsed.workers, key, parsed.nil_is_absent,
                  parsed.html, parsed.out, parsed.cause, parsed.jobs, parsed.dask, parsed.temporary, seconds, parsed.strict_input,
-                 parsed.json, parsed.least, mapping)
+                 parsed.json, parsed.least, parsed.values, tuple(parsed.absent), parsed.initial, mapping)

@@ -39,6 +39,7 @@ from ..kinds import MODELS
 from ..notes import BEGIN, END, NOTE, folded
 from ..owner import not_sent
 from ..telling import test_unknown
+from ..values import NONE, missing
 from ..verdicts import NotLegal, Unknown
 from .folder import LongFolder
 from .handle import Handle
@@ -85,13 +86,15 @@ class LongMonitor:
         names: Optional[str] = None,
         unknown: str = "raise",
         page: bool = True,
+        initial: Optional[int] = None,
+        absent: object = NONE,
     ) -> None:
         test_unknown(unknown)
         if keep is not None and keep < 0:
             raise ValueError(f"keep is a number of parts, not {keep}")
         begun, clock = datetime.datetime.now().astimezone(), time.monotonic_ns()
         names = f"{uuid.uuid4().hex[:12]}-" if names is None else names
-        settings = Settings(program, model, budget, timeout, endings(expected, failed), begun, clock, names, {})
+        settings = Settings(program, model, budget, timeout, endings(expected, failed), begun, clock, names, {}, missing(initial, absent))
         folder = LongFolder(out, begun, keep, page) if out is not None else None
         self._model, self._folder, self._unknown = model, folder, unknown
         self._parts = Parts(settings, limits(events, keys, concurrency), folder, forget)

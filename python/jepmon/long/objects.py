@@ -20,19 +20,24 @@ CHANGES = ("write", "cas", "add", "enqueue", "acquire")
 class Operations:
     """The operations of an object, each a block; whoever has them says which object it is."""
 
+    _parts: Parts
+
     def _operation(self, name: str, part: str = "nil") -> LongOperation:
         raise NotImplementedError
+
+    def _part(self, value: Optional[int]) -> str:
+        return integer(told(self._parts.missing.seen(value)))
 
     def read(self) -> LongOperation:
         """Of a register: set op.value to an integer, or None where it is missing. Of a set: to its members."""
         return self._operation("read")
 
     def write(self, value: Optional[int]) -> LongOperation:
-        return self._operation("write", integer(told(value)))
+        return self._operation("write", self._part(value))
 
     def cas(self, old: Optional[int], new: Optional[int]) -> LongOperation:
         """Sets it to new where it is old. Where the store says that it was not: op.fail()."""
-        return self._operation("cas", f"[{integer(told(old))} {integer(told(new))}]")
+        return self._operation("cas", f"[{self._part(old)} {self._part(new)}]")
 
     def add(self, value: int) -> LongOperation:
         return self._operation("add", integer(value))

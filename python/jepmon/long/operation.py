@@ -82,7 +82,7 @@ class Nobody:
     """In the place of a program that was closed: nothing is told, and operations end as they would."""
 
     def __init__(self, parts: Parts, model: str) -> None:
-        self.endings, self._model = parts.endings, model
+        self.endings, self.missing, self._model = parts.endings, parts.missing, model
 
     def invoke(self, name: str, key: int, part: str) -> Optional[int]:
         return None

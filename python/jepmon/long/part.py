@@ -31,7 +31,8 @@ class Part:
             exchange.end()
             raise
         record = Record(None, self.folder, settings.clock)
-        self.telling: Optional[Telling] = Telling(exchange, record, options, "drop", settings.endings, settings.homes)  # until it is closed
+        self.telling: Optional[Telling] = Telling(exchange, record, options, "drop", settings.endings, settings.homes,
+                                                     settings.missing)  # until it is closed
         self.telling.told.sources.are_new = True
         self.objects: List[LongObject] = []
         self.makers: List[Handle] = []  # of each object

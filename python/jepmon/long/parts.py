@@ -12,6 +12,7 @@ from ..endings import Endings
 from ..notes import BEGIN, END
 from ..owner import OwnedLock
 from ..telling import Telling
+from ..values import Missing
 from ..verdicts import NotLegal, Refused
 from .folder import LongFolder
 from .handle import Handle
@@ -47,6 +48,10 @@ class Parts:
     @property
     def endings(self) -> Endings:
         return self._settings.endings
+
+    @property
+    def missing(self) -> Missing:
+        return self._settings.missing
 
     def settle(self, number: int) -> None:
         """Lets the operations of this thread be those of the client of this number, as far as it is free."""

@@ -6,6 +6,7 @@ import os
 from typing import Dict, NamedTuple, Union
 
 from ..endings import Endings
+from ..values import Missing
 
 
 class Settings(NamedTuple):
@@ -20,3 +21,4 @@ class Settings(NamedTuple):
     clock: int  # by time.monotonic_ns, at which the run began
     names: str  # what the names of objects begin with
     homes: Dict[int, int]  # the number of the client of each thread of Python
+    missing: Missing

@@ -90,7 +90,7 @@ def splits(given: argparse.Namespace) -> int:
     more = [word for name in ("concurrency", "model", "budget", "jobs", "temporary") for value in [getattr(given, name)]
             if value is not None for word in (f"--{name}", str(value))]
     asked = judge_words.given([given.history, *more])
-    source = files.found(asked.history)
+    source = files.several(asked.histories)
     for note in source.notes:
         command.say(NAME, note)
     found = large.asked(source, asked)

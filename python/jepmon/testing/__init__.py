@@ -2,7 +2,8 @@
 
     from jepmon.testing import Client, Server        # as in template.py, which `jepmon-test template` prints
 
-server.py   what a server is to the test; servers/ has Redis, etcd, PostgreSQL and RabbitMQ, and wire/ their protocols
+server.py   what a server is to the test; servers/ has Redis, etcd, PostgreSQL, RabbitMQ, ZooKeeper and
+            beanstalkd, and wire/ their protocols
 cluster.py  the nodes (node.py), the links between them (links.py: switch.py and places.py, or proxy.py), and that none is left
             behind (guard.py)
 strikes/    what is done to them, and when; needs.py says what the machine must have for it
@@ -15,13 +16,14 @@ from __future__ import annotations
 from typing import List, Optional
 
 from ..verdicts import Failed
+from .came import Came
 from .errors import ServerError
 from .node import Node
 from .server import Client, Leases, Plant, Server
 from .strikes.kind import Parameter, Strike
 from .workloads import Work
 
-__all__ = ["Client", "Failed", "Leases", "Node", "Parameter", "Plant", "Server", "ServerError", "Strike", "Work", "main"]
+__all__ = ["Came", "Client", "Failed", "Leases", "Node", "Parameter", "Plant", "Server", "ServerError", "Strike", "Work", "main"]
 
 
 def main(words: Optional[List[str]] = None) -> int:

@@ -12,6 +12,7 @@ from typing import Dict, List, Optional, Type
 
 from . import clocks
 from .crashes import LogWatch
+from .crew import Crew
 from .disks import Disk
 from .family import adopt
 from .guard import Guard
@@ -27,6 +28,7 @@ class Cluster:
     def __init__(self, kind: Type[Server], model: str, plant: str, size: int, logs: pathlib.Path, network: str, patience: float = 0.0,
                  has_disks: bool = False, has_clocks: bool = False, durability: str = "") -> None:
         self._ended = contextlib.ExitStack()
+        self.crew = Crew()
         self.stopped = threading.Event()  # nobody waits any more for a node to be ready
         adopt()  # the orphans of servers that have ended
         try:

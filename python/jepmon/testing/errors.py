@@ -18,6 +18,10 @@ class Died(ServerError):
         self.node, self.how, self.log = node, how, log
 
 
+class Crashed(Exception):
+    """A strike's: the client is gone. What it asked may have taken place, and another one comes in its place."""
+
+
 def where(fault: BaseException, path: Optional[pathlib.Path] = None) -> str:
     """What an exception says, and the line of the user's file, or else of this package, that it is of."""
     frames = traceback.extract_tb(fault.__traceback__)

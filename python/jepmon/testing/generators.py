@@ -36,14 +36,14 @@ class Phases:
 class Pace:
     """Lets one client do so many operations a second; 0 is as many as it can."""
 
-    def __init__(self, rate: float, draws: random.Random) -> None:
-        self._rate, self._draws = rate, draws
+    def __init__(self, draws: random.Random) -> None:
+        self._draws = draws
         self._next = time.monotonic()
 
-    def wait(self, speed: float) -> None:
-        if self._rate == 0:
+    def wait(self, rate: float) -> None:
+        if rate == 0:
             return
         now = time.monotonic()
-        self._next = max(self._next + self._draws.uniform(0.0, 2.0) / (self._rate * speed), now - 0.1)  # late ones are made up for
+        self._next = max(self._next + self._draws.uniform(0.0, 2.0) / rate, now - 0.1)  # late ones are made up for
         if self._next > now:
             time.sleep(self._next - now)

@@ -6,7 +6,7 @@ import pathlib
 import random
 import sys
 import time
-from typing import TYPE_CHECKING, Any, Callable, Counter, Dict, Iterator, List, NamedTuple, Optional, Type
+from typing import TYPE_CHECKING, Any, Callable, Counter, Dict, Iterator, List, NamedTuple, Optional, Tuple, Type
 
 from .. import command
 from ..errors import OutputError
@@ -18,13 +18,15 @@ from . import client_log, losses
 from .after import FINDING, after_a_finding
 from .cluster import Cluster
 from .crashes import finding
-from .errors import Died, ServerError, where
+from .course import Course, Stage
+from .crew import Mortal
+from .errors import Crashed, Died, ServerError, where
 from .facts import facts_of, leave_facts, leave_pages
-from .generators import Pace, Phases
+from .generators import Pace
 from .links import network
 from .needs import planned
 from .server import Client, Server
-from .strikes.kind import NEEDS_CLOCK, NEEDS_DISK, NEEDS_LINKS
+from .strikes.kind import NEEDS_CLOCK, NEEDS_CREW, NEEDS_DISK, NEEDS_LINKS
 from .strikes.nemesis import Nemesis
 from .workloads import Work, works_of
 
@@ -57,6 +59,9 @@ class Given(NamedTuple):
     keep: Optional[int]  # of parts that are legal
     durability: str = ""  # how the server keeps what it acknowledges; empty: as its first one
     keep_nodes: str = FINDING  # when the nodes' data are kept
+    stages: Tuple[Stage, ...] = ()  # of --phases
+    reserved: Tuple[float, ...] = ()  # of --reserve
+    times: int = 1  # how many tests, with one seed after the other
 
 
 class Outcome(NamedTuple):
@@ -105,7 +110,8 @@ class Test:
 
         given = self.given
         client, kind = self.client, works_of(given.server)[given.model]
-        monitor = LongMonitor(model=kind.model or given.model, budget=BUDGETS[-1], expected=client.unsure, failed=client.certain, out=given.out,
+        unsure = (*client.unsure, Crashed) if self.plan.needs(NEEDS_CREW) else client.unsure
+        monitor = LongMonitor(model=kind.model or given.model, budget=BUDGETS[-1], expected=unsure, failed=client.certain, out=given.out,
                               keep=given.keep, events=EVENTS, names="", page=False)
         assert monitor.folder is not None
         leave_facts(monitor.folder, facts_of(given, self.network, self.plan.names))
@@ -145,17 +151,19 @@ class Test:
         with Cluster(given.server, given.model, given.plant, given.nodes, monitor.folder, self.network, given.patience,
                      self.plan.needs(NEEDS_DISK), self.plan.needs(NEEDS_CLOCK), given.durability) as cluster, \
                 after_a_finding(cluster, monitor.folder, given.keep_nodes, lambda: work.lost):
+            cluster.crew.size = given.clients
             self.begun = time.monotonic()
-            nemesis = Nemesis(monitor, cluster, self.plan.known, self.plan.lanes(given.seed, given.seconds), given.seconds)
+            course = Course(given.seed, given.rate, given.stages, given.reserved)
+            nemesis = Nemesis(monitor, cluster, self.plan.known, self.plan.lanes(given.seed, given.seconds), given.seconds,
+                              course.calm_from)
             self.struck = nemesis.struck
-            phases = Phases(given.seed)
 
             def thread(number: int) -> None:
                 try:
                     if number == given.clients:
                         nemesis.run()
                     else:
-                        self._client(monitor, work, cluster, phases, number)
+                        self._client(monitor, work, cluster, course, number)
                 except BaseException:
                     cluster.stopped.set()
                     raise
@@ -166,20 +174,28 @@ class Test:
                 self.ended, self.at_work = time.monotonic(), monitor.counts
             self._finish(monitor, work, cluster)
 
-    def _client(self, monitor: LongMonitor, work: Work, cluster: Cluster, phases: Phases, number: int) -> None:
+    def _client(self, monitor: LongMonitor, work: Work, cluster: Cluster, course: Course, number: int) -> None:
         """What one client does until the time is up."""
         given = self.given
         draws = random.Random(f"client {number} {given.seed}")
-        pace = Pace(given.rate / given.clients, draws)
+        pace = Pace(draws)
         end = self.begun + given.seconds
-        with cluster.clients(), closing(cluster.server.client(number)) as client:
+        with cluster.clients(), contextlib.ExitStack() as over:
+            client = over.enter_context(closing(self._new_client(cluster, number)))
             while time.monotonic() < end and not cluster.stopped.is_set():
-                phase = phases.at(time.monotonic() - self.begun)
-                pace.wait(phase.speed)
-                if work.step(number, client, draws, phase.changes).outcome != "ok":
+                if isinstance(client, Mortal) and client.has_crashed:
+                    over.close()
+                    client = over.enter_context(closing(self._new_client(cluster, number)))
+                now = course.next(time.monotonic() - self.begun, number)
+                pace.wait(now.rate / given.clients)
+                if not now.goes_on or work.step(number, client, draws, now.changes).outcome != "ok":
                     time.sleep(PAUSE)
                 if number == 0:
                     self._progress(time.monotonic() - self.begun, monitor, sum(self.struck.values()))
+
+    def _new_client(self, cluster: Cluster, number: int) -> Client:
+        client = cluster.server.client(number)
+        return Mortal(client, cluster.crew, number) if self.plan.needs(NEEDS_CREW) else client
 
     def _finish(self, monitor: LongMonitor, work: Work, cluster: Cluster) -> None:
         """All is mended by now. Each node must answer what is left to ask."""

@@ -2,6 +2,7 @@
 from __future__ import annotations
 
 import shutil
+import time
 from typing import Callable, List, Mapping, NamedTuple, Optional, Sequence, Tuple, Type
 
 from ..endings import Exceptions
@@ -27,6 +28,10 @@ class Client:
     certain: Exceptions = (ConnectionRefusedError,)
     unsure: Exceptions = (OSError,)
     work: float = 0.02  # of a lock: seconds that it is held at most
+
+    def rest(self, seconds: float) -> None:
+        """Does something else for a time, as while it holds a lock."""
+        time.sleep(seconds)
 
     def close(self) -> None:
         """Ends its connection."""

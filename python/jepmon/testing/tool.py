@@ -6,7 +6,7 @@ import signal
 import sys
 import threading
 from types import FrameType
-from typing import TYPE_CHECKING, List, Optional
+from typing import TYPE_CHECKING, List, Optional, Tuple
 
 from .. import command
 from ..errors import OutputError, ProgramError
@@ -30,7 +30,7 @@ def main(arguments: Optional[List[str]] = None) -> int:
         if given is None:
             command.write_output([(pathlib.Path(__file__).parent / "template.py").read_text()])
             return 0
-        return _test(given)
+        return _test(given)[0] if given.times == 1 else _tests(given)
     except (ServerError, ProgramError, OutputError, FileNotFoundError) as fault:
         command.say(NAME, str(fault))
     except NotLegal as fault:
@@ -49,7 +49,31 @@ def _terminated(number: int, _frame: Optional[FrameType]) -> None:
     sys.exit(128 + number)
 
 
-def _test(given: Given) -> int:
+WORST = (1, 3, 2, 0)  # statuses, of which a summary has the first
+
+
+def _tests(given: Given) -> int:
+    """Tests with one seed after the other, and a line for each at the end. Ctrl-C ends the summary too, after those that were run."""
+    lines, statuses = [], []
+    try:
+        for number in range(given.times):
+            one = given._replace(seed=given.seed + number)
+            try:
+                status, verdict = _test(one)
+            except ServerError as fault:  # of this test; the next one may start
+                status, verdict = command.REFUSED, f"no verdict: {fault}"
+                command.say(NAME, str(fault))
+            statuses.append(status)
+            lines.append(f"seed {one.seed}: {verdict}\n")
+    finally:
+        counts = ", ".join(f"{statuses.count(status)} {name}" for status, name in ((0, "legal"), (1, "illegal"), (2, "unknown"),
+                                                                                   (3, "without a verdict")) if status in statuses)
+        command.write_output(["\n", *lines, f"{len(statuses)} of {given.times} tests: {counts or 'none ended'}\n"])
+    return next(status for status in WORST if status in statuses)
+
+
+def _test(given: Given) -> Tuple[int, str]:
+    """Its status, and its verdict with the folder."""
     given.server.test_installed()
     progress = Progress()
     test = Test(given, progress.show)
@@ -68,7 +92,7 @@ def _test(given: Given) -> int:
     command.write_output([report.text(outcome)])
     if outcome.reason:
         command.say(NAME, outcome.reason)
-    return outcome.status
+    return outcome.status, f"{outcome.verdict or 'no verdict'} ({outcome.folder})"
 
 
 class Progress:

@@ -10,6 +10,7 @@ from typing import Dict, Iterable, Iterator, List, Optional, Type
 
 from .. import command, kinds
 from .after import ALWAYS, FINDING, NEVER
+from .course import reserved_of, stages_of
 from .errors import ServerError, where
 from .links import AUTO, NETWORKS
 from .needs import planned
@@ -19,7 +20,8 @@ from .strikes.known import STRIKES
 from .workloads import works_of
 
 NAME = "test"
-SERVERS: Dict[str, str] = {"redis": "Redis", "etcd": "Etcd", "postgresql": "PostgreSQL", "rabbitmq": "RabbitMQ"}
+SERVERS: Dict[str, str] = {"redis": "Redis", "etcd": "Etcd", "postgresql": "PostgreSQL", "rabbitmq": "RabbitMQ",
+                           "zookeeper": "ZooKeeper", "beanstalkd": "Beanstalkd"}
 TEMPLATE = "template"
 MOST_CLIENTS = kinds.THREADS - 1
 DESCRIPTION = """Starts a server, lets clients use it while faults strike, and has it judged live by the proved program.
@@ -63,8 +65,12 @@ def given(words: Optional[List[str]]) -> Optional[Given]:
     if parsed.durability and parsed.durability not in server.durabilities:
         raise ServerError(f"--durability {parsed.durability}: {parsed.server} has {_listed(server.durabilities) or 'none'}")
     nemesis = parsed.nemesis or (plant.nemesis if plant else "all")
-    given = Given(server, model, parsed.plant or "", parsed.time, parsed.clients, parsed.keys, parsed.seed, nemesis, parsed.rate, nodes,
-                  parsed.network, parsed.least, parsed.patience, parsed.out, parsed.keep, parsed.durability or "", parsed.keep_nodes)
+    stages = stages_of(parsed.phases) if parsed.phases else ()
+    reserved = reserved_of(parsed.reserve, parsed.clients) if parsed.reserve else ()
+    seconds = stages[-1].end if stages else parsed.time
+    given = Given(server, model, parsed.plant or "", seconds, parsed.clients, parsed.keys, parsed.seed, nemesis, parsed.rate, nodes,
+                  parsed.network, parsed.least, parsed.patience, parsed.out, parsed.keep, parsed.durability or "", parsed.keep_nodes, stages, reserved,
+                  parsed.test_count)
     planned(given)  # what can't be is said before anything starts
     return given
 
@@ -81,6 +87,11 @@ def _parser() -> Words:
     parser.add_argument("--keys", metavar="N", type=_within("keys", 1, 1000), default=5, help="keys that are open to changes at once (5)")
     parser.add_argument("--rate", metavar="N", type=_positive("operations a second", zero=True), default=400.0,
                         help="operations a second of all clients; 0 is as many as they can (400)")
+    parser.add_argument("--phases", metavar="PHASES", help="what clients do when, as 5:strikes=off,20:rate=1000,5:changes=0:limit=200: each is "
+                        "its seconds, with a rate, a share of changes, a limit of operations, and whether something strikes; for --time")
+    parser.add_argument("--reserve", metavar="CLIENTS", help="clients that do one thing alone, as changes=2,reads=1")
+    parser.add_argument("--test-count", metavar="N", type=_within("tests", 1, 10_000), default=1,
+                        help="so many tests, each with the next seed, and a summary (1)")
     parser.add_argument("--seed", metavar="N", type=int, default=1, help="of what is drawn: operations, phases and strikes (1)")
     parser.add_argument("--nemesis", metavar="STRIKES", help=f"all, none, or some of {', '.join(STRIKES)}, as kill,pause; with "
                         "numbers, as slow:delay=0.2:lasting=1..5; or a schedule, as kill:n1@3+0.5,pause@6: at 3 seconds, for half a second (all)")

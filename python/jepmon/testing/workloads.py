@@ -1,11 +1,13 @@
 """What clients do to each kind of object: mixed operations while the test runs, and what is asked at its end, when all is mended."""
 from __future__ import annotations
 
+import contextlib
 import itertools
 import random
 import time
 from typing import TYPE_CHECKING, Any, Callable, Dict, Iterator, List, Optional, Tuple, Type, Union
 
+from .errors import Crashed
 from .messages import Messages, Missing
 
 if TYPE_CHECKING:
@@ -146,7 +148,8 @@ class Locks(Work):
                 op.fail()
         if op.outcome != "ok":
             return op
-        time.sleep(draws.random() * client.work)
+        with contextlib.suppress(Crashed):  # it raises this again as it gives the lock back
+            client.rest(draws.random() * client.work)
         with op.object.release() as released:
             if not client.release(key_of(released)):
                 released.fail()

@@ -6,6 +6,7 @@ What an error says: a refused connection sent nothing, a :fail. Whatever else is
 from __future__ import annotations
 
 import base64
+import contextlib
 import http.client
 import json
 import uuid
@@ -14,6 +15,7 @@ from typing import Any, Dict, List, Optional, Sequence, Type, Union
 from ...endings import Exceptions
 from ..node import At, Node
 from ..server import Client, Leases, Plant, Server
+from . import etcd_members
 
 TIMEOUT, LEADER_TIMEOUT = 1.0, 0.3  # seconds
 HEARTBEAT, ELECTION = 100, 1000  # milliseconds
@@ -136,6 +138,7 @@ class Etcd(Server):
     objects = CLIENTS
     ports = ("client", "peer")
     size, sizes, survives_power = 3, range(1, 8), True
+    strikes = etcd_members.STRIKES
     cannot = {name: "etcd is written in Go, and does not ask the C library for the time" for name in ("bump", "strobe")}
     plants = {
         "serializable": Plant("reads are serializable: a member answers without asking the others", "cas-register", "pause,part"),
@@ -146,12 +149,30 @@ class Etcd(Server):
     def version(cls) -> Sequence[str]:
         return ("etcd", "--version")
 
+    def __init__(self, *words: Any) -> None:
+        super().__init__(*words)
+        self.existing: Dict[str, List[str]] = {}  # of a node that has joined the group again: where its members are reached
+
     def command(self, node: Node) -> List[str]:
-        members = ",".join(f"{other.name}={url(other, other.reach['peer'])}" for other in self.nodes)
+        known = self.existing.get(node.name, [self.peer(other) for other in self.nodes])
+        members = ",".join(f"{other.name}={self.peer(other)}" for other in self.nodes if self.peer(other) in known)
         return ["etcd", "--name", node.name, "--data-dir", str(node.folder / "data"), "--initial-cluster", members,
                 "--listen-client-urls", url(node, node.ports["client"]), "--advertise-client-urls", url(node, node.port),
-                "--listen-peer-urls", url(node, node.ports["peer"]), "--initial-advertise-peer-urls", url(node, node.reach["peer"]),
-                "--heartbeat-interval", str(HEARTBEAT), "--election-timeout", str(ELECTION)]
+                "--listen-peer-urls", url(node, node.ports["peer"]), "--initial-advertise-peer-urls", self.peer(node),
+                "--heartbeat-interval", str(HEARTBEAT), "--election-timeout", str(ELECTION),
+                "--initial-cluster-state", "existing" if node.name in self.existing else "new"]
+
+    def peer(self, node: Node) -> str:
+        """Where other members reach it."""
+        return url(node, node.reach["peer"])
+
+    def ask(self, node: Node, path: str, timeout: float, **body: Any) -> Any:
+        """Its own answer, of who is where it is."""
+        client = EtcdClient(node.listens_at)
+        try:
+            return client.call(path, timeout, **body)
+        finally:
+            client.close()
 
     def ready(self, node: Node) -> None:
         """Once it has a leader: a read that asks it is answered."""
@@ -163,16 +184,10 @@ class Etcd(Server):
 
     def leader(self) -> Optional[Node]:
         for node in self.nodes:
-            client = EtcdClient(node.listens_at)
-            try:
-                with node.inside():
-                    status = client.call("maintenance/status", LEADER_TIMEOUT)
+            with node.inside(), contextlib.suppress(OSError):  # one that is struck does not answer
+                status = self.ask(node, "maintenance/status", LEADER_TIMEOUT)
                 if status["leader"] == status["header"]["member_id"]:
                     return node
-            except OSError:
-                pass  # it is struck
-            finally:
-                client.close()
         return None
 
     def client(self, number: int) -> Client:

@@ -15,9 +15,10 @@ import pathlib
 import shutil
 import threading
 import time
-from typing import Dict, List, Optional, Sequence, Set, Tuple, Type
+from typing import Dict, List, Optional, Sequence, Tuple, Type
 
 from ...verdicts import Failed
+from ..came import Came
 from ..errors import ServerError
 from ..node import ADDRESS, At, Node
 from ..server import Client, Plant, Server
@@ -27,20 +28,6 @@ TIMEOUT = 1.0  # seconds
 PROGRAM = pathlib.Path("/usr/lib/rabbitmq/bin/rabbitmq-server")
 # epmd finds Erlang's nodes. Erlang would start one that outlives the server; this one is of the node's family, and ends with it.
 START = 'epmd & until epmd -names >/dev/null 2>&1; do sleep 0.1; done; exec "$0"'
-
-
-class Came:
-    """Which messages have come to any client."""
-
-    def __init__(self) -> None:
-        self._lock = threading.Lock()
-        self._values: Set[int] = set()
-
-    def first(self, value: int) -> bool:
-        with self._lock:
-            is_first = value not in self._values
-            self._values.add(value)
-        return is_first
 
 
 class Names:

@@ -5,6 +5,7 @@ kind.py     what a strike is: its text, its lane, its parameters, and what it do
 process.py  kill, pause
 power.py    power, tear                    clock.py  bump, strobe
 links.py    cut, part, slow, partitions, packets
+clients.py  client-pause, client-crash
 told.py     what the history notes of a strike
 plan.py     --nemesis, and what is drawn from a seed
 nemesis.py  who strikes, in lanes that overlap

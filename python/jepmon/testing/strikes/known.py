@@ -3,13 +3,14 @@ from __future__ import annotations
 
 from typing import TYPE_CHECKING, Dict, Type
 
-from . import clock, links, power, process
+from . import clients, clock, links, power, process
 from .kind import Strike
 
 if TYPE_CHECKING:
     from ..server import Server
 
-STRIKES: Dict[str, Strike] = {**process.STRIKES, **links.STRIKES, **power.STRIKES, **clock.STRIKES}
+STRIKES: Dict[str, Strike] = {**process.STRIKES, **links.STRIKES, **power.STRIKES, **clock.STRIKES,
+                             **clients.STRIKES}
 
 
 def strikes_of(server: Type[Server]) -> Dict[str, Strike]:

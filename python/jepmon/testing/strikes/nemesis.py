@@ -2,9 +2,10 @@
 from __future__ import annotations
 
 import contextlib
+import math
 import threading
 import time
-from typing import TYPE_CHECKING, Counter, Dict, Iterator, List, Mapping, Optional, Set, Tuple
+from typing import TYPE_CHECKING, Callable, Counter, Dict, Iterator, List, Mapping, Optional, Set, Tuple
 
 from .kind import ALONE, PROCESS, Strike
 from .plan import Lane, Planned
@@ -19,9 +20,12 @@ GLANCE = 0.1  # seconds between two looks at the nodes
 
 
 class Nemesis:
-    """Strikes until the time is up. `struck` counts how often what has struck."""
+    """Strikes until the time is up, but while `calm_from` says so: it gives when the next calm begins, in seconds. `struck` counts how often
+    what has struck."""
 
-    def __init__(self, monitor: LongMonitor, cluster: Cluster, strikes: Mapping[str, Strike], lanes: List[Lane], seconds: float) -> None:
+    def __init__(self, monitor: LongMonitor, cluster: Cluster, strikes: Mapping[str, Strike], lanes: List[Lane], seconds: float,
+                 calm_from: Callable[[float], float] = lambda seconds: math.inf) -> None:
+        self._calm_from = calm_from
         self._monitor, self._cluster, self._strikes, self._lanes = monitor, cluster, strikes, lanes
         self._begun = time.monotonic()
         self._end = self._begun + seconds
@@ -50,19 +54,27 @@ class Nemesis:
         try:
             late = 0.0  # by which strikes took longer than planned, as a restart does
             for planned in lane.strikes:
-                if not self._wait(self._begun + planned.begin + late):
+                if not self._wait(self._begun + planned.begin + late) or not self._wait_for_calm_to_end():
                     return
                 with self._node(planned) as node:
                     if node is None:
                         return
                     with self._strike(planned, node):
-                        went_on = self._wait(time.monotonic() + planned.lasting)
+                        now = time.monotonic()
+                        went_on = self._wait(min(now + planned.lasting, self._begun + self._calm_from(now - self._begun)))
                     if not went_on or planned.settles and lane.is_shifted and not self._settled(planned, node):
                         return
                 if lane.is_shifted:
                     late = max(0.0, time.monotonic() - self._begun - planned.begin - planned.lasting)
         except BaseException as fault:
             self._stop(fault)
+
+    def _wait_for_calm_to_end(self) -> bool:
+        """Gives whether the run goes on after that."""
+        while self._calm_from(time.monotonic() - self._begun) <= time.monotonic() - self._begun:
+            if not self._wait(time.monotonic() + GLANCE):
+                return False
+        return True
 
     def _stop(self, fault: BaseException) -> None:
         """The first fault ends all lanes."""
@@ -92,26 +104,27 @@ class Nemesis:
     def _node(self, planned: Planned) -> Iterator[Optional[Node]]:
         """The node that is struck: the one that was planned, or else the next one that no other strike of this lane holds. None where the
         time is up before there is one."""
-        lane = self._strikes[planned.name].lane
+        kind = self._strikes[planned.name]
+        single = [(planned.name, "")] if kind.is_single else []
         first = self._cluster.nodes[planned.node]
         if planned.at_leader:
             first = self._cluster.leader() or first
         nodes = [first] if planned.is_named else self._cluster.nodes[first.number:] + self._cluster.nodes[:first.number]
-        node = self._taken_one(lane, nodes)
+        node = self._taken_one(kind.lane, nodes, single)
         while node is None and self._wait(time.monotonic() + GLANCE):
-            node = self._taken_one(lane, nodes)
+            node = self._taken_one(kind.lane, nodes, single)
         try:
             yield node
         finally:
             if node is not None:
                 with self._lock:
-                    self._taken.discard((lane, node.name))
+                    self._taken -= {(kind.lane, node.name), *single}
 
-    def _taken_one(self, lane: str, nodes: List[Node]) -> Optional[Node]:
+    def _taken_one(self, lane: str, nodes: List[Node], single: List[Tuple[str, str]]) -> Optional[Node]:
         with self._lock:
-            for node in nodes:
+            for node in nodes if not self._taken & set(single) else []:
                 if lane not in ALONE or (lane, node.name) not in self._taken:
-                    self._taken.add((lane, node.name))
+                    self._taken |= {(lane, node.name), *single}
                     return node
         return None
 

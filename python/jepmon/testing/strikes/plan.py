@@ -10,7 +10,7 @@ from __future__ import annotations
 
 import random
 import re
-from typing import Callable, Dict, Iterator, List, Mapping, NamedTuple, Optional, Sequence
+from typing import Callable, Dict, Iterator, List, Mapping, NamedTuple, Optional, Sequence, Tuple
 
 from ..errors import ServerError
 from .kind import ALONE, CLOCK, LINKS, OTHER, PROCESS, Parameter, Strike
@@ -22,7 +22,7 @@ NUMBER = r"-?[0-9]+(?:\.[0-9]+)?"
 RANGE = re.compile(rf"({NUMBER})(?:\.\.({NUMBER}))?")
 LASTING = Parameter(0.1, 10.0, 0.01)  # seconds of a strike
 REST = Parameter(0.2, 3.0)  # seconds between two strikes of a lane
-SHARE = 0.25  # of a run: no strike that is drawn lasts longer, and the first one comes before half of it
+SHARE = 0.15  # of a run: no strike that is drawn lasts longer, and the first one comes before half of it
 QUIET = 0.5  # seconds at least before the first strike
 AT_LEADER = 0.25  # the chance that a strike on any node is one on the leader, where the server names one
 UNSETTLED = 0.25  # the chance that a node is struck again before it is ready
@@ -166,15 +166,23 @@ class Plan:
         if self.scheduled:
             return [Lane(iter(strikes), False) for strikes in apart([self._at_its_time(item) for item in self.scheduled])]
         found = []
-        for lane in (PROCESS, LINKS, CLOCK, OTHER):
-            items = [item for item in self.drawn if self.known[item.name].lane == lane]
-            for number in range(self._at_once(lane) if items else 0):
-                found.append(Lane(self._drawn(items, random.Random(f"strikes {seed} {lane} {number}"), seconds), True))
+        for lanes, at_once in self._at_once():
+            items = [item for item in self.drawn if self.known[item.name].lane in lanes]
+            for number in range(at_once if items else 0):
+                found.append(Lane(self._drawn(items, random.Random(f"strikes {seed} {lanes[0]} {number}"), seconds), True))
         return found
 
-    def _at_once(self, lane: str) -> int:
-        """How many strikes of a lane go on at once: two, where that leaves a node that is not struck."""
-        return 2 if lane == LINKS and self.nodes > 1 or lane == PROCESS and self.nodes > 2 else 1
+    def _at_once(self) -> Iterator[Tuple[Sequence[str], int]]:
+        """Lanes, and how many strikes of them go on at once: two, where that leaves a majority most of the time. One node is either down or
+        cut off: both are the same to its clients, which are to do something between."""
+        at_once = 2 if self.nodes > 3 else 1
+        if self.nodes == 1:
+            yield (PROCESS, LINKS), 1
+        else:
+            yield (PROCESS,), at_once
+            yield (LINKS,), at_once
+        yield (CLOCK,), 1
+        yield (OTHER,), 1
 
     def _at_its_time(self, item: Item) -> Planned:
         values = {name: parameter.drawn(random.Random(item.word)) for name, parameter in item.given.items()

@@ -1,0 +1,76 @@
+"""Which values of a history are one to the store, and which answer means that a key is missing, as the user says."""
+from __future__ import annotations
+
+import decimal
+import json
+import re
+from typing import FrozenSet, NamedTuple
+
+from ..edn import Many, Value, integer, string
+from .numbering import NUMBER
+
+EXACT, TEXT, NUMBERS = "exact", "text", "number"
+WAYS = (EXACT, TEXT, NUMBERS)
+TRUTH = {"true": "1", "false": "0"}
+
+
+class Meant(NamedTuple):
+    """`exact`: 1, 1.0 and "1" are three values. `text`: those of one text are one, without spaces around it: 1 and " 1". `number`: those of
+    one number too: 1, 1.0, "1" and true. A value whose text is among `absent` is nil."""
+
+    values: str = EXACT
+    absent: FrozenSet[str] = frozenset()
+
+    @property
+    def says_nothing(self) -> bool:
+        return self.values == EXACT and not self.absent
+
+    def part(self, name: str, part: Value) -> Value:
+        """The part of an event, whose spelling is canonical."""
+        if not isinstance(part, Many):
+            return self.value(part)
+        if name == ":cas":
+            return Many(part.opened, tuple(map(self.value, part.members)))
+        if name in (":read", ":drain"):  # members of a set, of which none is a missing key
+            return Many(part.opened, tuple(map(self.alike, part.members)))
+        return part
+
+    def value(self, value: Value) -> Value:
+        if self.absent and isinstance(value, str) and value != "nil" and text_of(value) in self.absent:
+            return "nil"
+        return self.alike(value)
+
+    def alike(self, value: Value) -> Value:
+        """The value that stands for all which are one with it."""
+        if self.values == EXACT or not isinstance(value, str) or value == "nil" or value.startswith(":"):
+            return value
+        text = text_of(value).strip()
+        if self.values == NUMBERS:
+            text = number_of(text)
+        return text if integer(text) is not None and text == str(integer(text)) else json.dumps(text, ensure_ascii=False)
+
+
+def text_of(value: str) -> str:
+    """The text of an atom: of a string without its quotes."""
+    return string(value) if value.startswith('"') else value
+
+
+def number_of(text: str) -> str:
+    """One spelling of each number; of what is none the text."""
+    text = TRUTH.get(text.lower(), text)
+    if re.fullmatch(NUMBER, text) is None:
+        return text
+    try:
+        number = decimal.Decimal(text.rstrip("MN"))
+    except ArithmeticError:
+        return text
+    return str(int(number)) if number == number.to_integral_value() and abs(number.adjusted()) < 30 else str(number.normalize())
+
+
+def spelled(text: str) -> Value:
+    """A value that the user names: an integer, or a text, in quotes or without."""
+    if integer(text) is not None:
+        return str(integer(text))
+    if len(text) > 1 and text[0] == text[-1] == '"':
+        text = text[1:-1]
+    return json.dumps(text, ensure_ascii=False)

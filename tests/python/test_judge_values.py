@@ -1,0 +1,134 @@
+"""Which values are one, what a missing key answers, and what a key holds at first: as the user says, in every form that is read."""
+from __future__ import annotations
+
+import json
+import unittest
+from typing import Any, List, Tuple
+
+from jepmon.from_jepsen.meant import Meant
+from jepmon.judge.doubts import alike
+
+from .test_judge_results import Judged
+
+Op = Tuple[str, Any]  # a write with its value, or a read with its answer
+
+
+def jsonl(*operations: Op) -> str:
+    rows = [{"client": 0, "key": "k", "op": name, "value" if name == "write" else "result": value, "start": 2 * at, "end": 2 * at + 1}
+            for at, (name, value) in enumerate(operations)]
+    return "".join(json.dumps(row) + "\n" for row in rows)
+
+
+def csv(*operations: Op) -> str:
+    rows = [f"0,k,{name},{value if name == 'write' else ''},{value if name == 'read' else ''},{2 * at},{2 * at + 1}"
+            for at, (name, value) in enumerate(operations)]
+    return "client,key,op,value,result,start,end\n" + "\n".join(rows) + "\n"
+
+
+def edn(value: Any) -> str:
+    return "nil" if value is None else json.dumps(value)
+
+
+def jepsen(*operations: Op) -> str:
+    lines: List[str] = []
+    for name, value in operations:
+        lines += [f"{{:type :{kind}, :f :{name}, :process 0, :value [\"k\" {edn(value if name == 'write' or kind == 'ok' else None)}]}}"
+                  for kind in ("invoke", "ok")]
+    return "\n".join(lines) + "\n"
+
+
+def keyed(*operations: Op) -> str:
+    lines: List[str] = []
+    for name, value in operations:
+        lines += [f"{{:process 0, :type :{kind}, :f :{name}, :key \"k\", :value {edn(value if name == 'write' or kind == 'ok' else None)}}}"
+                  for kind in ("invoke", "ok")]
+    return "\n".join(lines) + "\n"
+
+
+def log(*operations: Op) -> str:
+    lines: List[str] = []
+    for name, value in operations:
+        lines += [f"0\t:{kind}\t:{name}\t[\"k\" {edn(value if name == 'write' or kind == 'ok' else None)}]" for kind in ("invoke", "ok")]
+    return "\n".join(lines) + "\n"
+
+
+FORMS = {"jsonl": jsonl, "edn": jepsen, "keyed.edn": keyed, "log": log}
+
+
+class Values(Judged):
+    def status(self, text: str, *words: str, name: str = "history.jsonl") -> int:
+        return self.judged(text, "--no-cause", *words, name=name).status
+
+    def test_values_that_look_alike(self) -> None:
+        """The first ways by which a write and an answer are one, and those by which they are not."""
+        for written, answer, one_by in ((1, "1", ("text", "number")), (1, 1.0, ("number",)), ("1", 1.0, ("number",)), ("a", " a", ("text", "number")),
+                                        (1, True, ("number",)), ("true", True, ("text", "number")), (0, False, ("number",)), ("a", "b", ()),
+                                        ("1", "01", ("number",)), (10, 1e1, ("number",))):
+            for way in ("exact", "text", "number"):
+                for name, form in FORMS.items():
+                    self.assertEqual(self.status(form(("write", written), ("read", answer)), "--values", way, name=f"h.{name}"),
+                                     0 if way in one_by else 1, (written, answer, way, name))
+
+    def test_they_are_named_and_a_guess(self) -> None:
+        text = jsonl(("write", 1), ("read", "1"))
+        ran = self.judged(text)
+        self.assertEqual(ran.status, 1)
+        self.assertIn('guess of the type of values: 1 and "1" are different values; --values exact|text|number settles it', ran.err)
+        self.assertNotIn("type of values", self.judged(text, "--values", "exact").err)
+        self.assertIn("--values exact|text|number", self.judged(text, "--strict-input", "--model", "register").err)
+        self.assertNotIn("type of values", self.judged(jsonl(("write", "a"), ("write", "b"), ("read", "b"))).err)
+
+    def test_groups(self) -> None:
+        self.assertEqual(alike({0: "1", 1: '"1"', 2: "1.0", 3: '"a"', 4: '" a"', 5: "2", 6: "true", 7: ":a"}),
+                         [["1", '"1"', "1.0", "true"], ['"a"', '" a"']])
+        self.assertEqual(Meant("number").alike('"1e400"'), '"1E+400"')
+        for same in ("nil", ":key", '"x"'):
+            self.assertEqual(Meant("number").alike(same), same)
+
+    def test_what_a_missing_key_answers(self) -> None:
+        for absent, answer in (("", ""), ("0", 0), ("None", "None"), ("-1", -1)):
+            for name, form in FORMS.items():
+                right, lost = form(("read", answer), ("write", 7), ("read", 7)), form(("write", 7), ("read", answer))
+                self.assertEqual(self.status(right, name=f"h.{name}"), 1, (absent, name))
+                self.assertEqual(self.status(right, "--absent", absent, name=f"h.{name}"), 0, (absent, name))
+                self.assertEqual(self.status(lost, "--absent", absent, name=f"h.{name}"), 1, (absent, name))
+        self.assertEqual(self.status(jsonl(("read", ""), ("read", None), ("write", 7), ("read", 7)), "--absent", "", "--absent", "0"), 0)
+
+    def test_an_empty_queue(self) -> None:
+        rows = [{"client": 0, "key": "k", "op": "dequeue", "result": "", "start": 0, "end": 1},
+                {"client": 0, "key": "k", "op": "enqueue", "value": 7, "start": 2, "end": 3},
+                {"client": 0, "key": "k", "op": "dequeue", "result": 7, "start": 4, "end": 5}]
+        text = "".join(json.dumps(row) + "\n" for row in rows)
+        self.assertEqual((self.status(text), self.status(text, "--absent", "")), (1, 0))
+
+    def test_what_a_key_holds_at_first(self) -> None:
+        for initial, answer in (("5", 5), ("x y", "x y"), ('"5"', "5")):
+            for name, form in FORMS.items():
+                right = form(("read", answer), ("write", 7), ("read", 7))
+                self.assertEqual(self.status(right, name=f"h.{name}"), 1, (initial, name))
+                self.assertEqual(self.status(right, "--initial", initial, name=f"h.{name}"), 0, (initial, name))
+                self.assertEqual(self.status(form(("write", 7), ("read", answer)), "--initial", initial, name=f"h.{name}"), 1, (initial, name))
+
+    def test_the_same_of_jepmons_own_form_and_in_shards(self) -> None:
+        own = "\n".join(f"{{:type :{kind}, :process 0, :f :read, :value [3 {part}]}}" for kind, part in (("invoke", "nil"), ("ok", "0"))) + "\n"
+        for words in ([], ["--jobs", "1"]):
+            self.assertEqual(self.status(own, *words, name="own.edn"), 1)
+            for option in ("--absent", "--initial"):
+                self.assertEqual(self.status(own, option, "0", *words, name="own.edn"), 0, (option, words))
+
+    def test_csv(self) -> None:
+        self.assertEqual(self.status(csv(("read", "0"), ("write", 7), ("read", 7)), "--absent", "0", name="h.csv"), 0)
+        self.assertEqual(self.status(csv(("read", "0"), ("write", 7), ("read", 7)), "--initial", "0", name="h.csv"), 0)
+
+    def test_a_value_that_nobody_has_written_is_asked_about(self) -> None:
+        for answer, shown, word in (("", '""', "''"), (9, "9", "9"), ("a b", '"a b"', "'a b'")):
+            found = self.as_json(jsonl(("read", answer), ("write", 7)))
+            want = (f'nobody has written {shown} to key "k": did the key hold it before the test? then say --initial {word}; is it the answer for '
+                    f"a missing key? then say --absent {word}")
+            self.assertIn(want, found["notes"])
+        for text, words in ((jsonl(("write", 7), ("write", 8), ("read", 7)), ()), (jsonl(("read", 9), ("write", 7)), ("--initial", "3"))):
+            self.assertNotIn("nobody has written", self.judged(text, *words).err.replace("but nobody had written", ""))
+
+
+if __name__ == "__main__":
+    unittest.main()
