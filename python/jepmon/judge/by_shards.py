@@ -157,7 +157,7 @@ def _judge(given: Given, found: Large, history: Asked, session: shards.Session, 
     results.write(page, folder, done)
     if given.json:
         counted_up = as_json.Counted(session.tally.events, verdict.keys, None, form_of(found), session.tally.outcomes(), of_report)
-        as_json.write(as_json.of_results(done, found.path, counted_up, beside, given))
+        as_json.write(as_json.of_results(done, found.source, counted_up, beside, given))
     return verdict.status
 
 

@@ -163,7 +163,7 @@ def _judge_whole(source: files.Source, found: Recorded, given: Given, page: Opti
         facts = found.facts
         counted = as_json.Counted(facts.events, len(facts.keys), models.clients_of(facts, task.options.concurrency), found.form, facts.outcomes,
                                   of_report)
-        as_json.write(as_json.of_results(done, source.path, counted, [*source.notes, *found.notes, *beside], given))
+        as_json.write(as_json.of_results(done, source, counted, [*source.notes, *found.notes, *beside], given))
     return report.status
 
 

@@ -115,7 +115,7 @@ def given(words: Optional[List[str]]) -> Given:
                         "(docs/FORMATS.md has its fields)")
     parser.add_argument("--no-cause", dest="cause", action="store_false", help="the verdict alone")
     try:
-        parsed = parser.parse_args(words)
+        parsed = parser.parse_intermixed_args(words)
         mapping = mapping_words.of(parsed)
         if not parsed.history and sys.stdin is not None and sys.stdin.isatty():
             parser.error("no history is named, and standard input is a terminal")
