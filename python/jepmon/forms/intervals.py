@@ -10,7 +10,7 @@ from __future__ import annotations
 from bisect import bisect_right
 from typing import Any, Dict, Iterable, List, NamedTuple, Optional, Set, Tuple
 
-from ..from_jepsen.collect import Pair
+from ..from_jepsen.asked import Pair
 from . import Refused
 from .answers import UNANSWERED, answered, says_no
 from .clock import Time
