@@ -1,25 +1,24 @@
 """Causes in words: what they say of wrong histories whose fault is known, and that what they say is so."""
 from __future__ import annotations
 
-import functools
 import random
 import unittest
 from typing import Any, Dict, Iterator, List
-from unittest import mock
 
 from jepmon import cause, history, program
 from jepmon.causes.case import Case
 from jepmon.causes.names import Names
 from jepmon.effort import ASKING, WHOLE, Effort
 from jepmon.kinds import ABSENT
-from jepmon.walk import UNBOUNDED, walk
+from jepmon.walk import UNBOUNDED, WORK, walk
 
 from . import TOP, fuzz, recorded, stores
 from .histories import NAMES, Clients, Way
 
 
-def explained(text: str, options: program.Options, names: Names = Names(), shrink: bool = True) -> cause.Cause:
-    found = cause.explain(history.read_history(text), program.check(text.encode(), options), options, names, shrink=shrink)
+def explained(text: str, options: program.Options, names: Names = Names(), shrink: bool = True, work: int = WORK) -> cause.Cause:
+    report = program.check(text.encode(), options)
+    found = cause.explain(history.read_history(text), report, options, names, shrink=shrink, effort=Effort(work=work))
     assert found is not None
     return found
 
@@ -192,9 +191,9 @@ While it was open (events 39 to 47), key 3 can have held 203, never 200. Asked o
 200 was brought in by client 1's write of 200 (events 4 to 14)."""), (False, """\
 Client 3's read of 200 on key 3 fits no order of the operations.
 There were too many orders to try within the limit of work: which it might have fitted can't be told.""")):
-            with self.subTest(shrink=shrink), mock.patch.object(cause, "walk", functools.partial(walk, work=100)):
+            with self.subTest(shrink=shrink):
                 options = program.Options(made.concurrency, made.model)
-                self.assertEqual(said_of(explained(made.text, options, shrink=shrink)), want)
+                self.assertEqual(said_of(explained(made.text, options, shrink=shrink, work=100)), want)
 
     def test_without_effort(self) -> None:
         """What is left out is said, and the same at each try, however busy the machine is."""
@@ -230,7 +229,7 @@ def illegal_cases(model: str, each: int, seed: int = 0) -> Iterator[Case]:
             front = [step.event for step in walked.steps]
             made = history.operations(front, way.clients)
             fatal = next(operation for operation in made if operation.completion is front[-1])
-            yield Case(model, 0, front, made, fatal, events[len(front):], walked, program.Options(way.clients, model), Names(), None, 0.0)
+            yield Case(model, 0, front, made, fatal, events[len(front):], walked, program.Options(way.clients, model), Names(), None, Effort(0))
 
 
 def is_legal(model: str, events: List[history.Event]) -> bool:

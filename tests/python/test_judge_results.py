@@ -131,7 +131,7 @@ class Pages(Judged):
         self.assertEqual([path.name for path in (self.top / "page-keys").iterdir()], ["key-2.html"])
         ran = self.judged(rows({"a": True}), "--html", "page.html")
         self.assertIn("no page was written, and that of an earlier run was removed", ran.err)
-        self.assertEqual(sorted(path.name for path in self.top.iterdir()), ["history.jsonl"])
+        self.assertEqual(sorted(path.name for path in self.top.iterdir()), ["history.jsonl", "page-rates.html"])
         self.assertNotIn("earlier run", self.judged(rows({"a": True}), "--html", "page.html").err)
 
     def test_what_is_no_page_of_a_key_stays(self) -> None:

@@ -7,7 +7,6 @@ import io
 import os
 import pathlib
 import sys
-import tempfile
 from typing import IO, Callable, Iterator, List, Optional, Sequence
 
 from . import Beyond, Refused, decoding
@@ -179,6 +178,8 @@ class _Kept:
     """A file without a name, which is gone with the last one who reads it."""
 
     def __init__(self) -> None:
+        import tempfile  # which takes time to load, and seldom has to
+
         self.file = tempfile.SpooledTemporaryFile(HELD)
 
     def __del__(self) -> None:

@@ -6,9 +6,6 @@ import operator
 import re
 from typing import Iterable
 
-from ..shards.doubt import Doubt
-from ..shards.lines import HEAD, rows_of
-
 EVENT = re.compile(r"\{(?::index [0-9]+,? )?:type :[a-z]+,? :process [0-9:]")
 
 
@@ -30,6 +27,9 @@ def is_in_order(front: str, texts: Iterable[str]) -> bool:
 
 def is_own(front: str) -> bool:
     """Whether the first event of a text is one in jepmon's own form; where there is none, it is."""
+    from ..shards.doubt import Doubt  # here, since it takes time to load
+    from ..shards.lines import HEAD, rows_of
+
     for line in front.split("\n"):
         if line.startswith("{"):
             try:

@@ -1,7 +1,6 @@
 """Which values of a history are one to the store, and which answer means that a key is missing, as the user says."""
 from __future__ import annotations
 
-import decimal
 import json
 import re
 from typing import FrozenSet, NamedTuple
@@ -60,6 +59,8 @@ def number_of(text: str) -> str:
     text = TRUTH.get(text.lower(), text)
     if re.fullmatch(NUMBER, text) is None:
         return text
+    import decimal  # which takes time to load, and seldom has to
+
     try:
         number = decimal.Decimal(text.rstrip("MN"))
     except ArithmeticError:
