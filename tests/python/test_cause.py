@@ -201,7 +201,7 @@ There were too many orders to try within the limit of work: which it might have 
         options = program.Options(made.concurrency, made.model)
         events, report = history.read_history(made.text), program.check(made.text.encode(), options)
         another, smallest = "what jepmon says of another answer", "the smallest illegal part"
-        for effort, left_out, finished in ((0, [another, smallest], None), (4 * ASKING, [smallest], None), (5 * ASKING, [], False),
+        for effort, left_out, finished in ((0, [another, smallest], None), (4.5 * ASKING, [smallest], None), (5.5 * ASKING, [], False),
                                            (WHOLE, [], True)):
             found = cause.explain(events, report, options, effort=Effort(effort))
             assert found is not None
