@@ -1,8 +1,8 @@
 #!/usr/bin/env python3
 """Prints random histories of known verdict in every form that jepmon-judge takes, with variations as tests in the field have them, and
-compares the verdicts. A verdict that is not the right one is SILENT if no line warns of it, else NOTED; CLOCKS if it is right by times of
-clocks that differ, and a line says so. The smallest case of each class is shown. A refusal is no verdict. Some cases are judged by --jobs
-too, which must say the same. Ends with 'N passed, M failed'.
+compares the verdicts. A verdict that is not the right one is SILENT if no line warns of it; SETTLED if a line names an option and the verdict
+is right with it; CLOCKS if it is right by times of clocks that differ, and a line says so; else NOTED. The smallest case of each class is
+shown. A refusal is no verdict. Some cases are judged by --jobs too, which must say the same. Ends with 'N passed, M failed'.
 
 usage: tests/fuzz_forms.py [--count N] [--seconds S] [--seed S] [--form FORM] [--jobs-of N] [--out DIR] [--shares]     JEPMON names the program
 
@@ -39,22 +39,25 @@ class Tally:
         self.by_form: "Counter[str]" = collections.Counter()
         self.by_way: Dict[str, "Counter[str]"] = collections.defaultdict(collections.Counter)
         self.classes: Dict[str, List[Wrong]] = collections.defaultdict(list)
-        self.faults: List[str] = []
+        self.faults: Dict[str, List[str]] = collections.defaultdict(list)  # of the tool itself, by their lines
         self.pairs: Dict[str, List[Pair]] = collections.defaultdict(list)  # judged plainly and by shards, by what came of both
 
     def take(self, case: Case, judged: Judged, is_wrong: bool) -> None:
         fault, line = is_fault(judged)
         if fault:
-            self.faults.append(f"{case.ways}: {line}")
+            self.faults[line].append(str(case.ways))
         word = "wrong" if is_wrong else "judged" if judged.word == case.right else judged.word
         self.by_form[f"{case.form} {word}"] += 1
         for name in case.variations():
             self.by_way[f"{case.form} {name}={case.ways[name]}"][word] += 1
 
     def count(self, word: str) -> int:
-        """How many wrong verdicts are SILENT, NOTED or CLOCKS, or wait for what is known."""
-        return sum(len(found) for signature, found in self.classes.items()
-                   if ("waits" if waits_for(found[0].case.variations()) else signature.split()[0]) == word)
+        """How many wrong verdicts are SILENT, NOTED, SETTLED or CLOCKS, or wait for what is known."""
+        return sum(_word(wrong) == word for found in self.classes.values() for wrong in found)
+
+
+def _word(wrong: Wrong) -> str:
+    return "waits" if wrong.word == "SILENT" and waits_for(wrong.case.ways) else wrong.word
 
 
 def main() -> int:
@@ -76,11 +79,11 @@ def main() -> int:
                 smallest = examiner.smallest(wrong)
                 tally.classes[smallest.signature()].append(smallest)
     shown(tally, given)
-    silent, noted, clocks, waiting = (tally.count(word) for word in ("SILENT", "NOTED", "CLOCKS", "waits"))
-    failed = (silent + len(tally.faults) + (noted if noted * NOTED_OF > given.count else 0)
-              + sum(not waits_for(pair.case.variations()) for pair in tally.pairs["another verdict"]))
+    silent, noted, settled, clocks, waiting = (tally.count(word) for word in ("SILENT", "NOTED", "SETTLED", "CLOCKS", "waits"))
+    failed = (silent + sum(map(len, tally.faults.values())) + (noted if noted * NOTED_OF > given.count else 0)
+              + sum(not waits_for(pair.case.ways) for pair in tally.pairs["another verdict"]))
     print(f"seed {given.seed}, {given.count} histories: {silent} wrong verdicts in silence, {noted} with a warning, "
-          f"{clocks} by clocks that differ, {waiting} that wait for what is known, {time.process_time() - began:.0f} seconds of Python")
+          f"{settled} that the option named settles, {clocks} by clocks that differ, {waiting} that wait for what is known, {time.process_time() - began:.0f} seconds of Python")
     print(f"{given.count - failed} passed, {failed} failed")
     return 1 if failed else 0
 
@@ -98,8 +101,8 @@ def words() -> argparse.Namespace:
 
 
 def shown(tally: Tally, given: argparse.Namespace) -> None:
-    for fault in tally.faults:
-        print(f"FAULT {fault}")
+    for line, ways in tally.faults.items():
+        print(f"{len(ways):6} FAULT {line}, as of {min(ways, key=len)}")
     classes = sorted(tally.classes.items(), key=lambda found: (not found[0].startswith("SILENT"), -len(found[1])))
     for signature, found in classes[:SHOWN]:
         smallest = min(found, key=lambda wrong: len(wrong.case.ops))

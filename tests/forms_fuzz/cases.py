@@ -6,7 +6,7 @@ import random
 from typing import Dict, Iterator, List, NamedTuple, Optional, Sequence
 
 from . import truth
-from .fields import Variations, ticks_of
+from .fields import Variations, options_of, ticks_of
 from .histories import MODELS, Op, simulated, size_of
 from .judged import Judged, Room, Usual
 from .printed import FORMS, OF_EVENTS, REGISTERS_ALONE, Printed, drawn, printed, settled
@@ -41,11 +41,15 @@ class Wrong(NamedTuple):
     case: Case
     judged: Judged
     warnings: List[str]
+    is_settled: bool  # a line names an option, and with it the verdict is right
 
     @property
     def word(self) -> str:
-        """SILENT, NOTED, or CLOCKS: the verdict is right by the times that were printed, and a line says that they have to be of one clock."""
-        return "SILENT" if not self.warnings else "CLOCKS" if "skew" in self.case.ways else "NOTED"
+        """SILENT, NOTED, SETTLED, or CLOCKS: the verdict is right by the times that were printed, and a line says that they have to be of
+        one clock."""
+        if not self.warnings:
+            return "SILENT"
+        return "SETTLED" if self.is_settled else "CLOCKS" if "skew" in self.case.ways else "NOTED"
 
     def signature(self) -> str:
         """The class of the fault, by which cases are counted."""
@@ -112,7 +116,14 @@ class Examiner:
         again = self.room.judged(case.printed())
         self.learn(case.form)
         options = [SETTLED_BY[name] for name in case.variations() if name in SETTLED_BY]
-        return Wrong(case, again, self.usual.warnings(case.form, again, options))
+        return Wrong(case, again, self.usual.warnings(case.form, again, options), self.is_settled(case, again))
+
+    def is_settled(self, case: Case, judged: Judged) -> bool:
+        """Whether the lines name the options for the values of the case, and with these options the verdict is right."""
+        options = [word for word in options_of(case.ways) if word.startswith("--")]
+        if "said" in case.ways or not options or not all(any(option in line for line in judged.lines) for option in options):
+            return False
+        return self.judged(case._replace(ways={**case.ways, "said": 1})).word == case.right
 
     def is_within_errors(self, case: Case) -> bool:
         """Whether an illegal history may have been legal by the times that were printed: the errors of clocks that were stated, or

@@ -53,7 +53,8 @@ def value_of(value: Any, ways: Variations, is_answer: bool = False) -> Any:
         return None
     if isinstance(value, (tuple, frozenset)):
         return [value_of(member, ways, is_answer) for member in (value if isinstance(value, tuple) else sorted(value))]
-    return str(value) if is_answer and ways.get("stringly") else VALUES[ways.get("values", "int")](value, is_answer)
+    written = VALUES[ways.get("values", "int")](value, is_answer)
+    return str(written) if is_answer and ways.get("stringly") and isinstance(written, (int, float)) else written
 
 
 def key_of(op: Op, ways: Variations) -> Any:
@@ -171,6 +172,17 @@ def missing_fields(op: Op, name: str, ways: Variations) -> Dict[str, Any]:
     return MISSING[ways["missing"]](name)
 
 
+def options_of(ways: Variations) -> List[str]:
+    """What a user says of values, if the variation has it said: what a missing key answers, and that a number and its text are one."""
+    words: List[str] = []
+    absent = "" if ways.get("gozero") else {"empty": "", "zero": "0", "None": "None"}.get(ways.get("missing", ""))
+    if absent is not None and not (absent == "0" and ways.get("values") == "zero"):
+        words += ["--absent", absent]
+    if ways.get("stringly") or ways.get("values") == "mixfloat":
+        words += ["--values", "number"]
+    return words
+
+
 WORDS: Dict[str, Dict[str, str]] = {
     "plain": {},
     "kv": {"read": "get", "write": "put"},
@@ -183,7 +195,3 @@ WORDS: Dict[str, Dict[str, str]] = {
 
 def word_of(op: Op, ways: Variations) -> str:
     return WORDS[ways.get("words", "plain")].get(op.name, op.name)
-
-
-def members(values: List[Any], open_with: str, close_with: str) -> str:
-    return open_with + " ".join(map(str, values)) + close_with

@@ -7,7 +7,7 @@ import random
 from typing import Any, Callable, Dict, List, NamedTuple, Sequence
 
 from . import jepsen, logs, recorders, rows
-from .fields import CLIENTS, KEYS, MISSING, OUTCOMES, TIMES, VALUES, WORDS, Variations
+from .fields import CLIENTS, KEYS, MISSING, OUTCOMES, TIMES, VALUES, WORDS, Variations, options_of
 from .histories import Op
 from .rows import MAPPED
 
@@ -48,8 +48,8 @@ CHOICES: Dict[str, Sequence[Any]] = {
 UNITS = {"iso": "ms", "isoz": "ms", "float": "ms", "epochns": "us"}  # of one mark, by the way of the times
 EDN_KEYS = list(KEYS) + ["kw", "ns"]
 BYTES = "crlf blank bom cut gz"
-ROWS = f"keyname alikekeys missing words outcome values keys answers times clients order extra ids dup stringly skew error several mapped nokeys {BYTES}"
-LOGGED = f"words values keys alikekeys times clients order extra dup shortend stringly skew error several nokeys {BYTES}"
+ROWS = f"keyname alikekeys missing words outcome values keys answers times clients order extra ids dup stringly said skew error several mapped nokeys {BYTES}"
+LOGGED = f"words values keys alikekeys times clients order extra dup shortend stringly said skew error several nokeys {BYTES}"
 # The variations that a form looks at, so that none is idle.
 USED: Dict[str, List[str]] = {form: names.split() for form, names in {
     "oprows": f"{ROWS} unitmix names casnames nullret array wrapped ascii",
@@ -57,10 +57,10 @@ USED: Dict[str, List[str]] = {form: names.split() for form, names in {
     "evrows": f"{ROWS} types shortend nullvalue endsay notime starts array wrapped",
     "evcsv": f"{ROWS} types shortend endsay notime starts delimiter",
     "edn": f"values keys alikekeys clients order setread tuplemap nil_fail newprocess keyfield index typefirst pprint record nemesis notime dup array "
-           f"stringly skew several nokeys {BYTES}",
+           f"stringly said skew several nokeys {BYTES}",
     "log": "values prefix nemesis crlf blank bom cut gz dup several nokeys",
     "etcd": "crlf bom cut gz several",
-    "porcupine": "gozero unknown crlf bom cut gz several",
+    "porcupine": "gozero said unknown crlf bom cut gz several",
     "slog": f"{LOGGED} array ascii nullvalue", "logfmt": f"{LOGGED} nullvalue", "lines": f"{LOGGED} others",
     "headless": f"values keys times clients order dup casnames delimiter stringly skew error several nokeys {BYTES}",
     "otlp": "values keys alikekeys words order pretty stringly nokeys crlf bom cut gz",
@@ -87,6 +87,7 @@ def printed(ops: Sequence[Op], model: str, ways: Variations) -> Printed:
     ways = settled(ways)
     words = ["--model", model] if model == "unordered-queue" else []
     words += SAID.get(ways["form"], [])
+    words += options_of(ways) if ways.get("said") else []
     mapping = {"mapping.json": json.dumps(MAPPINGS[ways["form"]]).encode()} if ways["form"] in MAPPINGS else {}
     words += [word for name in mapping for word in ("--mapping", name)]
     if "error" in ways:

@@ -1,14 +1,16 @@
-"""The variations whose wrong verdicts are known and not mended yet, and what each waits for."""
+"""The variations and forms whose wrong verdicts are known and not mended yet, and what each waits for."""
 from __future__ import annotations
 
-from typing import Dict, List
+from typing import Dict
+
+from .fields import Variations
 
 WAITS: Dict[str, str] = {
-    "gozero": "absent values", "missing": "absent values", "stringly": "types that look alike", "values": "types that look alike",
-    "alikekeys": "keys that look alike",
+    "alikekeys": "keys that look alike", "stringly": "types that look alike, in lists of cells", "values": "types that look alike, in lists of cells",
 }
+FORMS: Dict[str, str] = {"logfmt": "quoted lists of logfmt"}
 
 
-def waits_for(variations: List[str]) -> str:
+def waits_for(ways: Variations) -> str:
     """What a wrong verdict of these variations waits for; nothing if it is new."""
-    return next((WAITS[name] for name in variations if name in WAITS), "")
+    return next((WAITS[name] for name in ways if name in WAITS), FORMS.get(ways["form"], ""))

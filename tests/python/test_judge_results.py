@@ -184,7 +184,7 @@ class AsJson(Judged):
             "verdict": "illegal", "line": "illegal key 1 index 11", "keys": {"legal": 2, "illegal": 3, "unknown": 0}, "models": {"register": 5},
             "budget": 4096, "page": "page.html", "folder": None,
             "operations": {"read": {"ok": 5, "fail": 0, "info": 0}, "write": {"ok": 10, "fail": 0, "info": 0}},
-            "history": {"name": "history.jsonl", "file": "history.jsonl", "form": "JSON", "events": 30, "keys": 5, "clients": 1,
+            "history": {"name": "history.jsonl", "file": "history.jsonl", "files": ["history.jsonl"], "form": "JSON", "events": 30, "keys": 5, "clients": 1,
                         "concurrency": 1}})
         self.assertEqual(found["guesses"][0], {"of": "the model", "assumed": "register, by its operations: read, write", "option": "--model NAME"})
         first = found["bad_keys"][0]
@@ -206,6 +206,15 @@ class AsJson(Judged):
                          [whole[name] for name in ("verdict", "line", "keys", "models", "operations")])
         self.assertEqual(whole["bad_keys"][1]["event"], {"index": 17, "file": "history.edn", "line": 18})
         self.assertEqual(whole["bad_keys"][1]["name"], 12)
+
+    def test_lines_of_several_files(self) -> None:
+        lines = rows({"a": True, "b": False}).splitlines(True)
+        (self.top / "second.jsonl").write_text("".join(lines[4:]))
+        found = self.as_json("".join(lines[:4]), "second.jsonl", name="first.jsonl")
+        self.assertEqual(found.get("history", found)["files"], ["first.jsonl", "second.jsonl"])
+        part = found["bad_keys"][0]["smallest_part"]["operations"]
+        self.assertEqual([(each["invoked"]["file"], each["invoked"]["line"]) for each in part],
+                         [("first.jsonl", 4), ("second.jsonl", 1), ("second.jsonl", 2)])
 
     def test_legal_and_unknown(self) -> None:
         found = self.as_json(rows({"a": True}))

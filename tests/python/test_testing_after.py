@@ -211,7 +211,8 @@ class AsAWhole(Runs):
 
     def test_what_is_kept_of_a_legal_run(self) -> None:
         kept: Dict[str, List[str]] = {}
-        for words in ([], ["--keep-nodes", "always"]):
+        choices: Tuple[List[str], ...] = ([], ["--keep-nodes", "always"])
+        for words in choices:
             ran = self.ran(self.mine("class Mine(MyServer):\n    pass\n"), "--time", "2", "--least", "1", "--nemesis", "none", *words)
             self.assertEqual(ran.returncode, 0, ran.stdout + ran.stderr)
             kept[" ".join(words)] = [path.name for path in (self.room / "runs" / "latest").glob("n1.data/*")]

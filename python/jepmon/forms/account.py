@@ -49,9 +49,12 @@ class Account:
 
     def took(self, first: int, last: int) -> None:
         """Records the lines of an event. A line that holds several events counts once."""
-        self._latest = max(last - max(first - 1, self._until), 0)
+        if first > self._until:
+            self._latest, self._until = last - first + 1, last
+        else:
+            self._latest = max(last - self._until, 0)
+            self._until = max(self._until, last)
         self.taken += self._latest
-        self._until = max(self._until, last)
 
     def drop(self, reason: str) -> None:
         """Skips the lines that were taken last: they hold no event."""

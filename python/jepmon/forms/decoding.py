@@ -111,8 +111,3 @@ def whole_lines(pieces: Iterable[bytes]) -> Iterator[bytes]:
     rest = b"".join(held)
     if rest:
         yield rest
-
-
-def is_marked(front: bytes) -> bool:
-    """Whether the bytes begin with a byte order mark."""
-    return front.startswith(MARK)

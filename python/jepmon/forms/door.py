@@ -11,7 +11,7 @@ from typing import Any, Dict, Iterable, Iterator, List, NamedTuple, Optional, Se
 
 from .. import edn, history, kinds
 from ..edn import Value
-from ..from_jepsen.collect import Asked
+from ..from_jepsen.asked import Asked
 from ..from_jepsen.events import History
 from ..from_jepsen.meant import EXACT, Meant, spelled
 from ..from_jepsen.refusal import NoKey

@@ -9,8 +9,8 @@ from __future__ import annotations
 from typing import Iterator
 
 from .. import edn, history
+from ..from_jepsen.asked import GAP, Counted
 from ..from_jepsen.clients import Clients
-from ..from_jepsen.collect import GAP, Counted
 from . import Refused, rows_told
 from .account import Account
 from .files import Source

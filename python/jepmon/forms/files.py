@@ -68,6 +68,15 @@ class Source:
         """How many lines the text has that was read last, to its end; the last one may lack its line feed."""
         return self._feeds + (self._last != "\n")
 
+    @property
+    def paths(self) -> List[str]:
+        """The files; none of standard input."""
+        return [] if self.path is None else [self.path]
+
+    def place(self, line: int) -> "tuple[Optional[str], int]":
+        """The file of a line, and the line in it."""
+        return self.path, line
+
     def _front(self) -> str:
         """The first lines, up to one that says something."""
         front = ""
@@ -114,6 +123,14 @@ class Several(Source):
 
     def lines(self) -> int:
         return self._count
+
+    @property
+    def paths(self) -> List[str]:
+        return [path for part in self.parts for path in part.paths]
+
+    def place(self, line: int) -> "tuple[Optional[str], int]":
+        number = bisect.bisect_left(self.bases, line) - 1
+        return self.parts[number].path, line - self.bases[number]
 
     def part_of(self, line: int) -> str:
         """The name of the file that has a line."""

@@ -10,7 +10,7 @@ from __future__ import annotations
 from bisect import bisect_right
 from typing import Any, Dict, Iterable, List, NamedTuple, Optional, Set, Tuple
 
-from ..from_jepsen.collect import Pair
+from ..from_jepsen.asked import Pair
 from . import Refused
 from .answers import UNANSWERED, answered, says_no
 from .clock import Time
@@ -102,7 +102,7 @@ class Operations:
         begun = line, name, key, () if argument is MISSING else argument, call, None, mark
         self._timeline.operation(client, call, ends, outcome, begun, (last or line, name, key, () if value is MISSING else value, ends, error, mark))
         if keeps_times:
-            named = key if isinstance(key, (str, int, float)) else element(key)
+            named = key if isinstance(key, (str, int, float, tuple)) else element(key)  # a tuple where there is none
             self._calls.setdefault(named, []).append(call)
             if ends is not None and outcome != "info":
                 self._ends.setdefault(named, []).append(ends)

@@ -4,7 +4,8 @@ from __future__ import annotations
 import itertools
 from typing import Callable, Iterable, Iterator, NamedTuple, Optional
 
-from ..from_jepsen import collect
+from ..from_jepsen import asked as jepsen
+from ..from_jepsen.collect import Collector
 from . import etcd, intervals
 from .account import ORDER, Account
 from .clients import Clients
@@ -27,7 +28,7 @@ class Asked(NamedTuple):
 
     mapping: Mapping = Mapping()
     has_model: bool = False
-    of_events: collect.Asked = collect.Asked()  # the same of the events that are made of them
+    of_events: jepsen.Asked = jepsen.Asked()  # the same of the events that are made of them
     source: Optional[Source] = None  # which has them
 
 
@@ -51,7 +52,7 @@ class _Turning:
 
     def __init__(self, rows: Rows, account: Account, asked: Asked) -> None:
         self._rows, self._account, self._mapping = rows, account, asked.mapping
-        collector = collect.Collector(asked.of_events._replace(order=LINES), account)
+        collector = Collector(asked.of_events._replace(order=LINES), account)
         collector.history.is_of_rows = True
         self._writer = Writer(collector)
         self._reader = Reader(asked.mapping, account, asked.has_model)

@@ -7,7 +7,8 @@ import json.encoder
 from typing import Any, Callable, Counter, List, NamedTuple, Optional
 
 from ..edn import Many, Value, canonical
-from ..from_jepsen.collect import Collector, Pair
+from ..from_jepsen.asked import Pair
+from ..from_jepsen.collect import Collector
 from ..from_jepsen.events import History
 from . import Refused, others
 from .clock import Time

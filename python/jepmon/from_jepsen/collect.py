@@ -24,70 +24,25 @@ from __future__ import annotations
 
 import itertools
 import re
-from typing import Any, Callable, Dict, Iterable, Iterator, List, Mapping, NamedTuple, NoReturn, Optional, Sequence, Tuple
+from typing import Any, Dict, Iterable, List, Optional, Tuple
 
-from .. import edn, faults, kinds
+from .. import edn, faults
 from ..edn import Many, Value, canonical, integer, shown, spelling
 from ..forms.account import Account
+from .asked import GAP, Asked, Counted, Pair
 from .clients import NEMESIS, Clients, is_name
-from .events import Event, Fault, History, Left, Row, is_pair, tuple_of
-from .meant import Meant
+from .events import Event, Fault, History, Left, Row, is_pair, is_plain, tuple_of
 from .order import Order, number_of
 from .outcomes import Outcomes
 from .plain import Plain, plain_of
-from .source import Texts
 from .refusal import NoKey, Refusal, Unpaired, refuse
 from .spool import Spool, event_of, row_of, value_of
+from .taken import ANSWERED, DRAIN, TAKEN, TYPES, WITHOUT_PART, refuse_operation, refuse_others, refuse_value_of_read
 
-DRAIN = ":drain"
-TYPES = frozenset(f":{kind}" for kind in kinds.EVENT_TYPES)
-OPERATIONS = sorted(f":{name}" for name in kinds.OPERATIONS)
-TAKEN = frozenset(OPERATIONS + [DRAIN])
-ANSWERED = frozenset(f":{name}" for name in kinds.ANSWERED)
-WITHOUT_PART = frozenset([f":{name}" for name in kinds.WITHOUT_PART] + [DRAIN])
 NATURAL = range(0, 1 << 63)  # processes, and indices
 MOST_KNOWN = 10_000  # values of events that are remembered
-GAP = "blank, comment or bracket"  # lines between events
 MOST_ROWS = 1_000  # events that are held
 OK_WITH_ERROR = re.compile(r"^(?=[^\n]*:type :ok\b)[^\n]*:error (?!nil\b|false\b)", re.M)
-
-
-Pair = Tuple[Optional[Value], Value]  # the key, if there is one, and the part
-
-
-class Counted:
-    """Pieces of a text, whose lines are counted as they go by."""
-
-    def __init__(self, pieces: Iterable[str]) -> None:
-        self._pieces = iter(pieces)
-        self._feeds, self._last = 0, "\n"
-
-    def __iter__(self) -> Iterator[str]:
-        return self
-
-    def __next__(self) -> str:
-        piece = next(self._pieces)
-        self._feeds += piece.count("\n")
-        self._last = piece[-1:] or self._last
-        return piece
-
-    @property
-    def lines(self) -> int:
-        """How many lines there were; the last one may lack its line feed."""
-        return self._feeds + (self._last != "\n")
-
-
-class Asked(NamedTuple):
-    """What is said of a history beside its text."""
-
-    key: Optional[str] = None  # of a history without keys: each value v becomes [key v]
-    nil_is_absent: bool = False  # nil is what a missing key answers, and no read that says nothing
-    order: Optional[str] = None  # by which events are taken: "lines", "index" or "times"; None: as they stand, or by what they say
-    outcomes: Mapping[str, str] = {}  # the type of what is an :ok and says that it is none, by "false" and "error"
-    skew: int = 0  # nanoseconds by which each clock may be wrong
-    clients: Optional[Callable[[str, int], str]] = None  # of several files: the name of a client by the line of its event
-    parts: Sequence[Tuple[int, Texts]] = ()  # the same files, each with how many lines come before its own
-    meant: Meant = Meant()  # which values are one, and which are none
 
 
 class Collector:
@@ -442,40 +397,3 @@ class Collector:
             if not is_register:
                 raise fault
             self.nil_fault = self.nil_fault or fault
-
-
-def is_plain(part: str) -> bool:
-    """Whether a part is nil, or an integer that is a value of jepmon."""
-    return part.isdigit() and part.isascii() and len(part) < 19 or part == "nil" or part[0] == "-" and part[1:].isdigit() and len(part) < 19
-
-
-def refuse_operation(line: int, name: Optional[Value]) -> NoReturn:
-    if isinstance(name, str) and name[1:] in kinds.NOT_JUDGED:
-        refuse(line, f"{name} {kinds.NOT_JUDGED[name[1:]]}")
-    refuse(line, f"no object of jepmon has {shown(name or 'nil')}; they have {', '.join(OPERATIONS)}")
-
-
-def refuse_value_of_read(line: int, name: Value, value: Value) -> None:
-    """A read asks for one key. One that is invoked with a value, as [[:x 1] [:y 2]], is of several registers at once."""
-    if name != ":read" or value == "nil":
-        return
-    pair = tuple_of(value)
-    if pair is None or pair[1] != "nil":
-        refuse(line, f"this :read is invoked with {shown(value)}, in place of nil or [key nil]: is it of several registers at once? "
-               "jepmon judges reads of one key each")
-
-
-def refuse_others(elements: Iterator[edn.Element]) -> None:
-    """Refuses what follows where it has operations that no key makes into ones of jepmon."""
-    try:
-        for element in itertools.chain.from_iterable(element.each() for element in elements):
-            fields = edn.fields_of(element.value) or {}
-            name = fields.get(":f")
-            if integer(fields.get(":process")) is None:
-                continue
-            if name not in TAKEN:
-                refuse_operation(element.line, name)
-            if fields.get(":type") == ":invoke":
-                refuse_value_of_read(element.line, name or "nil", fields.get(":value", "nil"))
-    except edn.Unreadable:  # that is to be said once there is a key
-        return

@@ -140,3 +140,8 @@ def tuple_of(value: Value) -> Optional[Tuple[Value, Value]]:
 
 def is_pair(value: Value) -> bool:
     return isinstance(value, Many) and value.opened == "[" and len(value.members) == 2
+
+
+def is_plain(part: str) -> bool:
+    """Whether a part is nil, or an integer that is a value of jepmon."""
+    return part.isdigit() and part.isascii() and len(part) < 19 or part == "nil" or part[0] == "-" and part[1:].isdigit() and len(part) < 19

@@ -16,8 +16,9 @@ from ..forms.account import ORDER, Account
 from ..forms.mapping import INDEX, LINES, TIMES
 from ..forms.timeline import Timeline
 from ..sorted_rows import SortedRows
+from .asked import GAP, Asked, Counted
 from .clients import Clients
-from .collect import GAP, Asked, Collector, Counted
+from .collect import Collector
 from .events import History
 from .order import Time, number_of
 from .refusal import OutOfOrder, Refusal, refuse

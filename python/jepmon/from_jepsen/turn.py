@@ -8,7 +8,8 @@ from ..forms.mapping import INDEX, TIMES
 from ..edn import Value
 from ..kinds import REGISTERS
 from ..names import Names
-from .collect import Asked, Collector
+from .asked import Asked
+from .collect import Collector
 from .events import History
 from .models import common, models_of_keys
 from .notes import advice, notes

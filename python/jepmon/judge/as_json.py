@@ -6,6 +6,7 @@ from typing import Any, Dict, List, Mapping, NamedTuple, Optional, Sequence
 
 from .. import __version__, command, edn
 from ..causes.names import Names
+from ..forms.files import Source
 from ..history import Event, Operation, operations
 from ..kinds import ANSWERED
 from ..program import STATUSES
@@ -42,7 +43,7 @@ def write_refusal(reason: str) -> None:
     write({**front("refused", reason if reason.startswith("refused ") else ""), "reason": reason})
 
 
-def of_results(done: Results, path: Optional[str], counted: Counted, notes: Sequence[str], given: Given) -> Object:
+def of_results(done: Results, source: Source, counted: Counted, notes: Sequence[str], given: Given) -> Object:
     """The whole."""
     report, task, account = done.report, done.task, done.found.account
     line = report.verdict
@@ -50,7 +51,7 @@ def of_results(done: Results, path: Optional[str], counted: Counted, notes: Sequ
     if report.word == "refused":
         found["reason"] = line
     found.update(
-        history={"name": done.name, "file": path, "form": counted.form, "events": counted.events, "keys": counted.keys,
+        history={"name": done.name, "file": source.path, "files": source.paths, "form": counted.form, "events": counted.events, "keys": counted.keys,
                  "clients": counted.clients, "concurrency": task.options.concurrency},
         lines={"all": account.lines, "of_events": account.taken, "skipped": dict(account.skipped)},
         guesses=[guess._asdict() for guess in account.guesses],
@@ -58,7 +59,7 @@ def of_results(done: Results, path: Optional[str], counted: Counted, notes: Sequ
         budget=task.options.budget,
         models=counted.of_report.models,
         keys=counted.of_report.counts,
-        bad_keys=[of_key(done, key, path) for key in done.keys if key.report.word != "legal"],
+        bad_keys=[of_key(done, key, source) for key in done.keys if key.report.word != "legal"],
         notes=list(notes),
         page=given.html, folder=given.out)
     return found
@@ -70,7 +71,7 @@ def outcomes_of(outcomes: Mapping[str, int]) -> Dict[str, Dict[str, int]]:
     return {name: {kind: outcomes.get(f"{name} {kind}", 0) for kind in ("ok", "fail", "info")} for name in names}
 
 
-def of_key(done: Results, key: Shown, path: Optional[str]) -> Object:
+def of_key(done: Results, key: Shown, source: Source) -> Object:
     """A key that is not legal."""
     names = Names(done.found.value_names, done.found.key_names)
     event = next((event for event in key.events if event.index == key.line.index), None)
@@ -78,22 +79,22 @@ def of_key(done: Results, key: Shown, path: Optional[str]) -> Object:
     return {
         "key": key.line.key, "name": typed(bad_keys.named(done.found, key.line.key)), "verdict": bad_keys.word_of(key.line),
         "status": key.line.status, "model": key.line.model, "budget": key.line.budget, "events": key.line.events,
-        "event": {"index": key.line.index, **where(event, path)},
+        "event": {"index": key.line.index, **where(event, source)},
         "cause": None if key.cause is None else {"headline": key.cause.headline, "sentences": list(key.cause.sentences),
                                                  "proviso": key.cause.proviso},
         "is_proved": key.decided is None or not proviso(key),
         "smallest_part": None if part is None else {
-            "operations": [of_operation(operation, names, path) for operation in operations(part.events, key.options.concurrency)],
+            "operations": [of_operation(operation, names, source) for operation in operations(part.events, key.options.concurrency)],
             "of": part.of, "is_smallest": part.finished},
     }
 
 
-def of_operation(operation: Operation, names: Names, path: Optional[str]) -> Object:
+def of_operation(operation: Operation, names: Names, source: Source) -> Object:
     name, asked = operation.invocation.name, operation.invocation.value
     answer = operation.completion.value if operation.completion is not None and name in ANSWERED and operation.outcome == "ok" else None
     return {"client": operation.thread, "name": name, "value": shown(asked, names), "answer": shown(answer, names),
-            "outcome": operation.outcome, "invoked": at(operation.invocation, path),
-            "completed": at(operation.completion, path) if operation.completion is not None else None}
+            "outcome": operation.outcome, "invoked": at(operation.invocation, source),
+            "completed": at(operation.completion, source) if operation.completion is not None else None}
 
 
 def shown(value: Any, names: Names) -> Any:
@@ -112,11 +113,13 @@ def typed(spelled: str) -> Any:
     return edn.string(spelled) if spelled.startswith('"') else spelled
 
 
-def at(event: Event, path: Optional[str]) -> Object:
-    return {"index": event.index, **where(event, path), **({"time": event.fields["time"]} if "time" in event.fields else {})}
+def at(event: Event, source: Source) -> Object:
+    return {"index": event.index, **where(event, source), **({"time": event.fields["time"]} if "time" in event.fields else {})}
 
 
-def where(event: Optional[Event], path: Optional[str]) -> Object:
+def where(event: Optional[Event], source: Source) -> Object:
     """Where the event stands in the file; null where it stands in none, as the write by which a key begins."""
-    line = event.line if event is not None and event.line else None
-    return {"file": path if line is not None else None, "line": line}
+    if event is None or not event.line:
+        return {"file": None, "line": None}
+    file, line = source.place(event.line)
+    return {"file": file, "line": line}

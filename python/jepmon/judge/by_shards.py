@@ -23,6 +23,7 @@ from ..shards.cluster import judged_on
 from ..shards.judging import Judged
 from ..shards.models import EACH
 from ..shards.report import Verdict
+from ..shards.sizes import Sizes
 from ..shards.source import History
 from ..shards.splitting import judged_elsewhere
 from ..shards.tally import Tally
@@ -35,6 +36,7 @@ from .models import ALIKE, Choice, account_for, by_operations
 from .outputs import Folder, Page
 from .words import NAME, Given
 
+OF_TRANSLATIONS = Sizes(piece=4 << 20, slab=4 << 20, shard=2 << 20)  # of which most are short: they take less memory so
 CHUNK = 1 << 18  # characters of the report that are written at once
 CUT = {"full": f"key {{}} has more than {kinds.EVENTS:,} events, and is judged up to event {{}}, no further",
        "wide": f"key {{}} has more than {kinds.THREADS} operations open at once, and is judged up to event {{}}, no further"}
@@ -70,7 +72,7 @@ def opened(given: Given, found: Large, history: Asked) -> Iterator[shards.Sessio
     """The shards of a history, read."""
     options = Options(history.concurrency or 2, given.model or "register", given.budget)
     with shards.opened(history.history, options, given.jobs, temporary=given.temporary, progress=shards.Progress(sys.stderr),
-                       finds_threads=history.concurrency is None) as session:
+                       finds_threads=history.concurrency is None, sizes=OF_TRANSLATIONS if found.made is not None else Sizes()) as session:
         session.read()
         if session.tally.events == 0:
             raise Refused(f"{found.name}: there is no event in it: nothing was judged")
@@ -155,7 +157,7 @@ def _judge(given: Given, found: Large, history: Asked, session: shards.Session, 
     results.write(page, folder, done)
     if given.json:
         counted_up = as_json.Counted(session.tally.events, verdict.keys, None, form_of(found), session.tally.outcomes(), of_report)
-        as_json.write(as_json.of_results(done, found.path, counted_up, beside, given))
+        as_json.write(as_json.of_results(done, found.source, counted_up, beside, given))
     return verdict.status
 
 

@@ -38,7 +38,7 @@ def alike(names: Mapping[int, str]) -> List[List[str]]:
 
 def told(recorded: Recorded, keys: Sequence[Shown], given: Given) -> List[str]:
     """Tells what may be due to the values of the first bad key, and gives the lines."""
-    lines = list(of_first_read(recorded, keys[0], given)) if keys else []
+    lines = list(of_first_read(recorded, keys[0], given)) if keys and given.cause else []
     for line in lines:
         command.say(NAME, line)
     return lines

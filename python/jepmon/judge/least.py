@@ -16,7 +16,7 @@ def telling(outcomes: Mapping[str, int], reads: int) -> int:
 
 def reason(given: Given, word: str, count: int) -> str:
     """Why there is no verdict, where it would rest on so many; nothing where there is one."""
-    if word not in ("legal", "unknown") or count >= given.least:
+    if word != "legal" or count >= given.least:
         return ""
     what = {0: "no operation was ok whose answer says", 1: "1 operation was ok whose answer says"}.get(
         count, f"{count} operations were ok whose answers say")

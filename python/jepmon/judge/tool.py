@@ -16,7 +16,7 @@ from ..forms import Beyond, Refused, door, files
 from ..forms.door import Translation
 from ..forms.recorded import Recorded, of_own, of_translation
 from ..program import CURE, Options, find_program
-from . import as_json, bad_keys, by_shards, doubts, events, hints, large, least, models, results, terminal, ties, wide, words
+from . import as_json, bad_keys, by_shards, doubts, events, hints, large, least, models, rates, results, terminal, ties, wide, words
 from .judging import Task, judged
 from .outputs import Folder, Page
 from .words import NAME, Given
@@ -158,11 +158,12 @@ def _judge_whole(source: files.Source, found: Recorded, given: Given, page: Opti
     done = results.Results(source.name, found, task, report, keys, terminal.told(found, keys))
     beside += doubts.told(found, keys, given)
     results.write(page, folder, done)
+    rates.write(given, folder, source.name, found, task, report)
     if given.json:
         facts = found.facts
         counted = as_json.Counted(facts.events, len(facts.keys), models.clients_of(facts, task.options.concurrency), found.form, facts.outcomes,
                                   of_report)
-        as_json.write(as_json.of_results(done, source.path, counted, [*source.notes, *found.notes, *beside], given))
+        as_json.write(as_json.of_results(done, source, counted, [*source.notes, *found.notes, *beside], given))
     return report.status
 
 

@@ -106,7 +106,7 @@ def given(words: Optional[List[str]]) -> Given:
                         "their budget by what is known afterwards")
     parser.add_argument("--wide-seconds", metavar="N", type=number("a number of seconds", range(0, MOST_SECONDS + 1)),
                         help="take up to so many seconds to decide these; 0 leaves it out")
-    parser.add_argument("--html", metavar="PAGE", help="write a page that shows the cause")
+    parser.add_argument("--html", metavar="PAGE", help="write a page that shows the cause; of a history with times also PAGE-rates.html: rates and latencies")
     parser.add_argument("--out", metavar="DIR", help="write the history as judged, the report, the cause, the page, and the command "
                         "that judges it again, into this folder")
     parser.add_argument("--least", metavar="N", type=number("a number of operations", range(0, MOST_LEAST + 1)), default=1,
@@ -115,7 +115,7 @@ def given(words: Optional[List[str]]) -> Given:
                         "(docs/FORMATS.md has its fields)")
     parser.add_argument("--no-cause", dest="cause", action="store_false", help="the verdict alone")
     try:
-        parsed = parser.parse_args(words)
+        parsed = parser.parse_intermixed_args(words)
         mapping = mapping_words.of(parsed)
         if not parsed.history and sys.stdin is not None and sys.stdin.isatty():
             parser.error("no history is named, and standard input is a terminal")

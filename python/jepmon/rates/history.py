@@ -2,7 +2,7 @@
 from __future__ import annotations
 
 import re
-from typing import Dict, Iterable, List, NamedTuple, Tuple
+from typing import Dict, Iterable, List, NamedTuple
 
 from ..kinds import ABSENT
 from ..notes import BEGIN, END, note_of
@@ -41,54 +41,75 @@ class Read:
         self.untimed = 0  # events without a time, of which nothing is said
 
 
+class Begun(NamedTuple):
+    """An operation that is open. A write of ABSENT that comes first on its key says what the key begins with, and is none."""
+
+    name: str
+    time: int
+    key: int
+    counts: bool
+
+
 def read(lines: Iterable[str], gathered: Gathered) -> Read:
     """Reads a history of one event a line, as Monitor writes it."""
-    found = Read()
-    opened: Dict[str, Tuple[str, int, int, bool]] = {}  # by process: name, begin, key, whether it only says what the key begins with
-    held: Dict[str, List[int]] = {}
+    reader = Reader(gathered)
     for line in lines:
+        reader.line(line)
+    return reader.finish()
+
+
+class Reader:
+    """Takes the events of a history in their order."""
+
+    def __init__(self, gathered: Gathered) -> None:
+        self.gathered, self.found = gathered, Read()
+        self._opened: Dict[str, Begun] = {}  # by process
+        self._held: Dict[str, List[int]] = {}  # when faults began that have not ended, by text
+
+    def line(self, line: str) -> None:
+        """A line as Monitor writes it."""
         if line.startswith("{"):
-            _event(line, gathered, found, opened)
+            told = EVENT.match(line)
+            if told is None:
+                self.found.untimed += 1
+            else:
+                kind, process, name, key, part, moment = told.groups()
+                self.event(kind, process, name, int(key), part, int(moment))
         elif line.startswith("#_"):
-            _note(line, found, held)
-    for name, _, key, is_begin in opened.values():
-        if not is_begin:
-            gathered.open[name] += 1
-            found.keys[key].open += 1
-    for text, begins in held.items():
-        found.faults += [Fault(text, begin, max(begin, gathered.end)) for begin in begins]
-    found.faults.sort(key=lambda fault: fault.begin)
-    return found
+            self._note(line)
 
+    def event(self, kind: str, process: str, name: str, key: int, part: str, now: int) -> None:
+        if kind == "invoke":
+            counts = key in self.found.keys or name != "write" or part != str(ABSENT)
+            self.found.keys.setdefault(key, Key(now))
+            self._opened[process] = Begun(name, now, key, counts)
+            return
+        begun = self._opened.pop(process, None)
+        if begun is not None and begun.counts:
+            self.gathered.add(begun.name, kind, begun.time, now)
+            self.found.keys[begun.key].count(kind, now)
 
-def _event(line: str, gathered: Gathered, found: Read, opened: Dict[str, Tuple[str, int, int, bool]]) -> None:
-    told = EVENT.match(line)
-    if told is None:
-        found.untimed += 1
-        return
-    kind, process, name, key, part, moment = told.groups()
-    now, number = int(moment), int(key)
-    if kind == "invoke":
-        is_begin = number not in found.keys and name == "write" and part == str(ABSENT)
-        found.keys.setdefault(number, Key(now))
-        opened[process] = (name, now, number, is_begin)
-    elif process in opened:
-        name, begin, number, is_begin = opened.pop(process)
-        if not is_begin:
-            gathered.add(name, kind, begin, now)
-            found.keys[number].count(kind, now)
+    def _note(self, line: str) -> None:
+        note = note_of(line)
+        if note is None:
+            return
+        if note.kind == BEGIN:
+            self._held.setdefault(note.text, []).append(note.time)
+        elif note.kind != END:
+            self.found.faults.append(Fault(note.text, note.time, note.time))
+        elif self._held.get(note.text):
+            self.found.faults.append(Fault(note.text, self._held[note.text].pop(), note.time))
 
-
-def _note(line: str, found: Read, held: Dict[str, List[int]]) -> None:
-    note = note_of(line)
-    if note is None:
-        return
-    if note.kind == BEGIN:
-        held.setdefault(note.text, []).append(note.time)
-    elif note.kind != END:
-        found.faults.append(Fault(note.text, note.time, note.time))
-    elif held.get(note.text):
-        found.faults.append(Fault(note.text, held[note.text].pop(), note.time))
+    def finish(self) -> Read:
+        """The history is over."""
+        for begun in self._opened.values():
+            if begun.counts:
+                self.gathered.open[begun.name] += 1
+                self.found.keys[begun.key].open += 1
+        for text, begins in self._held.items():
+            self.found.faults += [Fault(text, begin, max(begin, self.gathered.end)) for begin in begins]
+        self.found.faults.sort(key=lambda fault: fault.begin)
+        return self.found
 
 
 def joined(faults: Iterable[Fault]) -> List[Fault]:

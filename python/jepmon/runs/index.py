@@ -8,10 +8,11 @@ import sys
 from typing import Sequence
 from urllib.parse import quote
 
+from .. import command
+from ..errors import OutputError
 from ..page.document import hashed
 from ..page.document import resource as of_page
 from ..page.labels import printable
-from ..run_folder import write_whole
 from .summary import Summary, summaries
 
 INDEX = "index.html"
@@ -27,6 +28,8 @@ def leave(folder: pathlib.Path) -> None:
         put(folder, summaries(folder))
     except OSError as fault:
         print(f"jepmon: {folder / INDEX} can't be written: {fault.strerror}", file=sys.stderr)
+    except OutputError as fault:
+        print(f"jepmon: {fault}", file=sys.stderr)
 
 
 def put(folder: pathlib.Path, runs: Sequence[Summary]) -> None:
@@ -34,7 +37,7 @@ def put(folder: pathlib.Path, runs: Sequence[Summary]) -> None:
     path = folder / INDEX
     if path.exists() and MARK not in path.read_text("utf-8", errors="replace")[:400]:
         raise FileExistsError(17, "this file is there, and is no page of jepmon-runs", str(path))
-    write_whole(path, render(folder, runs))
+    command.write_file(path, render(folder, runs))  # several tests may do so at once
 
 
 def render(folder: pathlib.Path, runs: Sequence[Summary]) -> str:

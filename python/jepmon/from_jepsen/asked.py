@@ -1,0 +1,46 @@
+"""What is said of a history beside its text, and the pieces of the text, whose lines are counted."""
+from __future__ import annotations
+
+from typing import Callable, Iterable, Iterator, Mapping, NamedTuple, Optional, Sequence, Tuple
+
+from ..edn import Value
+from .meant import Meant
+from .source import Texts
+
+GAP = "blank, comment or bracket"  # lines between events
+Pair = Tuple[Optional[Value], Value]  # the key, if there is one, and the part
+
+
+class Counted:
+    """Pieces of a text, whose lines are counted as they go by."""
+
+    def __init__(self, pieces: Iterable[str]) -> None:
+        self._pieces = iter(pieces)
+        self._feeds, self._last = 0, "\n"
+
+    def __iter__(self) -> Iterator[str]:
+        return self
+
+    def __next__(self) -> str:
+        piece = next(self._pieces)
+        self._feeds += piece.count("\n")
+        self._last = piece[-1:] or self._last
+        return piece
+
+    @property
+    def lines(self) -> int:
+        """How many lines there were; the last one may lack its line feed."""
+        return self._feeds + (self._last != "\n")
+
+
+class Asked(NamedTuple):
+    """What is said of a history beside its text."""
+
+    key: Optional[str] = None  # of a history without keys: each value v becomes [key v]
+    nil_is_absent: bool = False  # nil is what a missing key answers, and no read that says nothing
+    order: Optional[str] = None  # by which events are taken: "lines", "index" or "times"; None: as they stand, or by what they say
+    outcomes: Mapping[str, str] = {}  # the type of what is an :ok and says that it is none, by "false" and "error"
+    skew: int = 0  # nanoseconds by which each clock may be wrong
+    clients: Optional[Callable[[str, int], str]] = None  # of several files: the name of a client by the line of its event
+    parts: Sequence[Tuple[int, Texts]] = ()  # the same files, each with how many lines come before its own
+    meant: Meant = Meant()  # which values are one, and which are none
