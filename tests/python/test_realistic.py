@@ -41,14 +41,14 @@ VERDICTS = ("legal", "illegal", "unknown")
 
 
 def came(case: pathlib.Path) -> Tuple[int, str, str]:
-    """What comes of a case's history without any option: the status, the verdict and what standard error says."""
+    """What comes of a case's history, some of which are of writes alone: the status, the verdict and what standard error says."""
     with tempfile.TemporaryDirectory() as folder:
         files = [file for file in sorted(case.iterdir()) if file.name not in ("args", "stdout", "stderr", "status", "verdict")]
         path = pathlib.Path(folder, files[0].name if case.parent.name == "judge" else "history.edn")
         path.write_bytes(files[0].read_bytes() if case.parent.name == "judge" else case_loop.given(case, "input"))
         output, error = io.StringIO(), io.StringIO()
         with contextlib.redirect_stdout(output), contextlib.redirect_stderr(error):
-            status = judge.main([str(path), "--no-cause"])
+            status = judge.main([str(path), "--no-cause", "--least", "0"])
         return status, (output.getvalue().split("\n")[-2:-1] or [""])[0].split(" ")[0], error.getvalue()
 
 
