@@ -88,7 +88,7 @@ def loads(size: int) -> list[Load]:
         Load("14 pairs of different values", "fifo-queue", pairs(list(range(28))), budget=65_536),
         Load("14 pairs of two values", "fifo-queue", pairs([1, 2] * 14), budget=65_536),
         Load("14 pairs of chosen values", "fifo-queue", pairs(list(CHOSEN) * 14), budget=65_536),
-        Load("15 pairs of values without a number", "fifo-queue", pairs(list(ZERO) * 15), budget=65_536),
+        Load("14 pairs of values without a number", "fifo-queue", pairs(list(ZERO) * 14), budget=65_536),
         Load("collections in a map", "register", collections(min(size, 50_000))),
     ]
 
