@@ -178,7 +178,7 @@ def options_of(ways: Variations) -> List[str]:
     absent = "" if ways.get("gozero") else {"empty": "", "zero": "0", "None": "None"}.get(ways.get("missing", ""))
     if absent is not None and not (absent == "0" and ways.get("values") == "zero"):
         words += ["--absent", absent]
-    if ways.get("stringly") or ways.get("values") == "mixfloat":
+    if ways.get("stringly") or ways.get("alikekeys") or ways.get("values") == "mixfloat":
         words += ["--values", "number"]
     return words
 

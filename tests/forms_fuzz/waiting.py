@@ -6,7 +6,7 @@ from typing import Dict
 from .fields import Variations
 
 WAITS: Dict[str, str] = {
-    "alikekeys": "keys that look alike", "stringly": "types that look alike, in lists of cells", "values": "types that look alike, in lists of cells",
+    "stringly": "types that look alike, in lists of cells", "values": "types that look alike, in lists of cells",
     "outcome": "dequeues of false",
 }
 FORMS: Dict[str, str] = {"logfmt": "quoted lists of logfmt"}

@@ -78,6 +78,15 @@ class Values(Judged):
         self.assertIn("--values exact|text|number", self.judged(text, "--strict-input", "--model", "register").err)
         self.assertNotIn("type of values", self.judged(jsonl(("write", "a"), ("write", "b"), ("read", "b"))).err)
 
+    def test_keys_that_look_alike(self) -> None:
+        row = {"client": 0, "start": 1, "end": 2}
+        rows = [{**row, "op": "write", "key": 1, "value": 1}, {**row, "op": "read", "key": "1", "result": 1, "start": 3, "end": 4}]
+        text = "".join(json.dumps(each) + "\n" for each in rows)
+        ran = self.judged(text, "--no-cause")
+        self.assertEqual(ran.status, 1)
+        self.assertIn('guess of the type of values: 1 and "1" are different keys; --values exact|text|number settles it', ran.err)
+        self.assertEqual([self.status(text, "--values", way) for way in ("exact", "text", "number")], [1, 0, 0])
+
     def test_groups(self) -> None:
         self.assertEqual(alike({0: "1", 1: '"1"', 2: "1.0", 3: '"a"', 4: '" a"', 5: "2", 6: "true", 7: ":a"}),
                          [["1", '"1"', "1.0", "true"], ['"a"', '" a"']])

@@ -157,7 +157,7 @@ class Collector:
         """Takes an event that was told by something else than EDN, with what else that said: its time, and an error."""
         key, part = value
         if not self.meant.says_nothing:
-            part = self.meant.part(name, part)
+            key, part = key if key is None else self.meant.alike(key), self.meant.part(name, part)
         if key is None and self.lone_key is not None:
             key = self.lone_key
         is_pair = name == ":cas" and type(part) is Many and len(part.members) == 2
@@ -295,7 +295,7 @@ class Collector:
             if kind == ":invoke":
                 refuse_value_of_read(line, name, plain)
             key, part = self.taken_apart(line, name, plain)
-            known = key, self.meant.part(name, part)
+            known = self.meant.alike(key), self.meant.part(name, part)
             if kind == ":invoke":
                 self.test_part(line, name, known[1])
             if len(self.known) < MOST_KNOWN and (isinstance(known[1], str) or name == ":cas"):

@@ -15,7 +15,7 @@ TRUTH = {"true": "1", "false": "0"}
 
 class Meant(NamedTuple):
     """`exact`: 1, 1.0 and "1" are three values. `text`: those of one text are one, without spaces around it: 1 and " 1". `number`: those of
-    one number too: 1, 1.0, "1" and true. A value whose text is among `absent` is nil."""
+    one number too: 1, 1.0, "1" and true. The same holds of keys. A value whose text is among `absent` is nil."""
 
     values: str = EXACT
     absent: FrozenSet[str] = frozenset()

@@ -125,7 +125,7 @@ def _judge(given: Given, found: Large, history: Asked, session: shards.Session, 
     choice = chosen(session.tally, given.model, history.made)
     account_for(choice, history.account)
     if history.made is not None:
-        doubts.account_for_types(history.made.names.values, given, history.account)
+        doubts.account_for_types(history.made.names.keys, history.made.names.values, given, history.account)
     options = session.options._replace(model=choice.common or EACH)
     path = os.path.join(session.tools.folder, "report.txt")
     with open(path, "wb") as file:

@@ -18,12 +18,14 @@ FEW = 3  # groups that are named
 MAY_BE_ALIKE = re.compile(r'"\s*(?:[+-]?[0-9][0-9.eEMN+-]*|true|false|True|False)\s*"|[+-]?[0-9].*|true|false|" .*"|".* "')
 
 
-def account_for_types(names: Mapping[int, str], given: Given, account: Account) -> None:
-    """Records that values which look alike are taken for different ones, if nothing is said of that."""
-    groups = alike(names) if given.values is None else []
-    if groups:
-        more = f", and {len(groups) - FEW} more groups" if len(groups) > FEW else ""
-        account.guess(TYPE, f"{'; '.join(' and '.join(group) for group in groups[:FEW])} are different values{more}", "--values exact|text|number")
+def account_for_types(keys: Mapping[int, str], values: Mapping[int, str], given: Given, account: Account) -> None:
+    """Records that keys or values which look alike are taken for different ones, if nothing is said of that."""
+    for what, names in (("keys", keys), ("values", values)):
+        groups = alike(names) if given.values is None else []
+        if groups:
+            more = f", and {len(groups) - FEW} more groups" if len(groups) > FEW else ""
+            shown = "; ".join(" and ".join(group) for group in groups[:FEW])
+            account.guess(TYPE, f"{shown} are different {what}{more}", "--values exact|text|number")
 
 
 def alike(names: Mapping[int, str]) -> List[List[str]]:

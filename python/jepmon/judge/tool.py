@@ -171,7 +171,7 @@ def _task(found: Recorded, given: Given) -> Task:
     """How the history is to be judged."""
     choice = models.chosen(found.facts, given.model, found.stated, found.possible)
     models.account_for(choice, found.account)
-    doubts.account_for_types(found.value_names, given, found.account)
+    doubts.account_for_types(found.key_names, found.value_names, given, found.account)
     concurrency = given.concurrency or models.concurrency_of(found.facts)
     if concurrency is None:
         raise Refused("its processes fit no concurrency from 1 to 64")
