@@ -149,10 +149,8 @@ def run_interrupted_split() -> List[str]:
                                      env=environment(), preexec_fn=heed_interrupts)
             with open(pipe, "w") as writer:  # which it has opened then; the history is not at its end
                 writer.write(written(0, 12_000))
-                writer.flush()
+                writer.flush()  # it has read the beginning then, since a pipe holds less
                 began = time.monotonic()
-                while not os.listdir(scratch) and child.poll() is None and time.monotonic() < began + LIMIT:
-                    time.sleep(0.05)
                 while child.poll() is None and time.monotonic() < began + LIMIT:  # one that comes just before a read is seen after it
                     os.kill(child.pid, number)
                     time.sleep(0.5)
