@@ -44,7 +44,7 @@ def run_same_report() -> List[str]:
 
 
 def run_refusals() -> List[str]:
-    """A history that a check refuses is refused with the same line."""
+    """A history that a check refuses is refused in shards as it is without them, by the line of the file."""
     faults: List[str] = []
     good = written(0, 3)
     with room() as folder:
@@ -53,8 +53,11 @@ def run_refusals() -> List[str]:
                      good + line("invoke", 0, "write", 0, 1) + line("ok", 0, "write", 0, 2), good + "{:type :invoke, :process 0}\n",
                      good + line("invoke", 0, "read", 0, 7) + good):
             path.write_text(text)
-            status, output, _ = tool("judge", str(path), "--jobs", "1", "--concurrency", "2", "--model", "register")
-            faults += differing(f"what came of {text[len(good):]!r}", (status, output), checked(path))
+            words = ["judge", str(path), "--concurrency", "2", "--model", "register"]
+            whole, parts = tool(*words), tool(*words, "--jobs", "1")
+            faults += differing(f"the status of {text[len(good):]!r}", (whole[0], checked(path)[0]), (3, 3))
+            faults += differing(f"what came of {text[len(good):]!r}", parts[:2], whole[:2])
+            faults += differing(f"the reason of {text[len(good):]!r}", parts[2].splitlines()[-1:], whole[2].splitlines()[-1:])
         for words, why in ((["no/such/file"], "No such file"), ([str(folder)], "history"), ([str(path), "--jobs", "0"], "--jobs"),
                            ([str(path), "--temporary", str(folder / "nowhere")], "nowhere")):
             status, output, error = tool("judge", *words, *([] if "--jobs" in words else ["--jobs", "1"]))
