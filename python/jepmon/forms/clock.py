@@ -67,6 +67,11 @@ class Clock:
             raise Refused(f"line {line}: the unit of the times is not known, and that of this duration is {unit}: say --time-unit")
         return field * UNITS[unit]
 
+    def factor(self, unit: Optional[str]) -> Optional[int]:
+        """By what a number is multiplied whose field names this unit, or none; None as long as it is not known whether numbers have one."""
+        unit = unit or self._stated
+        return None if self._is_known != (unit is not None) else 1 if unit is None else UNITS[unit]
+
     def coarsest(self) -> int:
         """How many nanoseconds a return may be later than it says, if times have several units."""
         return max(UNITS[unit] for unit in self._units) - 1 if len(self._units) > 1 else 0

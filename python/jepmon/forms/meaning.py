@@ -48,7 +48,7 @@ class Reader:
         self._outcomes = Outcomes(mapping.outcomes, account)
         self._operations = {**mapping.operations, **OF_STACKS} if has_model else mapping.operations
         self._words: Dict[Any, str] = {}  # the operations by their words
-        self._last_index = -1
+        self.last_index = -1
         self._by_duration: Optional[bool] = None  # whether returns are calls and durations
 
     def told(self, row: Row) -> Optional[Told]:
@@ -56,12 +56,12 @@ class Reader:
         line = row.line
         shape, fields = self.shapes.of(line, row.fields)
         uses = shape.uses
-        if shape.is_bare and self._kind(self._one(line, "type", uses, fields)[1]) is None:
+        if shape.is_bare and self.kind(self._one(line, "type", uses, fields)[1]) is None:
             return None
         call = self._one(line, "call", uses, fields)
         word, said = self._one(line, "type", uses, fields), self._one(line, "f", uses, fields)[1]
         if self.of_operations is None:
-            self.of_operations = (call[1] not in (None, MISSING) and self._kind(word[1]) != "invoke"
+            self.of_operations = (call[1] not in (None, MISSING) and self.kind(word[1]) != "invoke"
                                   or "return" in uses and ("duration" in uses or not {"type", "time"} & set(uses)))
             if not self.of_operations and word[0] is None and "duration" in uses and "time" in uses:
                 self._refuse_time_alone(line, uses["time"][0].name, list(fields))
@@ -115,7 +115,7 @@ class Reader:
                     self.shapes.unused(line, use.name, fields[use.name])
         return value
 
-    def _kind(self, word: Any) -> Optional[str]:
+    def kind(self, word: Any) -> Optional[str]:
         """The type that a word says."""
         if isinstance(word, bool):  # Porcupine's events: a return is true
             return "ok" if word else "invoke"
@@ -129,14 +129,14 @@ class Reader:
 
     def _kind_and_name(self, line: int, word: "Tuple[Optional[Use], Any]", said: Any) -> Tuple[Optional[str], Optional[str], Optional[Said]]:
         """The type of an event, the operation, and the outcome of an operation whose type says it."""
-        kind, use = self._kind(word[1]), word[0]
+        kind, use = self.kind(word[1]), word[0]
         if said is MISSING or said is None:
             both = both_of(word[1]) if isinstance(word[1], str) and plain(word[1]) not in self._mapping.outcomes else None
             if both is not None:
                 return (None if self.of_operations else both[1]), both[0], None
             if isinstance(word[1], str) and (self.of_operations or kind is None):
                 said, kind, use = word[1], None, None
-        operation = None if said is MISSING or said is None else self._operation(line, said)
+        operation = None if said is MISSING or said is None else self.operation(line, said)
         if use is None or word[1] is None:
             return None, operation, None
         if kind is None:
@@ -151,7 +151,7 @@ class Reader:
             raise Refused(f"line {line}: {shown(use.name)} is {short(word[1])}, as of an event, and the rows before it are operations with times")
         return None, operation, (use.name, word[1], kind)
 
-    def _operation(self, line: int, said: Any) -> str:
+    def operation(self, line: int, said: Any) -> str:
         """The operation that a word names. What no object has keeps its name, and is refused by it later."""
         found = self._words.get(said) if isinstance(said, (str, int)) else None
         if found is not None:
@@ -169,10 +169,10 @@ class Reader:
     def _test_index(self, line: int, use: Use, fields: Fields) -> None:
         index = fields[use.name]
         if isinstance(index, int) and not self.of_operations:
-            if index <= self._last_index:
-                raise Refused(f"line {line}: {shown(use.name)} goes from {self._last_index} to {index}: the events are out of order, or of two "
+            if index <= self.last_index:
+                raise Refused(f"line {line}: {shown(use.name)} goes from {self.last_index} to {index}: the events are out of order, or of two "
                               f"histories; say --ignore {shown(use.name)} if it does not number them")
-            self._last_index = index
+            self.last_index = index
 
     # --- Times ---
 

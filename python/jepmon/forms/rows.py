@@ -52,6 +52,7 @@ def of_json(texts: Iterable[str], mapping: Mapping, account: Account) -> Iterato
         account.took(line, text.line())
         if mapping.rows is None and _is_plain(value):
             yield Row(line, value)
+            yield from text.rows_a_line(decoder, account)
         else:
             yield from _rows(decoder, value, line, (text.text, begin, text.at), mapping, account)
         gap = BLANK
@@ -76,6 +77,21 @@ class _Pieces:
         self._line, self._counted = 1, 0  # the line of a place in the text
         self._last = ""
         self._comments = 0  # lines
+
+    def rows_a_line(self, decoder: json.JSONDecoder, account: Account) -> Iterator[Row]:
+        """The rows that follow in the text that is held, as long as each is an object in a line of its own."""
+        text, at, line, scan = self.text, self.at, self.line(), decoder.scan_once  # type: ignore[attr-defined]
+        while text.startswith("\n{", at):
+            try:
+                value, end = scan(text, at + 1)
+            except (ValueError, StopIteration, RecursionError, _Twice):  # which is told of where it is decoded alone
+                break
+            if text.find("\n", at + 1, end) >= 0 or text.find("[", at, end) >= 0 and not _is_plain(value):
+                break
+            at, line = end, line + 1
+            account.took(line, line)
+            yield Row(line, value)
+        self.at, self._counted, self._line = at, at, line
 
     def add(self) -> bool:
         """Adds the next piece; whether there is one."""

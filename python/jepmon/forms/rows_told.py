@@ -60,7 +60,8 @@ class _Turning:
         self._clients = Clients(asked.source, asked.mapping.clients)
 
     def written(self) -> Written:
-        told = self._told()
+        rows = iter(self._rows(self._account))
+        told = self._all_told(rows)
         first = next(told, None)
         if first is None:
             if self._account.skipped[OTHERS]:
@@ -72,14 +73,20 @@ class _Turning:
         if self._mapping.order == TIMES or self._mapping.skew is not None or self._clients.are_of_several_files:
             return self._of_events_by_times(told, 0)
         events = Events(self._writer, self._reader, self._account, self._mapping)
-        for each in told:
-            events.take(each)
+        events.take(first)
+        row = events.take_run(rows)
+        while row is not None:
+            taken = self._told(row)
+            if taken is not None:
+                events.take(taken)
+                events.learn(row)
+            row = events.take_run(rows)
         self._close()
         return self._writer.written(events.notes())
 
     def by_times(self, first_back: int) -> Written:
         """The events in the order of their times, which go back in this line."""
-        return self._of_events_by_times(self._told(), first_back)
+        return self._of_events_by_times(self._all_told(self._rows(self._account)), first_back)
 
     def _of_events_by_times(self, told: Iterable[Told], first_back: int) -> Written:
         pairs = Pairs(self._writer, self._reader, self._account, self._mapping, first_back)
@@ -106,19 +113,21 @@ class _Turning:
         for name in self._reader.close():
             self._account.field(name)
 
-    def _told(self) -> Iterator[Told]:
-        """What the rows tell."""
-        for row in self._rows(self._account):
-            if etcd.is_one(row):
-                self._is_etcd = True
-                turned = etcd.turned(row, self._writer)
-                if turned is None:
-                    continue
-                row = turned
-            told = self._reader.told(row)
-            if told is None:
-                self._account.drop(OTHERS)
-            elif told.client is MISSING or is_nemesis(told):
-                yield told
-            else:
-                yield told._replace(client=self._clients.named(told.client, told.line)) if self._clients.are_of_several_files else told
+    def _all_told(self, rows: Iterable[Row]) -> Iterator[Told]:
+        """What these rows tell, of those that tell of an operation."""
+        return (told for told in map(self._told, rows) if told is not None)
+
+    def _told(self, row: Row) -> Optional[Told]:
+        """What a row tells; None if it tells of no operation."""
+        if etcd.is_one(row):
+            self._is_etcd = True
+            turned = etcd.turned(row, self._writer)
+            if turned is None:
+                return None
+            row = turned
+        told = self._reader.told(row)
+        if told is None:
+            self._account.drop(OTHERS)
+        elif self._clients.are_of_several_files and told.client is not MISSING and not is_nemesis(told):
+            return told._replace(client=self._clients.named(told.client, told.line))
+        return told

@@ -86,10 +86,7 @@ class Shapes:
 
     def of(self, line: int, fields: Fields) -> "Tuple[Shape, Fields]":
         """The shape of a row, and its fields, of which objects are laid open."""
-        names = tuple(fields)
-        shape = self._shapes.get(names)
-        if shape is None:
-            shape = self._shapes[names] = Shape(names, self._mapping)
+        shape = self.of_names(tuple(fields))
         for name in shape.objects:
             if type(fields[name]) is dict:
                 opened = self._opened(line, fields)
@@ -102,6 +99,13 @@ class Shapes:
         for name in shape.unknown:
             self.unused(line, name, fields[name])
         return shape, fields
+
+    def of_names(self, names: Tuple[str, ...]) -> Shape:
+        """The shape of rows with these names."""
+        shape = self._shapes.get(names)
+        if shape is None:
+            shape = self._shapes[names] = Shape(names, self._mapping)
+        return shape
 
     def unused(self, line: int, name: str, field: Any) -> None:
         """Records that a field says nothing."""

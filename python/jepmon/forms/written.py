@@ -4,7 +4,7 @@ from __future__ import annotations
 import collections
 import json
 import json.encoder
-from typing import Any, Callable, Counter, List, NamedTuple, Optional
+from typing import Any, Callable, Counter, List, NamedTuple, Optional, Tuple
 
 from ..edn import Many, Value, canonical
 from ..from_jepsen.asked import Pair
@@ -29,21 +29,26 @@ class Writer:
     """Writes events one by one, as Jepsen has them."""
 
     def __init__(self, collector: Collector) -> None:
-        self._collector = collector
+        self.collector = collector
         self.counts: Counter[str] = collections.Counter()  # of what is to be told
 
-    def event(self, line: int, kind: str, process: str, name: str, value: Pair, time: Optional[Time] = None, error: Optional[str] = None) -> None:
-        beside = None if time is None and not error else (None if time is None else int(time), error or None)
-        if process == ":nemesis":
-            self._collector.take_fault(line, name, value[1], 0 if time is None else int(time))
-            return
+    def event(self, line: int, kind: str, process: int, name: str, value: Pair, time: Optional[Time] = None, error: Optional[str] = None) -> None:
         if name in others.OTHERS:
             raise Refused(others.reason(line, name))
-        self._collector.take_told(line, f":{kind}", int(process), f":{name}", value, beside)
+        self.collector.take_told(line, f":{kind}", process, f":{name}", value, beside(time, error))
+
+    def fault(self, line: int, name: str, value: Any, time: Optional[Time]) -> None:
+        """Writes what a nemesis did."""
+        self.collector.take_fault(line, word(line, name or "fault"), edn_of(None if value is MISSING else value), int(time or 0))
 
     def written(self, notes: List[str], nil_is_absent: bool = False) -> Written:
         counted = [f"{note}: {count}" for note, count in self.counts.items()]
-        return Written(self._collector.finished(), notes + counted, nil_is_absent)
+        return Written(self.collector.finished(), notes + counted, nil_is_absent)
+
+
+def beside(time: Optional[Time], error: Optional[str]) -> Optional[Tuple[Optional[int], Optional[str]]]:
+    """What an event says beside its value: its time, and its error."""
+    return None if time is None and not error else (None if time is None else int(time), error or None)
 
 
 def element(value: Any) -> str:

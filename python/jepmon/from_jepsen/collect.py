@@ -113,35 +113,40 @@ class Collector:
             for count, element in enumerate(run.each(), count):
                 self.take(element, count)
             return count + 1
-        opened, tell, rows = self.open, self.history.count, []
         for row in plain.events(run, self.lone_key, count):
-            kind, process, name, key, part, _, line, _ = row
-            invoked = opened.get(process)
-            if kind == ":invoke":
-                fits = invoked is None and (part == "nil") == (name in WITHOUT_PART) and (type(part) is tuple) == (name == ":cas")
-            elif invoked is None or invoked[2] != name or invoked[3] != key:
-                fits = False
-            elif kind == ":ok" and name in ANSWERED:
-                fits = type(part) is str and (part != "nil" or name == ":read")
-            else:
-                fits = part == invoked[4]
-            if fits:
-                if kind == ":invoke":
-                    opened[process] = row
-                else:
-                    del opened[process]
-                tell(row)
-                rows.append(row)
+            if self.takes(row):
                 continue
-            self.history.events.extend(rows)
-            rows = []
+            self.keep_rows()
             try:
                 self.take_odd(row)
             except NoKey:
-                refuse_others(itertools.islice(run.each(), line - run.line + 1, None))
+                refuse_others(itertools.islice(run.each(), row[6] - run.line + 1, None))
                 raise
-        self.history.events.extend(rows)
-        return count + line - run.line + 1
+        self.keep_rows()
+        return count + len(run.rows)
+
+    def takes(self, row: Row) -> bool:
+        """Takes an event, if there is no more to be said of it. Whether it did."""
+        kind, process, name, key, part, _, _, _ = row
+        invoked = self.open.get(process)
+        if kind == ":invoke":
+            if invoked is not None or (part == "nil") != (name in WITHOUT_PART) or (type(part) is tuple) != (name == ":cas"):
+                return False
+            self.open[process] = row
+        else:
+            if invoked is None or invoked[2] != name or invoked[3] != key:
+                return False
+            if kind == ":ok" and name in ANSWERED:
+                if type(part) is not str or part == "nil" and name != ":read":
+                    return False
+            elif part != invoked[4]:
+                return False
+            del self.open[process]
+        self.history.count(row)
+        self.rows.append(row)
+        if len(self.rows) >= MOST_ROWS:
+            self.keep_rows()
+        return True
 
     def is_odd(self, run: edn.Element, plain: Plain) -> bool:
         """Whether there is more to be said of events of a run than of which is told there: of their order, or of how they ended."""
@@ -160,31 +165,11 @@ class Collector:
             key, part = key if key is None else self.meant.alike(key), self.meant.part(name, part)
         if key is None and self.lone_key is not None:
             key = self.lone_key
-        is_pair = name == ":cas" and type(part) is Many and len(part.members) == 2
-        flat: Any = ("[", part.members) if is_pair else part  # type: ignore[union-attr]
-        invoked = self.open.get(process)
-        if type(key) is not str or type(part) is not str and not (is_pair and all(type(one) is str and one != "nil" for one in flat[1])):
-            fits = False
-        elif kind == ":invoke":
-            fits = invoked is None and name in TAKEN and (part == "nil") == (name in WITHOUT_PART) and is_pair == (name == ":cas") and name != DRAIN
-        elif invoked is None or invoked[2] != name or invoked[3] != key:
-            fits = False
-        elif kind == ":ok" and name in ANSWERED:
-            fits = part != "nil" or name == ":read"
-        else:
-            fits = flat == invoked[4]
-        if fits:
-            row = kind, process, name, key, flat, self.count, line, beside
-            if kind == ":invoke":
-                self.open[process] = row
-            else:
-                del self.open[process]
-            if self.history.is_plain and not (all(map(is_plain, flat[1])) if is_pair else is_plain(flat)):
+        flat = flat_part(name, part)
+        row = kind, process, name, key, flat, self.count, line, beside
+        if type(key) is str and flat is not None and name in TAKEN and name != DRAIN and self.takes(row):
+            if self.history.is_plain and not all(map(is_plain, (flat,) if type(flat) is str else flat[1])):
                 self.history.is_plain = False
-            self.history.count(row)
-            self.rows.append(row)
-            if len(self.rows) >= MOST_ROWS:
-                self.keep_rows()
         else:
             self.keep_rows()
             self.beside = beside
@@ -397,3 +382,12 @@ class Collector:
             if not is_register:
                 raise fault
             self.nil_fault = self.nil_fault or fault
+
+
+def flat_part(name: str, part: Value) -> Any:
+    """A part as rows have it: an atom, or the two atoms of a cas, of which none is nil; None if it is neither."""
+    if type(part) is str:
+        return part
+    members = part.members  # type: ignore[union-attr]
+    is_cas = name == ":cas" and len(members) == 2 and all(type(one) is str and one != "nil" for one in members)
+    return ("[", members) if is_cas else None
