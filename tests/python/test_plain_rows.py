@@ -20,6 +20,7 @@ from tests.forms_fuzz.cases import cases
 SAMPLES = pathlib.Path(__file__).resolve().parents[1]
 COUNT = 200
 NAMES: Tuple[str, ...] = ("read", "write", "cas", "get", "put", "R", "acquire", "delete", "pop", "append")
+OPTIONS = ("", "", "--order lines", "--model fifo-queue", "--key 3", "--time-unit ms", "--values text", "--unfinished info")
 ODD: Tuple[Any, ...] = (None, 1.5, 7.0, True, "", "x", "7", -3, 10**18, -10**17, [1, 2], [1, None], {"a": 1}, {"key": 3}, [], float("inf"))
 
 
@@ -83,10 +84,8 @@ class PlainRows(unittest.TestCase):
         for number in range(COUNT):
             text = "".join(f"{json.dumps(row)}\n" for row in rows(chance))
             pathlib.Path("rows.jsonl").write_text(text)
-            more = chance.choice(([], [], ["--order", "lines"], ["--model", "fifo-queue"], ["--key", "3"], ["--time-unit", "ms"],
-                                  ["--values", "text"], ["--unfinished", "info"]))
             with self.subTest(number=number, text=text):
-                self.assert_same(words.given(["rows.jsonl", *more]))
+                self.assert_same(words.given(["rows.jsonl", *chance.choice(OPTIONS).split()]))
         self.assertGreater(self.counted.count, 5 * COUNT)
 
     def test_samples(self) -> None:

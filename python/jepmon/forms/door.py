@@ -7,6 +7,7 @@ from __future__ import annotations
 
 import array
 import itertools
+import re
 from typing import Any, Dict, Iterable, Iterator, List, NamedTuple, Optional, Sequence, Set
 
 from .. import edn, history, kinds
@@ -30,6 +31,7 @@ OWN, JEPSEN, KEYED, LOG = "jepmon's own form", "Jepsen's form", "EDN with a key 
 NO_KEYS = (KEY, "its values have no keys: all of it is one object, key 0", "--key K")
 FURTHER = ("time", "error")  # fields that are taken over from what the history was made from
 MOST_WHOLE = 250_000  # events that are judged by one check, if nobody asked for shards
+TIME = re.compile(r":time (-?[0-9]{1,19})(?=[,}\s])")
 LONGEST = 200  # lines that one event of it may take
 
 
@@ -135,6 +137,14 @@ class Translation:
         said = dict(_beside(self._texts.texts(), {row[6] for row in rows.values()}))
         return {index: said.get(row[6], {}) for index, row in rows.items()}
 
+    def times(self, begun: int) -> List[Optional[int]]:
+        """The time of each event, if it says one."""
+        by_line = _times(self._texts.texts()) if self._texts is not None else {}
+        made: List[Optional[int]] = [None] * begun
+        for _, row in self._rows(begun):
+            made.append(None if len(row) <= 2 else row[7][0] if row[7] is not None else by_line.get(row[6]))
+        return made
+
     def lines(self, begun: int) -> "array.array[int]":
         """The line of each event; 0 if it has none."""
         return array.array("Q", itertools.chain(itertools.repeat(0, begun), (row[6] if len(row) > 2 else 0 for _, row in self._rows(begun))))
@@ -235,6 +245,24 @@ def _beside(pieces: Iterable[str], wanted: Set[int]) -> Iterator["tuple[int, dic
             if number + at in wanted:
                 yield number + at, _fields(lines[at:at + LONGEST])
         number += len(lines) - 1
+
+
+def _times(pieces: Iterable[str]) -> Dict[int, int]:
+    """The times of the events that begin in these lines."""
+    times: Dict[int, int] = {}
+    number = 1
+    for piece in pieces:
+        lines = piece.split("\n")
+        for at, line in enumerate(lines):
+            found = TIME.findall(line)
+            if len(found) == 1 and '"' not in line and line.count("{") == line.count("}"):
+                times[number + at] = int(found[0])
+            elif "{" in line:
+                said = _fields(lines[at:at + LONGEST]).get("time")
+                if isinstance(said, int):
+                    times[number + at] = said
+        number += len(lines) - 1
+    return times
 
 
 def _fields(lines: List[str]) -> Dict[str, Any]:

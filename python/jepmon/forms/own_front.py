@@ -33,7 +33,7 @@ def is_own(front: str) -> bool:
     for line in front.split("\n"):
         if line.startswith("{"):
             try:
-                return EVENT.match(line) is not None and all(HEAD.fullmatch(head) or not key for _, head, key, _, _ in rows_of(line.encode()))
+                return EVENT.match(line) is not None and all(HEAD.fullmatch(head) or not key for _, head, key, _, _ in rows_of(line.encode())[0])
             except Doubt:
                 return False
     return not front.lstrip().startswith(("[", "(", "#jepsen"))

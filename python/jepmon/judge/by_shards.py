@@ -3,15 +3,16 @@ from __future__ import annotations
 
 import contextlib
 import functools
+import itertools
 import os
 import sys
-from typing import Dict, Iterator, List, NamedTuple, Optional, Sequence, Tuple
+from typing import Dict, Iterable, Iterator, List, NamedTuple, Optional, Sequence, Tuple
 
 from .. import command, kinds, shards
 from ..errors import ProgramError
 from ..explain.event import Options as Explained
 from ..explain.said import said as explained
-from ..forms import Refused, door
+from ..forms import Refused, door, faults
 from ..forms.account import Account
 from ..forms.jepsen import notes_of
 from ..forms.own import Facts
@@ -28,7 +29,7 @@ from ..shards.source import History
 from ..shards.splitting import judged_elsewhere
 from ..shards.tally import Tally
 from ..shrinking.part import as_asked, text_of
-from . import as_json, bad_keys, causes, doubts, large_key, least, results, terminal, turned, wide
+from . import as_json, bad_keys, causes, doubts, large_key, least, rates, results, terminal, ties, turned, wide
 from .hints import MOST_EVENTS, counted, is_legal_as
 from .judging import Task
 from .large import Large
@@ -123,6 +124,8 @@ def _judge_asked(given: Given, found: Large, page: Optional[Page], folder: Optio
 
 def _judge(given: Given, found: Large, history: Asked, session: shards.Session, page: Optional[Page], folder: Optional[Folder]) -> int:
     choice = chosen(session.tally, given.model, history.made)
+    if history.made is None:
+        history.account.add(session.account())
     account_for(choice, history.account)
     if history.made is not None:
         doubts.account_for_types(history.made.names.keys, history.made.names.values, given, history.account)
@@ -137,13 +140,19 @@ def _judge(given: Given, found: Large, history: Asked, session: shards.Session, 
         history.account.test_strict()
     say(judged_by(found, history, task))
     path, verdict, decided = anew(given, session, path, verdict)
+    if found.made is not None:
+        is_legal = functools.partial(ties.is_legal_in_shards, found.source, found.made.form, options, given)
+        try:
+            ties.test(verdict.word, history.account, is_legal)
+        except Refused as refusal:
+            raise Refused(f"{found.name}: {refusal}") from refusal
     report = report_of(path, verdict)
     task = task._replace(choice=of_bad_key(choice, report), wide_seconds=given.wide_seconds if decided else None, least=given.least)
     tally = session.tally
     few = least.reason(given, report.word, least.telling(tally.outcomes(), tally.number_of("read", "ok") - tally.reads_of_nil()))
     if not given.json and not few:
         command.write_output(texts_of(path))
-    recorded = _recorded(found, history)
+    recorded = _recorded(found, history, page is not None or folder is not None)
     of_report = bad_keys.found(filter(None, map(wide.key_line, lines_of(path))))
     keys = bad_keys.shown(recorded, task, report, of_report.bad, functools.partial(events_of, session, found, history), given.cause, decided)
     beside = [*nil_hints(tally, choice), *said_of_bad(report, task, keys, given.cause)]
@@ -155,16 +164,21 @@ def _judge(given: Given, found: Large, history: Asked, session: shards.Session, 
     done = results.Results(found.name, recorded, task, report, keys, terminal.told(recorded, keys), copies)
     beside += doubts.told(recorded, keys, given)
     results.write(page, folder, done)
+    if page is not None or folder is not None:
+        not_alive = {line.key: line for line in map(wide.key_line, lines_of(path)) if line is not None and line.index is not None}
+        rates.write(given, folder, rates.Given(found.name, form_of(found), tally.events, recorded, task, report, not_alive,
+                                               functools.partial(timed, found, history)))
     if given.json:
         counted_up = as_json.Counted(session.tally.events, verdict.keys, None, form_of(found), session.tally.outcomes(), of_report)
         as_json.write(as_json.of_results(done, found.source, counted_up, beside, given))
     return verdict.status
 
 
-def _recorded(found: Large, history: Asked) -> Recorded:
+def _recorded(found: Large, history: Asked, with_faults: bool) -> Recorded:
     """What the history is beside its events."""
     if found.made is None or history.made is None:
-        return Recorded("", "", Facts(), history.account, is_own=True)
+        told = faults.of_lines(lambda: lines_in(found.source.texts())) if with_faults else []
+        return Recorded("", "", Facts(), history.account, faults=told, is_own=True)
     return turned.recorded(found.made, history.made)
 
 
@@ -184,6 +198,17 @@ def anew(given: Given, session: shards.Session, path: str, verdict: Verdict) -> 
         found = marking.verdict()
         file.write(f"{found.line}\n")
     return marked, Verdict(found.line, found.word, found.found, found.status, verdict.keys), decided
+
+
+def timed(found: Large, history: Asked) -> Iterator[rates.Told]:
+    """The events of clients with their times."""
+    if history.made is None or found.made is None:
+        return rates.events_of(lines_in(found.source.texts()), None)
+    return rates.events_of(lines_in(history.made.texts()), found.made.times(history.made.begun))
+
+
+def lines_in(texts: Iterable[str]) -> Iterator[str]:
+    return itertools.chain.from_iterable(text.split("\n") for text in texts)
 
 
 def events_of(session: shards.Session, found: Large, history: Asked, keys: List[int]) -> Dict[int, List[Event]]:

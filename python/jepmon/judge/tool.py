@@ -3,6 +3,7 @@ from __future__ import annotations
 
 import contextlib
 import functools
+import os
 import shutil
 import signal
 import sys
@@ -64,11 +65,14 @@ def _judge(given: Given) -> int:
     name = find_program()  # what may be missing is seen before the long work
     if shutil.which(name) is None:
         raise ProgramError(f"{name} can't be run: it is no program; {CURE}")
+    if given.temporary is not None and not os.path.isdir(given.temporary):
+        raise Refused(f"{given.temporary}: there is no such folder for temporary files")
     page = Page(given.html) if given.html else None
     folder = Folder(given.out) if given.out else None
     done = False
     try:
-        status = _judge_to(given, page, folder)
+        with command.temporary_files(given.temporary):
+            status = _judge_to(given, page, folder)
         done = True
         return status
     finally:
@@ -144,7 +148,7 @@ def _judge_whole(source: files.Source, found: Recorded, given: Given, page: Opti
     report, decided = wide.anew(report, task.options, functools.partial(events.of_keys, found), given.wide_seconds)
     task = task._replace(wide_seconds=given.wide_seconds if decided else None, least=given.least)
     with named(source):
-        ties.test(source, found, task, report, given.said)
+        ties.test(report.word, found.account, functools.partial(ties.is_legal_in_one, source, task, given.said))
     beside = list(hints.after(found, task, report, source, given.said, given.cause))
     few = least.reason(given, report.word, least.telling(found.facts.outcomes, models.answered(found.facts)))
     if not given.json and not few:
@@ -158,7 +162,7 @@ def _judge_whole(source: files.Source, found: Recorded, given: Given, page: Opti
     done = results.Results(source.name, found, task, report, keys, terminal.told(found, keys))
     beside += doubts.told(found, keys, given)
     results.write(page, folder, done)
-    rates.write(given, folder, source.name, found, task, report)
+    rates.write(given, folder, rates.of_one(source.name, found, task, report))
     if given.json:
         facts = found.facts
         counted = as_json.Counted(facts.events, len(facts.keys), models.clients_of(facts, task.options.concurrency), found.form, facts.outcomes,
