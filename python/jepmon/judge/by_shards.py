@@ -307,7 +307,7 @@ def said(found: Large, history: Asked, tally: Tally, verdict: Verdict, task: Tas
         yield f"{name}: " + ", ".join(f"{outcomes[f'{name} {kind}']} {kind}" for kind in ("ok", "fail", "info"))
     if not any(outcome.endswith(" ok") for outcome in outcomes):
         yield "no operation is ok: nothing was judged"
-    yield from history.account.told()
+    yield from history.account.told(history.made is not None)
     if not task.choice.is_guess:
         yield f"model {task.choice.common}, {task.choice.reason}"
 

@@ -35,7 +35,7 @@ def found(source: Source, history: Recorded, task: Task) -> Iterator[str]:
     if history.faults:
         yield f"faults, which the page shows: {len(history.faults)}"
     yield from outcomes(facts)
-    yield from history.account.told()
+    yield from history.account.told(not history.is_own)
     if not task.choice.is_guess:
         yield f"model {task.choice.common}, {task.choice.reason}" if task.choice.common else task.choice.reason
 
