@@ -1,0 +1,11 @@
+mod Splits
+mod Orders
+mod Steps
+mod Once
+mod Makes
+mod Covers
+mod Puts
+mod Ending
+mod Events
+mod Beginning
+mod Complete
