@@ -1,25 +1,25 @@
 -- each order of the history with one more invocation comes of what the invocation makes of an end
-use Rattle.std.proofs.Common.{◌≡◌, ◌≢◌, ℕ, ℤ, ◌⊎◌, inl, inr, ⊎_elim, IsTrue, Option, Some, None, List, [], ◌∷◌, ◌++◌, refl, sym, ap, ◌∙◌, subst}
+use Rattle.std.proofs.Common.{◌≡◌, ◌≢◌, ℕ, ℤ, ◌⊎◌, inl, inr, ⊎_elim, IsTrue, Option, Some, None, List, [], ◌∷◌, ◌++◌, refl, sym, ap, ◌∙◌, subst, append-nil}
 use Rattle.std.specs.List.{Contains}
 use Rattle.std.proofs.lemmas.List.Elements.{Contains-append_left, Contains-append_right, Contains-push, Contains-push_cases}
 use Rattle.std.proofs.lemmas.Bool.{cases_eq}
 use Rattle.models.specs.declared.operation.Op.{Op}
 use Rattle.models.specs.Objects.{register}
 use Rattle.events.specs.Events.{Mark}
-use Rattle.events.specs.Events.Mark.{Invoked, Returned, Failed}
+use Rattle.events.specs.Events.Mark.{Invoked, Returned}
 use Rattle.linspec.specs.MarkRule.{IsNew, AreWellFormed}
-use Rattle.linspec.specs.Operations.{HasReturned, IsOpen, Precedes}
-use Rattle.linspec.specs.Orders.{Taken, Includes, Pairwise, Run, IsLegalOrder}
-use Rattle.linspec.proofs.Lists.{Contains-nil, Contains-head, Contains-cons_cases, Pairwise-across, snoc_cut}
+use Rattle.linspec.specs.Operations.{HasReturned, Precedes}
+use Rattle.linspec.specs.Orders.{Taken, Pairwise, Run, IsLegalOrder}
+use Rattle.linspec.proofs.Lists.{Contains-nil, Contains-head, Pairwise-across, snoc_cut}
 use Rattle.linspec.proofs.Marks.{IsLegalOrder-fewer, IsLegalOrder-cut, Precedes-kept}
 use Rattle.linspec.proofs.Open.{open_without_new}
 use Rattle.linspec.proofs.Fates.{returned_or_not}
-use Rattle.lean_ends.specs.LeanEnds.{Reads, IsWriteOf, IsRead, MayRead, MayWrite, LeanEnd, IsWithRead, Becomes}
+use Rattle.lean_ends.specs.LeanEnds.{Reads, MayRead, LeanEnd, Becomes}
 use Rattle.lean_ends.proofs.Splits.{UpToLast, up_to_last}
 use Rattle.lean_ends.proofs.Steps.{run_same, no_read}
 use Rattle.lean_ends.proofs.Once.{one_op, sort_of}
 use Rattle.lean_ends.proofs.Makes.{some_with_read}
-use Rattle.lean_ends.proofs.Covers.{MayFind, Extra, CoversSame, CoversBehind, Covers, covers_with_pending}
+use Rattle.lean_ends.proofs.Covers.{MayFind, Extra, Covers, covers_with_pending}
 
 module _ (marks : List Mark) (id : ℕ) (op : Op) (well : AreWellFormed (marks ++ Invoked id op ∷ [])) where
   abbrev longer : List Mark
@@ -62,12 +62,8 @@ module _ (marks : List Mark) (id : ℕ) (op : Op) (well : AreWellFormed (marks +
     new_finds : (v : ℤ) → MayFind longer p id v → u ≡ Some v
     new_finds v f = by_rest f.1 f.2 f.4
       where
-        nothing_behind : (xs : List Taken) → xs ++ [] ≡ xs
-        nothing_behind [] = refl
-        nothing_behind (x ∷ xs) = ap (λ l. x ∷ l) (nothing_behind xs)
-
         by_rest : (ys : List Taken) → p ≡ f.0 ++ ys → ((y : Taken) → Contains ys y → ¬ Precedes longer y.id id) → u ≡ Some v
-        by_rest [] cut none = run_same p None u (Some v) legal.run (subst (λ l. Run register None l (Some v)) (sym (cut ∙ nothing_behind f.0)) f.3)
+        by_rest [] cut none = run_same p None u (Some v) legal.run (subst (λ l. Run register None l (Some v)) (sym (cut ∙ append-nil f.0)) f.3)
         by_rest (y ∷ ys) cut none = absurd (⊎_elim
             (λ empty. Contains-nil y (subst (λ l. Contains l y) (sym cut ∙ empty) (Contains-append_right f.0 (y ∷ ys) y (Contains-head y ys))))
             (λ k. ⊎_elim

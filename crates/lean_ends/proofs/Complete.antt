@@ -1,19 +1,16 @@
 -- each legal order of a history comes of a lean end
-use Rattle.std.proofs.Common.{◌≡◌, ◌≢◌, ℕ, ℤ, ◌⊎◌, inl, inr, ⊎_elim, IsTrue, false, true, Option, Some, None, List, [], ◌∷◌, ◌++◌, refl, sym, ap, ◌∙◌, subst, append_assoc}
-use Rattle.std.specs.List.{Contains}
+use Rattle.std.proofs.Common.{◌≡◌, ℤ, inl, Option, List, [], ◌∷◌, ◌++◌, refl, sym, ap, ◌∙◌, subst, append_assoc, append-nil}
 use Rattle.std.proofs.lemmas.Bool.{true≢false}
-use Rattle.std.proofs.lemmas.List.Elements.{Contains-append_left}
-use Rattle.models.specs.declared.operation.Op.{Op}
 use Rattle.models.specs.Objects.{register}
 use Rattle.events.specs.Events.{Mark}
 use Rattle.events.specs.Events.Mark.{Invoked, Returned, Failed, Crashed}
 use Rattle.linspec.specs.MarkRule.{AreWellFormed}
-use Rattle.linspec.specs.Orders.{Taken, Run, IsLegalOrder, IsLinearizable}
+use Rattle.linspec.specs.Orders.{Taken, IsLegalOrder, IsLinearizable}
 use Rattle.linspec.proofs.Lists.{Contains-nil, Contains-head}
 use Rattle.linspec.proofs.Marks.{IsLegalOrder-fewer}
 use Rattle.lean_ends.specs.LeanEnds.{LeanEnd, start, Becomes, BecomesBy, IsLeanEnd}
-use Rattle.lean_ends.proofs.Covers.{Extra, Covers}
-use Rattle.lean_ends.proofs.Events.{after_fail, after_crash, after_ok, front_well}
+use Rattle.lean_ends.proofs.Covers.{Covers}
+use Rattle.lean_ends.proofs.Events.{after_fail, after_crash, after_ok}
 use Rattle.lean_ends.proofs.Beginning.{after_invoke}
 
 abbrev pub AreComplete : List Mark → (LeanEnd → Type 0) → Type 0
@@ -52,12 +49,8 @@ at_first (x ∷ order) t l = absurd (Contains-nil _ (l.invoked x (Contains-head 
 complete_by : (before more : List Mark) (L : LeanEnd → Type 0) → AreWellFormed (before ++ more) → AreComplete before L
     → AreComplete (before ++ more) (λ f. (e : LeanEnd) × L e × BecomesBy before e more f)
 complete_by before [] L well c order t l =
-    let k = c order t (subst (λ ms. IsLegalOrder register ms order t) (none_behind before) l) in
-    (k.0, (k.0, k.1, refl), subst (λ ms. Covers ms k.0 order t) (sym (none_behind before)) k.2)
-  where
-    none_behind : (ms : List Mark) → ms ++ [] ≡ ms
-    none_behind [] = refl
-    none_behind (m ∷ ms) = ap (λ l. m ∷ l) (none_behind ms)
+    let k = c order t (subst (λ ms. IsLegalOrder register ms order t) (append-nil before) l) in
+    (k.0, (k.0, k.1, refl), subst (λ ms. Covers ms k.0 order t) (sym (append-nil before)) k.2)
 complete_by before (m ∷ more) L well c order t l =
     let e : (before ++ m ∷ []) ++ more ≡ before ++ m ∷ more = append_assoc before (m ∷ []) more in
     let well' : AreWellFormed ((before ++ m ∷ []) ++ more) = subst AreWellFormed (sym e) well in

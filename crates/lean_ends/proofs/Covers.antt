@@ -1,15 +1,14 @@
 -- which orders an end stands for: those that come of it where more of the open and crashed writes take place
-use Rattle.std.proofs.Common.{◌≡◌, ◌≢◌, ℕ, ℤ, ◌⊎◌, inl, inr, ⊎_elim, Bool, IsTrue, Option, Some, None, List, [], ◌∷◌, ◌++◌, refl, sym, ap, ◌∙◌, subst, append_assoc}
+use Rattle.std.proofs.Common.{◌≡◌, ◌≢◌, ℕ, ℤ, ◌⊎◌, inl, inr, ⊎_elim, IsTrue, Option, Some, None, List, [], ◌∷◌, ◌++◌, refl, sym, ◌∙◌, subst, append-nil}
 use Rattle.std.specs.List.{Contains}
 use Rattle.std.proofs.lemmas.List.Elements.{Contains-append_left, Contains-append_right, Contains-append_cases}
-use Rattle.models.specs.declared.operation.Op.{Op}
 use Rattle.models.specs.Objects.{register}
 use Rattle.events.specs.Events.{Mark}
 use Rattle.events.specs.Events.Mark.{Invoked}
 use Rattle.linspec.specs.MarkRule.{AreWellFormed}
 use Rattle.linspec.specs.Operations.{HasReturned, IsOpen, Precedes}
 use Rattle.linspec.specs.Orders.{Taken, Includes, Run, IsLegalOrder}
-use Rattle.linspec.proofs.Lists.{Contains-nil, Contains-head, Contains-cons_cases, Pairwise-across}
+use Rattle.linspec.proofs.Lists.{Contains-nil, Contains-head, Pairwise-across}
 use Rattle.linspec.proofs.Marks.{Run-cut}
 use Rattle.lean_ends.specs.LeanEnds.{Writes, Reads, IsWriteOf, MayRead, MayWrite, LeanEnd}
 use Rattle.lean_ends.proofs.Splits.{two_cuts}
@@ -66,7 +65,7 @@ module _ (marks : List Mark) (well : AreWellFormed marks) (e : LeanEnd) (p q : L
         let c1 = Run-cut register None (Some v) p k.0 (subst (λ xs. Run register None xs (Some v)) k.1 f.3) in
         let at_u : c1.0 ≡ u = run_same p None c1.0 u c1.1 run_p in
         ⊎_elim
-        (λ reads. inl (p, [], sym (nothing_behind p), subst (λ s. Run register None p s) (sym (reads.1 ∙ at_u)) run_p, (λ y h. absurd (Contains-nil y h))))
+        (λ reads. inl (p, [], sym (append-nil p), subst (λ s. Run register None p s) (sym (reads.1 ∙ at_u)) run_p, (λ y h. absurd (Contains-nil y h))))
         (λ (w : LastWrite k.0 (Some v)).
           let same : Some w.value ≡ Some v = sym w.left in
           let is_v : w.value ≡ v = cc in
@@ -75,10 +74,6 @@ module _ (marks : List Mark) (well : AreWellFormed marks) (e : LeanEnd) (p q : L
         (run_view k.0 c1.0 (Some v) c1.2))
       (λ k. inl (f.0, k.0, k.1, f.3, (λ y h. f.4 y (subst (λ ys. Contains ys y) (sym k.2) (Contains-append_left k.0 q y h)))))
       (two_cuts p q f.0 f.1 f.2)
-    where
-      nothing_behind : (xs : List Taken) → xs ++ [] ≡ xs
-      nothing_behind [] = refl
-      nothing_behind (x ∷ xs) = ap (λ l. x ∷ l) (nothing_behind xs)
 
   of_front : (r : ℕ) (v : ℤ) → MayRead marks r → MayFind marks p r v → IsTrue (e.finds r v) ⊎ ((x : ℕ) × Extra marks e (p ++ q) x v)
   of_front r v m f = ⊎_elim

@@ -1,17 +1,16 @@
 -- an end of which an operation goes stands for the orders of the history in which the operation is completed
-use Rattle.std.proofs.Common.{◌≡◌, ◌≢◌, ℕ, ℤ, ◌⊎◌, inl, inr, ⊎_elim, IsTrue, Option, Some, List, [], ◌∷◌, ◌++◌, refl, sym, ap, ◌∙◌, subst}
+use Rattle.std.proofs.Common.{◌≢◌, ℕ, ℤ, inl, inr, ⊎_elim, Option, List, [], ◌∷◌, ◌++◌, sym, ap, ◌∙◌}
 use Rattle.std.specs.List.{Contains}
-use Rattle.std.proofs.lemmas.List.Elements.{Contains-append_left, Contains-push, Contains-push_cases}
+use Rattle.std.proofs.lemmas.List.Elements.{Contains-append_left, Contains-push_cases}
 use Rattle.models.specs.declared.operation.Op.{Op}
 use Rattle.events.specs.Events.{Mark}
-use Rattle.events.specs.Events.Mark.{Invoked, Returned, Failed}
+use Rattle.events.specs.Events.Mark.{Invoked}
 use Rattle.linspec.specs.MarkRule.{id_of}
-use Rattle.linspec.specs.Operations.{HasReturned, IsOpen, Precedes}
-use Rattle.linspec.specs.Orders.{Taken, Includes}
+use Rattle.linspec.specs.Orders.{Taken}
 use Rattle.linspec.proofs.Marks.{Precedes-kept}
 use Rattle.linspec.proofs.Open.{IsCompletion, no_invocation, was_open}
-use Rattle.lean_ends.specs.LeanEnds.{IsWriteOf, IsRead, MayRead, MayWrite, LeanEnd, IsWithout}
-use Rattle.lean_ends.proofs.Covers.{MayFind, Extra, CoversSame, CoversBehind, Covers}
+use Rattle.lean_ends.specs.LeanEnds.{MayRead, MayWrite, LeanEnd, IsWithout}
+use Rattle.lean_ends.proofs.Covers.{MayFind, Extra, Covers}
 
 module _ (marks : List Mark) (m : Mark) (c : IsCompletion m) where
   abbrev pub longer : List Mark

@@ -1,9 +1,7 @@
 -- each order of the history with one more completion comes of what the completion makes of an end
-use Rattle.std.proofs.Common.{◌≡◌, ◌≢◌, ℕ, ℤ, ◌⊎◌, inl, inr, ⊎_elim, IsTrue, Option, Some, None, List, [], ◌∷◌, ◌++◌, refl, sym, ap, ◌∙◌, subst, append_assoc}
+use Rattle.std.proofs.Common.{◌≡◌, ◌≢◌, ℕ, ℤ, inl, inr, ⊎_elim, IsTrue, Option, Some, None, List, [], ◌∷◌, ◌++◌, refl, sym, ap, ◌∙◌, subst, append_assoc}
 use Rattle.std.specs.List.{Contains}
-use Rattle.std.proofs.lemmas.List.Elements.{Contains-append_left, Contains-append_right, Contains-push, Contains-push_cases}
-use Rattle.models.specs.declared.operation.Op.{Op}
-use Rattle.models.specs.declared.finding.Found.{Found}
+use Rattle.std.proofs.lemmas.List.Elements.{Contains-append_left, Contains-push, Contains-push_cases}
 use Rattle.models.specs.declared.finding.Found.TheVariants.{Reg}
 use Rattle.models.specs.declared.finding.Answer.{Answer}
 use Rattle.models.specs.declared.finding.Answer.TheVariants.{Nothing, Number, Numbers, Many}
@@ -11,16 +9,16 @@ use Rattle.models.specs.Objects.{register, Fits}
 use Rattle.events.specs.Events.{Mark}
 use Rattle.events.specs.Events.Mark.{Invoked, Returned, Failed, Crashed}
 use Rattle.linspec.specs.MarkRule.{AreWellFormed}
-use Rattle.linspec.specs.Operations.{HasReturned, IsOpen, Precedes}
+use Rattle.linspec.specs.Operations.{IsOpen, Precedes}
 use Rattle.linspec.specs.Orders.{Taken, Includes, Pairwise, Run, IsLegalOrder}
-use Rattle.linspec.proofs.Lists.{Contains-head, Contains-cons_cases, Pairwise-right, cut_at}
+use Rattle.linspec.proofs.Lists.{Contains-cons_cases, Pairwise-right, cut_at}
 use Rattle.linspec.proofs.Marks.{IsLegalOrder-fewer, Run-cut, Precedes-returned}
 use Rattle.linspec.proofs.Open.{was_open}
-use Rattle.lean_ends.specs.LeanEnds.{Writes, Reads, IsWriteOf, IsRead, MayRead, MayWrite, LeanEnd, IsPutBehind, IsPutBefore, IsWithout, EndsWrite, EndsRead, Becomes}
+use Rattle.lean_ends.specs.LeanEnds.{IsWriteOf, IsRead, MayWrite, LeanEnd, IsWithout, Becomes}
 use Rattle.lean_ends.proofs.Steps.{step_view}
 use Rattle.lean_ends.proofs.Once.{read_no_write, read_or_not}
 use Rattle.lean_ends.proofs.Makes.{is_true, some_behind, some_before, some_without}
-use Rattle.lean_ends.proofs.Covers.{MayFind, Extra, CoversSame, CoversBehind, Covers}
+use Rattle.lean_ends.proofs.Covers.{MayFind, Extra, Covers}
 use Rattle.lean_ends.proofs.Puts.{put_behind, put_before}
 use Rattle.lean_ends.proofs.Ending.{write_was, read_was, find_was, covers_without}
 

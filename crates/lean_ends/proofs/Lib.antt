@@ -9,3 +9,6 @@ mod Ending
 mod Events
 mod Beginning
 mod Complete
+mod Stands
+mod Kept
+mod Sound

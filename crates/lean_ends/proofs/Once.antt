@@ -1,5 +1,5 @@
 -- in a well-formed history an operation is invoked once
-use Rattle.std.proofs.Common.{◌≡◌, ℕ, ℤ, ◌⊎◌, inl, inr, ⊎_elim, List, [], ◌∷◌, ◌++◌, refl, sym, ap, ◌∙◌, subst, append_assoc}
+use Rattle.std.proofs.Common.{◌≡◌, ℕ, ℤ, ◌⊎◌, inl, inr, ⊎_elim, List, ◌∷◌, ◌++◌, refl, sym, ap, ◌∙◌, subst, append_assoc}
 use Rattle.std.specs.List.{Contains}
 use Rattle.std.proofs.lemmas.List.Elements.{Contains-append_right, Contains-append_cases}
 use Rattle.models.specs.declared.operation.Name.{Name}
@@ -10,7 +10,6 @@ use Rattle.models.specs.declared.operation.Op.{Op}
 use Rattle.events.specs.Events.{Mark}
 use Rattle.events.specs.Events.Mark.{Invoked}
 use Rattle.linspec.specs.MarkRule.{IsNew, AreWellFormed}
-use Rattle.linspec.specs.Operations.{IsInvoked}
 use Rattle.linspec.proofs.Lists.{Contains-head, Contains-cons_cases, cut_at}
 use Rattle.linspec.proofs.Fates.{invoked_or_not, open_or_not, returned_or_not, failed_or_not}
 use Rattle.lean_ends.specs.LeanEnds.{Writes, Reads, IsWriteOf, IsRead, MayWrite, MayRead}

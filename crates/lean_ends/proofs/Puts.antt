@@ -1,11 +1,10 @@
 -- an end with one more write stands for the orders that have it
-use Rattle.std.proofs.Common.{◌≡◌, ◌≢◌, ℕ, ℤ, ◌⊎◌, inl, inr, ⊎_elim, IsTrue, Option, Some, List, refl, sym, ap, ◌∙◌, subst}
+use Rattle.std.proofs.Common.{◌≡◌, ◌≢◌, ℕ, ℤ, ◌⊎◌, inl, inr, ⊎_elim, IsTrue, Option, Some, List, sym, ap, ◌∙◌, subst}
 use Rattle.std.proofs.lemmas.Bool.{cases_eq}
 use Rattle.events.specs.Events.{Mark}
 use Rattle.linspec.specs.MarkRule.{AreWellFormed}
-use Rattle.linspec.specs.Operations.{IsOpen}
 use Rattle.linspec.specs.Orders.{Taken, Includes}
-use Rattle.lean_ends.specs.LeanEnds.{IsWriteOf, MayRead, MayWrite, LeanEnd, IsPutBehind, IsPutBefore}
+use Rattle.lean_ends.specs.LeanEnds.{IsWriteOf, MayRead, LeanEnd, IsPutBehind, IsPutBefore}
 use Rattle.lean_ends.proofs.Once.{read_no_write, same_value}
 use Rattle.lean_ends.proofs.Covers.{MayFind, Extra, CoversSame, CoversBehind, Covers}
 

@@ -1,10 +1,10 @@
 -- the steps of a register
-use Rattle.std.proofs.Common.{◌≡◌, ℤ, ◌⊎◌, inl, inr, ⊎_elim, Option, Some, None, List, [], ◌∷◌, ◌++◌, refl, sym, ap, ◌∙◌, subst}
+use Rattle.std.proofs.Common.{◌≡◌, ℤ, ◌⊎◌, inl, inr, ⊎_elim, Option, Some, List, [], ◌∷◌, ◌++◌, refl, sym, ap, ◌∙◌, subst}
 use Rattle.std.specs.List.{Contains}
 use Rattle.models.specs.declared.operation.Name.{Name}
-use Rattle.models.specs.declared.operation.Name.TheVariants.{Read, Write, Cas, Acquire, Release, Enqueue, Dequeue, Add}
+use Rattle.models.specs.declared.operation.Name.TheVariants.{Read, Write}
 use Rattle.models.specs.declared.operation.Part.{Part}
-use Rattle.models.specs.declared.operation.Part.TheVariants.{Nil, Int, Pair, Set}
+use Rattle.models.specs.declared.operation.Part.TheVariants.{Nil, Int}
 use Rattle.models.specs.declared.operation.Op.{Op}
 use Rattle.models.specs.declared.finding.Found.{Found}
 use Rattle.models.specs.declared.finding.Found.TheVariants.{Unit as Done, Reg}
@@ -18,10 +18,10 @@ use Rattle.lean_ends.specs.LeanEnds.{Writes, Reads}
 abbrev pub View : Name → Part → Option ℤ → Found → Option ℤ → Type 0
 View name part s found t =
     ((name ≡ Read) × (part ≡ Nil) × (s ≡ t) × (found ≡ Reg s))
-    ⊎ ((v : ℤ) × (name ≡ Write) × (part ≡ Int v) × (t ≡ Some v))
+    ⊎ ((v : ℤ) × (name ≡ Write) × (part ≡ Int v) × (t ≡ Some v) × (found ≡ Done))
 
 view : (name : Name) (part : Part) (s t : Option ℤ) (found : Found) → IsOneOf (register_apply name part s) (t, found) → View name part s found t
-view Write (Int v) s t found h = inr (v, refl, refl, sym (same_outcome (Some v, Done) (t, found) h).0)
+view Write (Int v) s t found h = let p = same_outcome (Some v, Done) (t, found) h in inr (v, refl, refl, sym p.0, sym p.1)
 view Read Nil s t found h = let p = same_outcome (s, Reg s) (t, found) h in inl (refl, refl, p.0, sym p.1)
 view _ _ s t found h = absurd h
 

@@ -8,7 +8,7 @@ use Rattle.models.specs.declared.finding.Answer.{Answer}
 use Rattle.models.specs.declared.finding.Answer.TheVariants.{Nothing, Number}
 use Rattle.events.specs.Events.{Mark}
 use Rattle.events.specs.Events.Mark.{Invoked, Returned, Failed, Crashed}
-use Rattle.linspec.specs.Operations.{IsInvoked, HasReturned, IsOpen}
+use Rattle.linspec.specs.Operations.{HasReturned, IsOpen}
 
 -- the operation writes v; it reads
 abbrev pub Writes : Op → ℤ → Type 0
