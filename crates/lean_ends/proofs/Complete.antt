@@ -35,7 +35,7 @@ module _ (marks : List Mark) (L : LeanEnd → Type 0) (complete : AreComplete ma
       let f = after_crash marks id well k.0 order t k.2 in (f.0, (k.0, k.1, f.1), f.2)
 
 -- at first
-at_first : AreComplete [] (λ e. e ≡ start)
+pub at_first : AreComplete [] (λ e. e ≡ start)
 at_first [] t l = (start, refl, record {
   needed = λ i n. absurd (true≢false (sym n));
   how = inl (record {

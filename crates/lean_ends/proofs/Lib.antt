@@ -12,3 +12,5 @@ mod Complete
 mod Stands
 mod Kept
 mod Sound
+mod Left
+mod BadFronts

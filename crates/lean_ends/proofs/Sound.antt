@@ -248,7 +248,7 @@ module _ (marks : List Mark) (id : ℕ) (answer : Answer) (e f : LeanEnd) (s : I
       (λ k. by_write k.0 k.1 k.2)
       (λ k. ⊎_elim (λ j. by_nothing j.0 j.1 j.2) (λ j. by_value j.1 j.0 j.2 j.3) k)
 
-left_after : (marks : List Mark) (m : Mark) (e f : LeanEnd) → AreWellFormed (marks ++ m ∷ []) → IsLeft marks e → Becomes marks e m f → IsLeft (marks ++ m ∷ []) f
+pub left_after : (marks : List Mark) (m : Mark) (e f : LeanEnd) → AreWellFormed (marks ++ m ∷ []) → IsLeft marks e → Becomes marks e m f → IsLeft (marks ++ m ∷ []) f
 left_after marks (Invoked id op) e f well s b = left_by_invoke marks id op e f s well b
 left_after marks (Returned id answer) e f well s b = left_by_ok marks id answer e f s well b
 left_after marks (Failed id) e f well s b = left_by_fail marks id e f s well b.0 b.1
@@ -265,8 +265,8 @@ left_by before (m ∷ more) e f well s b =
     let front : AreWellFormed (before ++ m ∷ []) = λ xs ys n cut. well' xs (ys ++ more) n (sym (append_assoc xs (n ∷ ys) more) ∙ ap (λ l. l ++ more) cut) in
     subst (λ ms. IsLeft ms f) q (left_by (before ++ m ∷ []) more b.0 f well' (left_after before m e b.0 front s b.1) b.2)
 
-at_first : IsLeft [] start
-at_first = ([], None, record {
+pub left_at_first : IsLeft [] start
+left_at_first = ([], None, record {
   legal = record {
     invoked = λ x h. absurd (Contains-nil x h);
     once = tt;
@@ -285,4 +285,4 @@ at_first = ([], None, record {
 })
 
 pub lean_end_is_left : (marks : List Mark) → AreWellFormed marks → (e : LeanEnd) → IsLeanEnd marks e → IsLinearizable register marks
-lean_end_is_left marks well e is = let k = left_by [] marks start e well at_first is in (k.0, k.1, k.2.legal)
+lean_end_is_left marks well e is = let k = left_by [] marks start e well left_at_first is in (k.0, k.1, k.2.legal)

@@ -9,6 +9,7 @@ use Rattle.models.specs.declared.finding.Answer.TheVariants.{Nothing, Number}
 use Rattle.events.specs.Events.{Mark}
 use Rattle.events.specs.Events.Mark.{Invoked, Returned, Failed, Crashed}
 use Rattle.linspec.specs.Operations.{HasReturned, IsOpen}
+use Rattle.linspec.specs.Orders.{Pairwise}
 
 -- the operation writes v; it reads
 abbrev pub Writes : Op → ℤ → Type 0
@@ -119,3 +120,27 @@ BecomesBy marks e (m ∷ more) f =
 -- f is a lean end of the history
 abbrev pub IsLeanEnd : List Mark → LeanEnd → Type 0
 IsLeanEnd marks f = BecomesBy [] start marks f
+
+-- f may become all that e may: it needs the same open writes and no other crashed one, and allows as much
+pub record IsAtMost (marks : List Mark) (e f : LeanEnd) : Type 0 where
+  pub state : e.state ≡ f.state
+  pub needed : (i : ℕ) → IsTrue (f.needed i) → IsTrue (e.needed i)
+  pub open_ones : (i : ℕ) → IsTrue (e.needed i) → IsOpen marks i → IsTrue (f.needed i)
+  pub door : (i : ℕ) → IsTrue (e.door i) → IsTrue (f.door i)
+  pub finds : (r : ℕ) (w : ℤ) → IsTrue (e.finds r w) → IsTrue (f.finds r w)
+
+-- what the mark makes of these ends, without those that are at most another one
+pub record AreLeftBy (marks : List Mark) (m : Mark) (ends left : List LeanEnd) : Type 0 where
+  pub each : (f : LeanEnd) → Contains left f → (e : LeanEnd) × Contains ends e × Becomes marks e m f
+  pub all : (e f : LeanEnd) → Contains ends e → Becomes marks e m f
+      → (g : LeanEnd) × Contains left g × IsAtMost (marks ++ m ∷ []) f g
+  pub apart : Pairwise (λ e f. (¬ IsAtMost (marks ++ m ∷ []) e f) × (¬ IsAtMost (marks ++ m ∷ []) f e)) left
+
+abbrev pub AreLeftByAll : List Mark → List LeanEnd → List Mark → List LeanEnd → Type 0
+AreLeftByAll marks ends [] left = ends ≡ left
+AreLeftByAll marks ends (m ∷ more) left =
+    (next : List LeanEnd) × AreLeftBy marks m ends next × AreLeftByAll (marks ++ m ∷ []) next more left
+
+-- these are the lean ends of the history, each once
+abbrev pub AreLeanEnds : List Mark → List LeanEnd → Type 0
+AreLeanEnds marks left = AreLeftByAll [] (start ∷ []) marks left
