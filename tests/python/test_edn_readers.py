@@ -37,7 +37,7 @@ def tagged(value: Value, at_top: bool = False) -> Any:
 
 
 def by_edn(text: str) -> Optional[List[Any]]:
-    """What the one reads; None if it refuses."""
+    """The values that edn.py reads; None if it refuses."""
     try:
         return [tagged(element.value, at_top=True) for element in edn.Reader(text, profile=True).elements()]
     except edn.Unreadable:
@@ -68,7 +68,7 @@ class Readers(unittest.TestCase):
         self.assertEqual([self.assert_same(text) for text in DEEP], [True, False, True, True])
 
     def test_histories(self) -> None:
-        """The examples, and the histories of the black-box cases and of the samples, with each cut off and spoiled once."""
+        """The examples, and the histories of the black-box cases and of the samples, each also cut off and with one token more."""
         chance, taken = random.Random(12), 0
         for path in histories():
             text = path.read_bytes().decode("utf-8", "replace").replace("\ufffd", "?")[:20_000]

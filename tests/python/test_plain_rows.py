@@ -96,7 +96,7 @@ class PlainRows(unittest.TestCase):
 
 
 def rows(chance: random.Random) -> Iterator[Dict[str, Any]]:
-    """Events of some clients, of which a few have odd fields."""
+    """Events of some clients; a few have odd fields."""
     open_of: Dict[int, Dict[str, Any]] = {}
     time, steps, named = 0, chance.choice((0, 1, 1000)), chance.random() < 0.3
     has = {name: chance.random() < 0.8 for name in ("time", "key", "index", "node")}

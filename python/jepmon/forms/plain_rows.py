@@ -1,5 +1,5 @@
-"""Rows that are plainly events: one field of each meaning, with what it mostly holds. A plan tells how all rows with the same names are
-read. It is there for speed: meaning.py reads each other row, and would read these with the same result."""
+"""Rows that are plainly events: each meaning has one field, with a value of a usual type. One plan reads all rows with the same names.
+Plans are for speed: meaning.py reads each other row, and would read these with the same result."""
 from __future__ import annotations
 
 import operator
@@ -21,7 +21,7 @@ class Plan(NamedTuple):
     """How rows with the same names are read."""
 
     shape: Shape
-    pick: Callable[[Fields], Tuple[Any, ...]]  # the client, the type, the operation, the key, the value, the time; others where one lacks
+    pick: Callable[[Fields], Tuple[Any, ...]]  # the client, the type, the operation, the key, the value, the time; the client for a missing one
     has_key: bool
     has_value: bool
     has_time: bool
@@ -53,7 +53,7 @@ class Plans:
             self._learn_words(row, plan)
 
     def told(self, row: Row) -> Told:
-        """What a row tells that was read by its plan."""
+        """Reads a row by its plan again."""
         plan = self.by_names[tuple(row.fields)]
         assert plan is not None
         client, word, said, key, value, time = plan.pick(row.fields)

@@ -113,7 +113,7 @@ class Events:
                 return row
             if not collector.takes((f":{kind}", process, f":{name}", key, part, collector.count, line, beside)):
                 return row
-            # It is taken; what follows is what the next rows are tested by, and what is told at the end.
+            # The row is taken. The rest is for the tests of the next rows, and for the notes at the end.
             collector.count += 1
             if kind == "invoke":
                 opened[process] = row

@@ -47,7 +47,7 @@ class Writer:
 
 
 def beside(time: Optional[Time], error: Optional[str]) -> Optional[Tuple[Optional[int], Optional[str]]]:
-    """What an event says beside its value: its time, and its error."""
+    """The time and the error of an event; None if it has neither."""
     return None if time is None and not error else (None if time is None else int(time), error or None)
 
 

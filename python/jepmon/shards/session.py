@@ -97,7 +97,7 @@ class Session:
         return verdict
 
     def account(self) -> Account:
-        """What became of the lines of the history, which was read."""
+        """Accounts for the lines of the history, which was read."""
         if self._exact is not None:
             return self._exact
         account = Account()
