@@ -105,6 +105,8 @@ def settled(ways: Variations) -> Variations:
     """The variations without those that make no sense together."""
     if "error" in ways and (ways.get("times") not in UNITS or ways.get("skew")):
         ways = {**ways, "times": "iso", "skew": 0}
+    if "error" in ways:  # which is stated in the unit of the times
+        ways = {name: way for name, way in ways.items() if name != "unitmix"}
     if ways["form"] in OBJECTS_AS_TEXTS and ways.get("values") == "obj":
         ways = {**ways, "values": "objval"}  # the order of its members is of the text
     if "several" in ways:  # an index and new processes are of the whole history

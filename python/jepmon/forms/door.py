@@ -65,8 +65,8 @@ class Options(NamedTuple):
 
     def asked(self, order: Optional[str]) -> Asked:
         """The same of events in Jepsen's form, which are taken in this order."""
-        skew = 0 if self.mapping.skew is None else nanoseconds(self.mapping.skew)
-        return Asked(self.key, self.missing_is_judged, order, self.mapping.contradictions, 0 if order == LINES else skew, meant=self.meant)
+        skew = None if self.mapping.skew is None or order == LINES else nanoseconds(self.mapping.skew)
+        return Asked(self.key, self.missing_is_judged, order, self.mapping.contradictions, skew, meant=self.meant)
 
 
 def form_of(source: Source, options: Options) -> str:
@@ -138,6 +138,10 @@ class Translation:
     def lines(self, begun: int) -> "array.array[int]":
         """The line of each event; 0 if it has none."""
         return array.array("Q", itertools.chain(itertools.repeat(0, begun), (row[6] if len(row) > 2 else 0 for _, row in self._rows(begun))))
+
+    def moments(self) -> "Iterator[tuple[str, int, int]]":
+        """The type, the process and the line of each event."""
+        return ((row[0], row[1], row[6]) for _, row in self._rows(0) if len(row) > 2)
 
     def _rows(self, begun: int) -> "Iterator[tuple[int, tuple[Any, ...]]]":
         return enumerate(itertools.chain.from_iterable(self.history.events.batches()), begun)

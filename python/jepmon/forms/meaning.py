@@ -5,7 +5,7 @@ from typing import Any, Dict, List, NamedTuple, Optional, Sequence, Tuple
 
 from . import Refused
 from .account import Account
-from .clock import Clock, Time
+from .clock import Clock, Time, nanoseconds
 from .mapping import Mapping
 from .outcomes import Outcomes, Said, error_of, truth
 from .rows import Row
@@ -42,7 +42,7 @@ class Reader:
     def __init__(self, mapping: Mapping, account: Account, has_model: bool) -> None:
         self.shapes = Shapes(mapping)
         self.clock = Clock(account, mapping.time_unit)
-        self.clock.needs_unit = mapping.skew is not None
+        self.clock.needs_unit = mapping.skew is not None and nanoseconds(mapping.skew) > 0
         self.of_operations: Optional[bool] = None
         self._mapping, self._account = mapping, account
         self._outcomes = Outcomes(mapping.outcomes, account)

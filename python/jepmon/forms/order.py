@@ -1,4 +1,4 @@
-"""The order of events that have no times: that in which they stand. If each client's events stand together, this is a guess."""
+"""What is guessed of the order of events: that they took place as they stand if they have no times, and that all times are of one clock."""
 from __future__ import annotations
 
 from typing import Any, Dict
@@ -8,6 +8,10 @@ from .account import ORDER, Account
 TOGETHER = ("the events of each client stand together, as in files put one behind the other, and have no times: they are taken in the "
             "order in which they stand")
 EITHER = "--order lines or --order times"  # which settles the order of events with one time
+BY_TIMES = "--order times"  # which settles that of events whose times go back
+ONE_CLOCK = "the times of all clients are of one clock, or of clocks that agree"
+APART = "the times of all clients are of one clock, though by them some clients had long ended when others began"
+SKEW = "--skew 0ms"  # which settles both
 LEAST = 4  # events of each of two clients
 
 

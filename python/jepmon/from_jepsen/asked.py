@@ -40,7 +40,7 @@ class Asked(NamedTuple):
     nil_is_absent: bool = False  # nil is what a missing key answers, and no read that says nothing
     order: Optional[str] = None  # by which events are taken: "lines", "index" or "times"; None: as they stand, or by what they say
     outcomes: Mapping[str, str] = {}  # the type of what is an :ok and says that it is none, by "false" and "error"
-    skew: int = 0  # nanoseconds by which each clock may be wrong
+    skew: Optional[int] = None  # nanoseconds by which each clock may be wrong, if that is said
     clients: Optional[Callable[[str, int], str]] = None  # of several files: the name of a client by the line of its event
     parts: Sequence[Tuple[int, Texts]] = ()  # the same files, each with how many lines come before its own
     meant: Meant = Meant()  # which values are one, and which are none

@@ -14,6 +14,7 @@ from .. import edn
 from ..edn import Value, integer, spelling
 from ..forms.account import ORDER, Account
 from ..forms.mapping import INDEX, LINES, TIMES
+from ..forms.order import APART, BY_TIMES, ONE_CLOCK, SKEW
 from ..forms.timeline import Timeline
 from ..sorted_rows import SortedRows
 from .asked import GAP, Asked, Counted
@@ -99,12 +100,12 @@ class Facts:
 def ordered(texts: Texts, asked: Asked, account: Account, fault: Optional[Refusal]) -> History:
     """The history, with its events in their order. The fault of the order in which they stand is raised if no other one is known."""
     facts = read(texts(), asked, account)
-    order = asked.order or (TIMES if asked.skew else of_files(facts, account) if asked.clients is not None else found(facts, account, fault))
+    order = asked.order or (TIMES if asked.skew is not None else of_files(facts, account) if asked.clients is not None else found(facts, account, fault))
     collector = Collector(asked._replace(order=order), scratch := Account())
     if order == LINES:
         history = collector.collect(texts())
     else:
-        collector.count = by_index(texts(), asked, facts, collector) if order == INDEX else by_time(texts(), asked, collector)
+        collector.count = by_index(texts(), asked, facts, collector) if order == INDEX else by_time(texts(), asked, collector, account)
         history = collector.finished()
     for guess in scratch.guesses:
         account.guess(*guess)
@@ -114,7 +115,7 @@ def ordered(texts: Texts, asked: Asked, account: Account, fault: Optional[Refusa
 def of_files(facts: Facts, account: Account) -> str:
     """By what the events of several files are in order."""
     if None not in facts.times:
-        account.guess(ORDER, "the times of all files are of one clock, or of clocks that agree", "--skew 0ms")
+        account.guess(ORDER, ONE_CLOCK, SKEW)
         return TIMES
     if facts.is_indexed():
         return INDEX
@@ -182,7 +183,7 @@ def found(facts: Facts, account: Account, fault: Optional[Refusal]) -> str:
                       "as they stand", "--order lines")
         return LINES
     account.guess(ORDER, f"the :time goes back in line {facts.lines[back]}; operations are taken in the order of the :time, which has to be of "
-                  "one clock", "--order times")
+                  "one clock", BY_TIMES)
     return TIMES
 
 
@@ -201,11 +202,14 @@ def by_index(texts: Iterable[str], asked: Asked, facts: Facts, collector: Collec
     return count
 
 
-def by_time(texts: Iterable[str], asked: Asked, collector: Collector) -> int:
+def by_time(texts: Iterable[str], asked: Asked, collector: Collector, account: Account) -> int:
     """Takes the operations in the order of their times, each wider by a clock error."""
     timeline, faults = timeline_of(texts, asked)
     count = 0
-    for moment in timeline.moments(asked.skew, asked.skew):
+    if asked.skew is None and timeline.are_apart():
+        account.guess(ORDER, APART, SKEW)
+    skew = asked.skew or 0
+    for moment in timeline.moments(skew, skew):
         while faults and moment.given is not None and faults[-1][0] <= moment.given[2]:
             collector.take(again(*faults.pop()[2:]), count)
         if moment.given is None:

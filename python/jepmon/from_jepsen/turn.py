@@ -65,7 +65,7 @@ def collected(source: Source, asked: Asked, account: Account) -> History:
     """The events of a history, in their order."""
     texts, lines = texts_of(source), Account()
     try:
-        if asked.order in (INDEX, TIMES) or asked.order is None and asked.skew or asked.clients is not None:
+        if asked.order in (INDEX, TIMES) or asked.order is None and asked.skew is not None or asked.clients is not None:
             history = ordered(texts, asked, lines, None)
         else:
             history = Collector(asked, lines).collect(texts())

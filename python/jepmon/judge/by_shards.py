@@ -28,7 +28,7 @@ from ..shards.source import History
 from ..shards.splitting import judged_elsewhere
 from ..shards.tally import Tally
 from ..shrinking.part import as_asked, text_of
-from . import as_json, bad_keys, causes, doubts, large_key, least, results, terminal, turned, wide
+from . import as_json, bad_keys, causes, doubts, large, large_key, least, readings, results, terminal, turned, wide
 from .hints import MOST_EVENTS, counted, is_legal_as
 from .judging import Task
 from .large import Large
@@ -55,14 +55,14 @@ class Asked(NamedTuple):
     account: Account
 
 
-def asked(given: Given, found: Large) -> Asked:
+def asked(given: Given, found: Large, is_told: bool = True) -> Asked:
     if found.made is None:
         return Asked(found.history, given.concurrency, None, Account())
     try:
         made = found.made.turned(in_shards=True)
     except Refused as refusal:
         raise Refused(f"{found.name}: {refusal}") from refusal
-    for note in [*found.made.notes, *notes_of(made)]:
+    for note in [*found.made.notes, *notes_of(made)] if is_told else ():
         say(note)
     return Asked(made.texts(), given.concurrency or made.concurrency, made, found.made.account)
 
@@ -137,6 +137,7 @@ def _judge(given: Given, found: Large, history: Asked, session: shards.Session, 
         history.account.test_strict()
     say(judged_by(found, history, task))
     path, verdict, decided = anew(given, session, path, verdict)
+    _test_readings(given, found, history, session, path, choice, verdict)
     report = report_of(path, verdict)
     task = task._replace(choice=of_bad_key(choice, report), wide_seconds=given.wide_seconds if decided else None, least=given.least)
     tally = session.tally
@@ -153,12 +154,33 @@ def _judge(given: Given, found: Large, history: Asked, session: shards.Session, 
         raise Refused(f"{found.name}: {few}")
     copies = {results.HISTORY: session.file.path, results.REPORT: path} if folder is not None else {}
     done = results.Results(found.name, recorded, task, report, keys, terminal.told(recorded, keys), copies)
-    beside += doubts.told(recorded, keys, given)
     results.write(page, folder, done)
     if given.json:
         counted_up = as_json.Counted(session.tally.events, verdict.keys, None, form_of(found), session.tally.outcomes(), of_report)
         as_json.write(as_json.of_results(done, found.source, counted_up, beside, given))
     return verdict.status
+
+
+def _test_readings(given: Given, found: Large, history: Asked, session: shards.Session, path: str, choice: Choice, verdict: Verdict) -> None:
+    """Refuses a verdict that rests on a guess."""
+    dead = [line for line in map(wide.key_line, lines_of(path)) if line is not None and line.status in bad_keys.DEAD]
+    judged_so = readings.Judged(_recorded(found, history), choice, verdict.word, dead, session.options.concurrency,
+                                functools.partial(events_of, session, found, history))
+    try:
+        readings.test(given, judged_so, lambda other: word_of(other, large.asked(found.source, other)))
+    except Refused as refusal:
+        raise Refused(f"{found.name}: {refusal}") from refusal
+
+
+def word_of(given: Given, found: Large) -> str:
+    """The verdict of a history, read as these words say."""
+    history = asked(given, found, is_told=False)
+    try:
+        with opened(given, found, history) as session, open(os.path.join(session.tools.folder, "report.txt"), "wb") as file:
+            choice = chosen(session.tally, given.model, history.made)
+            return session.report(judged(given, session, session.options._replace(model=choice.common or EACH)), file).word
+    except shards.Refused as refused:
+        raise Refused(str(refused)) from refused
 
 
 def _recorded(found: Large, history: Asked) -> Recorded:
