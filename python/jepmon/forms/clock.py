@@ -8,13 +8,13 @@ from __future__ import annotations
 
 import datetime
 import functools
-import json
 import math
 import re
 from typing import Any, Optional, Set, Union
 
 from . import Refused
 from .account import UNIT, Account
+from .cells import spelled
 from .vocabulary import UNITS
 
 Time = Union[int, float]
@@ -42,6 +42,8 @@ class Clock:
             return self._number(line, field, unit)
         if field is None or field == "":
             return None
+        if isinstance(field, bytes):  # a decimal that a double does not hold
+            return self._number(line, float(field), unit)
         if isinstance(field, str):
             text = field.strip()
             if INTEGER.fullmatch(text):
@@ -58,6 +60,7 @@ class Clock:
     def span(self, line: int, field: Any, unit: Optional[str]) -> Time:
         """The nanoseconds that a duration takes."""
         unit = unit or self._stated
+        field = float(field) if isinstance(field, bytes) else field
         if not isinstance(field, (int, float)) or isinstance(field, bool) or not math.isfinite(field) or field < 0:
             raise Refused(f"line {line}: {_shown(field)} is not a duration: a number from 0 on, whose field names its unit, as duration_ms")
         if unit is None:
@@ -118,7 +121,7 @@ def nanoseconds(text: str) -> int:
 
 
 def _shown(field: Any) -> str:
-    return json.dumps(field)[:60]
+    return spelled(field)[:60]
 
 
 def _date_of(text: str, line: int) -> "tuple[int, bool]":

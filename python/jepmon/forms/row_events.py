@@ -35,7 +35,7 @@ class Events:
         self._opened: Dict[str, Told] = {}  # the invocation of each process
         self._latest: Optional[Time] = None
         self._latest_client: Any = None
-        self._ties = self._timeless = 0  # events with the time of the one before, of another client; events without a time
+        self._ties = 0  # events with the time of the one before, of another client
         self._first_tie = 0
         self._blocks = Blocks()
 
@@ -47,7 +47,7 @@ class Events:
             return
         kind = kind_of(told, self._reader)
         process = self._process(told)
-        self._blocks.take(process)
+        self._blocks.take(process, told.line)
         invoked = self._opened.pop(process, None)
         kind = completed(told, kind, told.name or (invoked.name if invoked else None), self._writer.counts)
         if kind == "invoke":
@@ -64,7 +64,6 @@ class Events:
 
     def _test_time(self, told: Told) -> None:
         if told.time is None:
-            self._timeless += 1
             return
         if self._latest is not None and told.time <= self._latest and self._order != LINES:
             if told.time < self._latest:
@@ -98,7 +97,7 @@ class Events:
         if self._order is None and self._ties:
             self._account.guess(ORDER, f"events of several clients have one time, {self._ties} times, first in line {self._first_tie}: they are taken "
                                 "in the order in which they stand, not as open at once", EITHER)
-        if self._order is None and self._latest is None:
+        if self._order is None and self._latest is None and self._reader.last_index < 0:
             self._blocks.close(self._account)
         return [f"client {number} is {element(name)}" for name, number in self._clients.items()]
 

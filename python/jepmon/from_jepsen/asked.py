@@ -1,7 +1,7 @@
 """What is said of a history beside its text, and the pieces of the text, whose lines are counted."""
 from __future__ import annotations
 
-from typing import Callable, Iterable, Iterator, Mapping, NamedTuple, Optional, Sequence, Tuple
+from typing import Callable, FrozenSet, Iterable, Iterator, Mapping, NamedTuple, Optional, Sequence, Tuple
 
 from ..edn import Value
 from .meant import Meant
@@ -44,3 +44,5 @@ class Asked(NamedTuple):
     clients: Optional[Callable[[str, int], str]] = None  # of several files: the name of a client by the line of its event
     parts: Sequence[Tuple[int, Texts]] = ()  # the same files, each with how many lines come before its own
     meant: Meant = Meant()  # which values are one, and which are none
+    ignored: FrozenSet[str] = frozenset()  # fields that say nothing, by their plain names
+    is_own: bool = False  # whether it is in jepmon's own form, whose lines are in the order of the events

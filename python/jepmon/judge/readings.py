@@ -65,7 +65,7 @@ def _test_one(given: Given, word: str, ways: List[Way], judge: Callable[[Given],
         other = judge(changed)
     except (Refused, ProgramError):
         return
-    if other in VERDICTS and other != word:
+    if other in (*VERDICTS, "unknown") and other != word:
         raise Refused(f"the verdict rests on a guess: the history is {word} if {' and '.join(way.assumed for way in ways)}, and {other} if "
                       f"{' and '.join(way.otherwise for way in ways)}; say {', and '.join(way.option for way in ways)}")
 
