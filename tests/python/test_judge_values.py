@@ -87,6 +87,13 @@ class Values(Judged):
         self.assertIn('the history is illegal if 1 and "1" are different keys, and legal if they are one; say --values exact or --values number', ran.err)
         self.assertEqual([self.status(text, "--initial", "5", "--values", way) for way in ("exact", "text", "number")], [1, 0, 0])
 
+    def test_a_list_and_its_text_as_keys(self) -> None:
+        row = {"client": 0, "start": 1, "end": 2}
+        rows = [{**row, "op": "enqueue", "key": ["t", 0], "value": 1}, {**row, "op": "dequeue", "key": "['t', 0]", "result": 1, "start": 3, "end": 4}]
+        text = "".join(json.dumps(each) + "\n" for each in rows)
+        self.assertIn("are different keys, and legal if they are one; say --values exact", self.judged(text).err)
+        self.assertEqual([self.status(text, "--values", way) for way in ("exact", "text", "number")], [1, 0, 0])
+
     def test_groups(self) -> None:
         self.assertEqual(alike({0: "1", 1: '"1"', 2: "1.0", 3: '"a"', 4: '" a"', 5: "2", 6: "true", 7: ":a"}),
                          [["1", '"1"', "1.0", "true"], ['"a"', '" a"']])

@@ -7,7 +7,7 @@ from __future__ import annotations
 
 import json
 import re
-from typing import Any, Dict, List, Optional, Tuple, Union
+from typing import Any, Callable, Dict, List, Optional, Tuple, Union
 
 from . import Refused
 from .mapping import Mapping
@@ -25,8 +25,10 @@ class Twice(Exception):
         return f"an object has the member {json.dumps(self.args[0])} twice"
 
 
-def object_of(pairs: "List[Tuple[str, Any]]") -> Dict[str, Any]:
-    """An object, of which no member stands there twice."""
+def object_of(pairs: "List[Tuple[str, Any]]") -> Any:
+    """An object, of which no member stands there twice; a number or a date that MongoDB writes as an object."""
+    if len(pairs) == 1 and pairs[0][0] in EXTENDED:
+        return EXTENDED[pairs[0][0]](pairs[0][1])
     made = dict(pairs)
     if len(made) < len(pairs):
         names = [name for name, _ in pairs]
@@ -53,6 +55,9 @@ def decimal_of(text: str) -> "Union[float, bytes]":
     return (spelled if "." in spelled or "E" in spelled else f"{spelled}.0").encode()
 
 
+# MongoDB's Extended JSON, which mongoexport prints.
+EXTENDED: Dict[str, Callable[[Any], Any]] = {"$date": lambda said: said, "$oid": lambda said: said, "$numberInt": int, "$numberLong": int,
+                                             "$numberDouble": decimal_of}
 DECODER = json.JSONDecoder(object_pairs_hook=object_of, parse_float=decimal_of)
 
 

@@ -230,7 +230,7 @@ class Reader:
     def refuse_no_kind(self, told: Told) -> None:
         """Refuses an event without a type."""
         raise Refused(f"line {told.line}: this event has no type (invoke, ok, fail or info), and no times of a call and a return; "
-                      f"{_listed(list(told.fields))}")
+                      f"it says {', '.join(f'{shown(name)}: {short(field)}' for name, field in told.fields.items())}; {_listed(list(told.fields))}")
 
 
 def _listed(names: List[str]) -> str:

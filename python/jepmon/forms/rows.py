@@ -19,7 +19,7 @@ from .vocabulary import plain
 SPACE = re.compile(r"(?:[\s,]+|(?:#|//)[^\n]*)*")  # also comments
 COMMENT = re.compile(r"\n[ \t]*(?:#|//)")
 DATA = re.compile(r"-?[0-9]+([.:T ,-][0-9TZ:. ,-]*)?")  # a cell that is no name of a column
-COMMENTS = re.compile(r"(?:\s*#[ #!][^\n]*\n)+")  # before the first row
+COMMENTS = re.compile(r"(?:\s*#(?:[ #!]|TYPE )[^\n]*\n)+")  # before the first row
 BLANK, BRACKETS, HEADING = "blank", "brackets alone", "the heading"
 OF_A_ROW = {"f", "op", "process", "client", "clientid"}  # an object with a field of these is a row
 
@@ -157,6 +157,8 @@ def _rows(value: Any, line: int, place: Tuple[str, int, int], mapping: Mapping, 
     """The rows of a value at the top: one, or those of the lists in it that have the history."""
     if not isinstance(value, dict):
         raise Refused(f"line {line}: this is no object, so no event: {spelled(value)[:60]}")
+    if mapping.rows is None and "traceEvents" in value:
+        raise Refused(f"line {line}: these are Chrome's traceEvents, of which some tell of no operation: let those that do be rows")
     path = mapping.rows or (spans.PATH if spans.PATH.split("[")[0] in value else None)
     if path is not None:
         yield from (Row(line, spans.row(member)) for member in spans.members(line, value, path))
@@ -277,6 +279,8 @@ def _columns(line: int, cells: List[str]) -> List[str]:
     if not has_heading(cells):
         return [str(number + 1) for number in range(len(cells))]
     names = [cell.strip() for cell in cells]
+    if not names[0] and "index" not in map(plain, names):
+        names[0] = "index"  # the rows' numbers or names, as pandas and R write them
     twice = next((name for name in names if [plain(other) for other in names].count(plain(name)) > 1), None)
     if twice is not None:
         raise Refused(f"line {line}: two columns are called {twice!r}")

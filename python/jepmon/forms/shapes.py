@@ -192,7 +192,7 @@ def _last(name: str) -> str:
 
 def shown(name: str) -> str:
     """A field's name as a user writes it."""
-    return name.replace("\0", ".")
+    return name.replace("\0", ".") or "''"
 
 
 def allowed() -> str:

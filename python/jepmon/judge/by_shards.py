@@ -28,7 +28,7 @@ from ..shards.source import History
 from ..shards.splitting import judged_elsewhere
 from ..shards.tally import Tally
 from ..shrinking.part import as_asked, text_of
-from . import as_json, bad_keys, causes, doubts, large, large_key, least, readings, results, terminal, turned, wide
+from . import as_json, bad_keys, causes, doubts, large_key, least, readings, results, terminal, turned, wide
 from .hints import MOST_EVENTS, counted, is_legal_as
 from .judging import Task
 from .large import Large
@@ -55,14 +55,14 @@ class Asked(NamedTuple):
     account: Account
 
 
-def asked(given: Given, found: Large, is_told: bool = True) -> Asked:
+def asked(given: Given, found: Large) -> Asked:
     if found.made is None:
         return Asked(found.history, given.concurrency, None, Account())
     try:
         made = found.made.turned(in_shards=True)
     except Refused as refusal:
         raise Refused(f"{found.name}: {refusal}") from refusal
-    for note in [*found.made.notes, *notes_of(made)] if is_told else ():
+    for note in [*found.made.notes, *notes_of(made)]:
         say(note)
     return Asked(made.texts(), given.concurrency or made.concurrency, made, found.made.account)
 
@@ -167,20 +167,18 @@ def _test_readings(given: Given, found: Large, history: Asked, session: shards.S
     judged_so = readings.Judged(_recorded(found, history), choice, verdict.word, dead, session.options.concurrency,
                                 functools.partial(events_of, session, found, history))
     try:
-        readings.test(given, judged_so, lambda other: word_of(other, large.asked(found.source, other)))
+        readings.test(given, judged_so, functools.partial(_word_of, found, session.options._replace(model=choice.common or EACH)))
     except Refused as refusal:
         raise Refused(f"{found.name}: {refusal}") from refusal
 
 
-def word_of(given: Given, found: Large) -> str:
-    """The verdict of a history, read as these words say."""
-    history = asked(given, found, is_told=False)
-    try:
-        with opened(given, found, history) as session, open(os.path.join(session.tools.folder, "report.txt"), "wb") as file:
-            choice = chosen(session.tally, given.model, history.made)
-            return session.report(judged(given, session, session.options._replace(model=choice.common or EACH)), file).word
-    except shards.Refused as refused:
-        raise Refused(str(refused)) from refused
+def _word_of(found: Large, options: Options, given: Given) -> str:
+    """The verdict of the history, read as these words say."""
+    assert found.made is not None
+    made = door.translated(found.source, found.made.form, given.said).turned(in_shards=True)
+    options = options._replace(concurrency=made.concurrency, model=given.model or options.model)
+    with open(os.devnull, "wb") as nothing:
+        return shards.check(made.texts(), options, given.jobs, temporary=given.temporary, out=nothing).word
 
 
 def _recorded(found: Large, history: Asked) -> Recorded:

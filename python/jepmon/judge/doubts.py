@@ -13,7 +13,7 @@ from ..shrinking.registers import brought, wanted
 from .words import Given
 
 FEW = 3  # groups that are named
-MAY_BE_ALIKE = re.compile(r'"\s*(?:[+-]?[0-9][0-9.eEMN+-]*|true|false|True|False)\s*"|[+-]?[0-9].*|true|false|" .*"|".* "')
+MAY_BE_ALIKE = re.compile(r'"\s*(?:[+-]?[0-9][0-9.eEMN+-]*|true|false|True|False)\s*"|[+-]?[0-9].*|true|false|" .*"|".* "|"?[\[(].*')
 
 
 def account_for_types(keys: Mapping[int, str], values: Mapping[int, str], given: Given, account: Account) -> None:
