@@ -6,6 +6,7 @@ of which one check or shards are given what they take.
 from __future__ import annotations
 
 import array
+import contextlib
 import itertools
 import re
 from typing import Any, Dict, Iterable, Iterator, List, NamedTuple, Optional, Sequence, Set
@@ -15,6 +16,7 @@ from ..edn import Value
 from ..from_jepsen.asked import Asked
 from ..from_jepsen.events import History
 from ..from_jepsen.meant import EXACT, Meant, spelled
+from ..from_jepsen.order import Times
 from ..from_jepsen.refusal import NoKey
 from ..from_jepsen.source import Texts
 from ..from_jepsen.turn import Turned, collected, written
@@ -67,8 +69,8 @@ class Options(NamedTuple):
 
     def asked(self, order: Optional[str]) -> Asked:
         """The same of events in Jepsen's form, which are taken in this order."""
-        skew = 0 if self.mapping.skew is None else nanoseconds(self.mapping.skew)
-        return Asked(self.key, self.missing_is_judged, order, self.mapping.contradictions, 0 if order == LINES else skew, meant=self.meant)
+        skew = None if self.mapping.skew is None or order == LINES else nanoseconds(self.mapping.skew)
+        return Asked(self.key, self.missing_is_judged, order, self.mapping.contradictions, skew, meant=self.meant, ignored=self.mapping.ignored)
 
 
 def form_of(source: Source, options: Options) -> str:
@@ -149,6 +151,10 @@ class Translation:
         """The line of each event; 0 if it has none."""
         return array.array("Q", itertools.chain(itertools.repeat(0, begun), (row[6] if len(row) > 2 else 0 for _, row in self._rows(begun))))
 
+    def moments(self) -> "Iterator[tuple[str, int, int]]":
+        """The type, the process and the line of each event."""
+        return ((row[0], row[1], row[6]) for _, row in self._rows(0) if len(row) > 2)
+
     def _rows(self, begun: int) -> "Iterator[tuple[int, tuple[Any, ...]]]":
         return enumerate(itertools.chain.from_iterable(self.history.events.batches()), begun)
 
@@ -164,8 +170,6 @@ def translated(source: Source, form: str, options: Options) -> Translation:
         log = logs.Log(source)
         read = _collected(log, options, account, source)
         read.is_of_rows = True
-        if not log.has_times:
-            log.blocks.close(account)
         return Translation(form, read, account, options.missing_is_judged, (), log, options.first)
     made = _of_rows(source, form, options, account)
     return Translation(form, made.history, account, options.missing_is_judged or made.nil_is_absent, made.notes, None, options.first)
@@ -217,7 +221,7 @@ def rows_of(form: str, texts: Iterable[str], mapping: Mapping, account: Account)
 def _collected(texts: Texts, options: Options, account: Account, source: Source) -> History:
     """The events of EDN; those whose values have no keys are of the one object that they are then."""
     clients = Clients(source, options.mapping.clients)
-    asked = options.asked(options.mapping.order)
+    asked = options.asked(options.mapping.order)._replace(is_own=source is texts and own_front.is_own(source.front))
     if isinstance(source, Several):
         asked = asked._replace(clients=clients.named, parts=tuple(zip(source.bases, source.parts)) if texts is source else ())
     try:
@@ -273,5 +277,9 @@ def _fields(lines: List[str]) -> Dict[str, Any]:
         element = next(edn.Reader(text).elements(), None)
     except edn.Unreadable:
         return {}
-    fields = edn.fields_of(element.value) if element is not None else None
-    return {name: history.plain(fields[f":{name}"]) for name in FURTHER if f":{name}" in fields} if fields else {}
+    fields = (edn.fields_of(element.value) if element is not None else None) or {}
+    said = {name: history.plain(fields[f":{name}"]) for name in FURTHER if f":{name}" in fields}
+    if isinstance(said.get("time"), str):
+        with contextlib.suppress(Refused):
+            said["time"] = Times().of(0, fields[":time"])
+    return said

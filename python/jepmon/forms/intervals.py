@@ -110,6 +110,10 @@ class Operations:
         """Whether several clients may have done them."""
         return self._count > 1 and (len(self._clients) > 1 or None in self._clients)
 
+    def are_apart(self) -> bool:
+        """Whether their clients may have clocks that differ."""
+        return self._timeline.are_apart()
+
     def test(self, names: str) -> None:
         """Refuses operations of which none has returned, and one that is there twice, in each field, also in its times. A read that is
         there twice changes nothing."""

@@ -26,7 +26,7 @@ COMMAND = re.compile(r"\[:(?:(model) ([0-9]{1,5}) :([a-z-]+)|(budget) ([0-9]{1,5
 COMMAND_LINE = re.compile(rf"^{COMMAND.pattern}$", re.M)
 INDEX = re.compile(r",? :index ([0-9]{1,10})(?![0-9])")
 GAP, OF_COMMANDS, TAKEN_BACK = "blank or comment", "commands", "events that were taken back"  # lines without an event
-TIME = re.compile(r",? :time ([0-9]{1,19})(?![0-9])")
+TIME = re.compile(r",? :time (?:([0-9]{1,19})(?![0-9]))?")
 FAULTS = frozenset({"partition", "heal", "pause", "resume", "crash", "restart", "lose-replies"})  # jepmon's own
 
 NIL, NUMBER, PAIR, SET = "n", "0", "[", "#"  # the parts of events, by how they begin
@@ -159,8 +159,8 @@ def facts_of(events: List[str], numbers: List[int]) -> Optional[Facts]:
         elif ":time" in further:
             time = TIME.search(further)
             if time is not None:
-                if int(time.group(1)) < latest:
-                    return None  # its lines are not in the order of its events
+                if time.group(1) is None or int(time.group(1)) < latest:
+                    return None  # its lines may not be in the order of its events
                 latest = int(time.group(1))
         facts.lines.append(number)
         if process == ":nemesis":

@@ -64,6 +64,8 @@ class Plans:
     def _plan(self, shape: Shape) -> Tuple[Optional[Plan], bool]:
         """The plan for rows of a shape, if there is one; whether there may be one later, when the unit of times is known."""
         uses = shape.uses
+        if shape.key_parts and shape.key_parts != [used.name for used in uses.get("key", ())][:1]:
+            return None, False
         if not set(NEEDED) <= set(uses) <= {*NEEDED, *MAY_BE, "index"} or any(len(used) > 1 for used in uses.values()):
             return None, False
         names = [uses[meaning][0].name if meaning in uses else uses["client"][0].name for meaning in (*NEEDED, *MAY_BE)]

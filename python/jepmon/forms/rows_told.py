@@ -14,6 +14,7 @@ from .files import Source
 from .log_rows import OTHERS
 from .mapping import LINES, TIMES, Mapping
 from .meaning import MISSING, Reader, Told
+from .order import APART, BY_TIMES, ONE_CLOCK, SKEW
 from .pairs import Pairs
 from .row_events import Events, TimesGoBack, is_nemesis
 from .rows import Row
@@ -41,7 +42,7 @@ def written(rows: Rows, account: Account, asked: Asked = Asked()) -> Written:
         part = Account()
         if asked.mapping.order is None:
             part.guess(ORDER, f"times go back, first in line {back.line}: the events are taken in the order of their times, which have to be of one "
-                       "clock", "--order times")
+                       "clock", BY_TIMES)
         made = _Turning(rows, part, asked).by_times(back.line)
     account.add(part)
     return made
@@ -104,7 +105,7 @@ class _Turning:
             notes.append(f"each clock may be wrong by {skew}: {operations.lost(error)} orders of two operations of a key are not certain, and "
                          "what is illegal by these alone is not seen")
         elif operations.are_of_several():
-            self._account.guess(ORDER, "the times of all clients are of one clock, or of clocks that agree", "--skew 0ms")
+            self._account.guess(ORDER, APART if operations.are_apart() else ONE_CLOCK, SKEW)
         operations.write(faults, error, self._reader.clock.coarsest())
         return self._writer.written(notes, self._is_etcd)
 

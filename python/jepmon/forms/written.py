@@ -6,10 +6,10 @@ import json
 import json.encoder
 from typing import Any, Callable, Counter, List, NamedTuple, Optional, Tuple
 
-from ..edn import Many, Value, canonical
+from ..edn import Many, Value, canonical, shown
 from ..from_jepsen.asked import Pair
 from ..from_jepsen.collect import Collector
-from ..from_jepsen.events import History
+from ..from_jepsen.events import History, is_pair
 from . import Refused, others
 from .clock import Time
 
@@ -33,6 +33,8 @@ class Writer:
         self.counts: Counter[str] = collections.Counter()  # of what is to be told
 
     def event(self, line: int, kind: str, process: int, name: str, value: Pair, time: Optional[Time] = None, error: Optional[str] = None) -> None:
+        if name == "cas" and kind == "invoke" and value[0] is not None and not is_pair(value[1]):
+            raise Refused(f"line {line}: the value of this cas is {shown(value[1], 60)}, and no pair of the old and the new value")
         if name in others.OTHERS:
             raise Refused(others.reason(line, name))
         self.collector.take_told(line, f":{kind}", process, f":{name}", value, beside(time, error))
@@ -53,6 +55,8 @@ def beside(time: Optional[Time], error: Optional[str]) -> Optional[Tuple[Optiona
 
 def element(value: Any) -> str:
     """A value of JSON as an element of EDN."""
+    if isinstance(value, bytes):
+        return value.decode()
     if value is None or isinstance(value, (bool, int, float, str)):
         return "nil" if value is None else json.dumps(value, ensure_ascii=False)
     if isinstance(value, list):
@@ -75,6 +79,8 @@ def edn_of(value: Any) -> Value:
         return "nil"
     if isinstance(value, list):
         return Many("[", tuple(map(edn_of, value)))
+    if isinstance(value, bytes):
+        return value.decode()
     if isinstance(value, dict):
         return canonical(Many("{", tuple(edn_of(one) for pair in value.items() for one in pair)))
     return json.dumps(value)

@@ -29,7 +29,7 @@ from ..shards.source import History
 from ..shards.splitting import judged_elsewhere
 from ..shards.tally import Tally
 from ..shrinking.part import as_asked, text_of
-from . import as_json, bad_keys, causes, doubts, large_key, least, rates, results, terminal, ties, turned, wide
+from . import as_json, bad_keys, causes, doubts, large_key, least, rates, readings, results, terminal, turned, wide
 from .hints import MOST_EVENTS, counted, is_legal_as
 from .judging import Task
 from .large import Large
@@ -140,12 +140,7 @@ def _judge(given: Given, found: Large, history: Asked, session: shards.Session, 
         history.account.test_strict()
     say(judged_by(found, history, task))
     path, verdict, decided = anew(given, session, path, verdict)
-    if found.made is not None:
-        is_legal = functools.partial(ties.is_legal_in_shards, found.source, found.made.form, options, given)
-        try:
-            ties.test(verdict.word, history.account, is_legal)
-        except Refused as refusal:
-            raise Refused(f"{found.name}: {refusal}") from refusal
+    _test_readings(given, found, history, session, path, choice, verdict)
     report = report_of(path, verdict)
     task = task._replace(choice=of_bad_key(choice, report), wide_seconds=given.wide_seconds if decided else None, least=given.least)
     tally = session.tally
@@ -162,7 +157,6 @@ def _judge(given: Given, found: Large, history: Asked, session: shards.Session, 
         raise Refused(f"{found.name}: {few}")
     copies = {results.HISTORY: session.file.path, results.REPORT: path} if folder is not None else {}
     done = results.Results(found.name, recorded, task, report, keys, terminal.told(recorded, keys), copies)
-    beside += doubts.told(recorded, keys, given)
     results.write(page, folder, done)
     if page is not None or folder is not None:
         not_alive = {line.key: line for line in map(wide.key_line, lines_of(path)) if line is not None and line.index is not None}
@@ -172,6 +166,26 @@ def _judge(given: Given, found: Large, history: Asked, session: shards.Session, 
         counted_up = as_json.Counted(session.tally.events, verdict.keys, None, form_of(found), session.tally.outcomes(), of_report)
         as_json.write(as_json.of_results(done, found.source, counted_up, beside, given))
     return verdict.status
+
+
+def _test_readings(given: Given, found: Large, history: Asked, session: shards.Session, path: str, choice: Choice, verdict: Verdict) -> None:
+    """Refuses a verdict that rests on a guess."""
+    dead = [line for line in map(wide.key_line, lines_of(path)) if line is not None and line.status in bad_keys.DEAD]
+    judged_so = readings.Judged(_recorded(found, history, False), choice, verdict.word, dead, session.options.concurrency,
+                                functools.partial(events_of, session, found, history))
+    try:
+        readings.test(given, judged_so, functools.partial(_word_of, found, session.options._replace(model=choice.common or EACH)))
+    except Refused as refusal:
+        raise Refused(f"{found.name}: {refusal}") from refusal
+
+
+def _word_of(found: Large, options: Options, given: Given) -> str:
+    """The verdict of the history, read as these words say."""
+    assert found.made is not None
+    made = door.translated(found.source, found.made.form, given.said).turned(in_shards=True)
+    options = options._replace(concurrency=made.concurrency, model=given.model or options.model)
+    with open(os.devnull, "wb") as nothing:
+        return shards.check(made.texts(), options, given.jobs, temporary=given.temporary, out=nothing).word
 
 
 def _recorded(found: Large, history: Asked, with_faults: bool) -> Recorded:

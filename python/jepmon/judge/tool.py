@@ -16,9 +16,9 @@ from ..errors import OutputError, ProgramError
 from ..forms import Beyond, Refused, door, files
 from ..forms.door import Translation
 from ..forms.recorded import Recorded, of_own, of_translation
-from ..program import CURE, Options, find_program
-from . import as_json, bad_keys, by_shards, doubts, events, hints, large, least, models, rates, results, terminal, ties, wide, words
-from .judging import Task, judged
+from ..program import CURE, find_program
+from . import as_json, bad_keys, by_shards, events, hints, large, least, models, rates, readings, results, tasks, terminal, wide, words
+from .judging import judged
 from .outputs import Folder, Page
 from .words import NAME, Given
 
@@ -138,7 +138,7 @@ def _judge_whole(source: files.Source, found: Recorded, given: Given, page: Opti
     if len(found.text) > LARGE:
         say(f"{source.name}: {len(found.text):,} characters, which take some time to read")
     with named(source):
-        task = _task(found, given)
+        task = tasks.of(found, given)
     for line in hints.found(source, found, task):
         say(line)
     if given.strict_input:
@@ -148,7 +148,8 @@ def _judge_whole(source: files.Source, found: Recorded, given: Given, page: Opti
     report, decided = wide.anew(report, task.options, functools.partial(events.of_keys, found), given.wide_seconds)
     task = task._replace(wide_seconds=given.wide_seconds if decided else None, least=given.least)
     with named(source):
-        ties.test(report.word, found.account, functools.partial(ties.is_legal_in_one, source, task, given.said))
+        readings.test(given, readings.Judged(found, task.choice, report.word, report.keys, task.options.concurrency, functools.partial(events.of_keys, found)),
+                      functools.partial(tasks.word_of, source))
     beside = list(hints.after(found, task, report, source, given.said, given.cause))
     few = least.reason(given, report.word, least.telling(found.facts.outcomes, models.answered(found.facts)))
     if not given.json and not few:
@@ -160,7 +161,6 @@ def _judge_whole(source: files.Source, found: Recorded, given: Given, page: Opti
     of_report = bad_keys.found(report.keys)
     keys = bad_keys.shown(found, task, report, of_report.bad, functools.partial(events.with_fields, found), given.cause, decided)
     done = results.Results(source.name, found, task, report, keys, terminal.told(found, keys))
-    beside += doubts.told(found, keys, given)
     results.write(page, folder, done)
     rates.write(given, folder, rates.of_one(source.name, found, task, report))
     if given.json:
@@ -169,15 +169,3 @@ def _judge_whole(source: files.Source, found: Recorded, given: Given, page: Opti
                                   of_report)
         as_json.write(as_json.of_results(done, source, counted, [*source.notes, *found.notes, *beside], given))
     return report.status
-
-
-def _task(found: Recorded, given: Given) -> Task:
-    """How the history is to be judged."""
-    choice = models.chosen(found.facts, given.model, found.stated, found.possible)
-    models.account_for(choice, found.account)
-    doubts.account_for_types(found.key_names, found.value_names, given, found.account)
-    concurrency = given.concurrency or models.concurrency_of(found.facts)
-    if concurrency is None:
-        raise Refused("its processes fit no concurrency from 1 to 64")
-    options = Options(concurrency, choice.common or "register", given.budget, given.workers)
-    return Task(found.text, choice, dict(found.budgets), options)
