@@ -330,7 +330,8 @@ class Collector:
         return part
 
     def answered(self, line: int, name: str, part: Value) -> str:
-        """The type of what is answered. A dequeue that answers nil took nothing, nor does one that answers false, if nobody has put that in."""
+        """Finds the type of an :ok by its answer. A dequeue that answers nil took nothing, nor does one that answers false, unless false was
+        put in."""
         if name != ":dequeue" or part not in EMPTY:
             return ":ok"
         if part == "false":
