@@ -1,4 +1,4 @@
-"""Values as JSON has them: what a cell of CSV or of a log says, and decimals as they are spelled.
+"""Values as JSON has them: cells of CSV and of logs, and decimals as they are spelled.
 
 A decimal is a float if a double holds it. Any other one keeps its spelling, as bytes, which no other value is: so decimals that differ stay
 different.
@@ -26,7 +26,7 @@ class Twice(Exception):
 
 
 def object_of(pairs: "List[Tuple[str, Any]]") -> Any:
-    """An object, of which no member stands there twice; a number or a date that MongoDB writes as an object."""
+    """Makes an object of its members, or what MongoDB writes as one: a number or a date. Raises Twice if a member stands there twice."""
     if len(pairs) == 1 and pairs[0][0] in EXTENDED:
         return EXTENDED[pairs[0][0]](pairs[0][1])
     made = dict(pairs)
@@ -37,7 +37,7 @@ def object_of(pairs: "List[Tuple[str, Any]]") -> Any:
 
 
 def decimal_of(text: str) -> "Union[float, bytes]":
-    """A number that is no integer."""
+    """Reads a decimal."""
     made = float(text)
     if len(text) < HELD and "e" not in text and "E" not in text or repr(made) == text:
         return made
@@ -62,8 +62,8 @@ DECODER = json.JSONDecoder(object_pairs_hook=object_of, parse_float=decimal_of)
 
 
 def cell_value(line: int, cell: str, mapping: Mapping) -> Any:
-    """What a cell says: a number, a flag, a text in quotes, a list or an object, as JSON has them; else its text. Blanks within quotes belong
-    to a text."""
+    """Reads a cell: a number, a flag, a text in quotes, a list or an object, as JSON has them; else a text. Blanks within quotes belong to a
+    text."""
     if cell.isdigit() and cell.isascii() and (cell[0] != "0" or cell == "0") and len(cell) < LONGEST:
         return int(cell)
     stripped = cell.strip()
@@ -81,16 +81,16 @@ def cell_value(line: int, cell: str, mapping: Mapping) -> Any:
 
 
 def quoted_value(line: int, text: str, mapping: Mapping) -> Any:
-    """What a text in quotes says, as of logfmt: a list, an object or a text of JSON if it is one; else itself."""
+    """Reads a text in quotes, as of logfmt: a list, an object or a text of JSON if it is one; else itself."""
     return cell_value(line, text, mapping) if text.lstrip()[:1] in ("[", "{", '"') and text.strip() else text
 
 
 def _words(line: int, text: str, mapping: Mapping) -> Optional[List[Any]]:
-    """A list as [1 2]; None if it is none."""
+    """Reads a list as Go prints it, [1 2]; None if the text is another one."""
     found = WORDS.fullmatch(text)
     return None if found is None else [cell_value(line, word, mapping) for word in found[1].split(" ")]
 
 
 def spelled(value: Any) -> str:
-    """The value as JSON, for a message."""
+    """Spells the value as JSON, for a message."""
     return json.dumps(value, ensure_ascii=False, default=lambda other: other.decode() if isinstance(other, bytes) else str(other))

@@ -176,7 +176,7 @@ class Shapes:
         return [f"{shown(name)} ({counts[name]})" for name in counts]
 
     def _guessed(self, doubtful: List[str]) -> str:
-        """What the first of these fields may be that tells runs or objects apart."""
+        """Guesses what the first of these fields is that may tell runs or objects apart."""
         key = next((shown(shape.uses["key"][0].name) for shape in self._shapes.values() if "key" in shape.uses), None)
         for name in doubtful:
             if _last(name) in RUNS:

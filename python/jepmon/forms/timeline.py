@@ -15,7 +15,7 @@ from ..kinds import THREADS
 from ..sorted_rows import SortedRows
 
 Time = Union[int, float]
-FAR = 4  # times as long as clients worked are clocks apart that may differ
+FAR, FAR_ALONE = 4, 100  # times as long as clients worked are clocks apart that may differ; if each client did one operation
 
 
 class Moment(NamedTuple):
@@ -57,7 +57,7 @@ class Timeline:
                 groups.append([first, last])
         longest = max((last - first for first, last in groups), default=0)
         gaps = (after[0] - before[1] for before, after in zip(groups, groups[1:]))
-        return self._count > len(groups) > 1 and min(gaps) > FAR * longest
+        return len(groups) > 1 and min(gaps) > (FAR if self._count > len(groups) else FAR_ALONE) * max(longest, 1)
 
     def begun(self) -> Iterator[Tuple[Time, Any]]:
         """When each operation was called, and what is given of that, in the order of the calls."""

@@ -1,6 +1,7 @@
 """The fields of an event of EDN, each of which stands there once; and those that may tell runs or objects apart.
 
-An event in Jepsen's form has no place for the latter: they are refused if they vary, unless the user says that they are nothing.
+An event in Jepsen's form has no place for a run or for a part of its key. Such a field is refused if it varies, unless the user says that
+it is nothing.
 """
 from __future__ import annotations
 
@@ -15,7 +16,7 @@ Fields = Dict[str, Value]
 
 
 def fields_of(element: edn.Element) -> Fields:
-    """The fields of an event."""
+    """Reads the fields of an event."""
     fields = edn.fields_of(element.value)
     if fields is None or isinstance(element.value, str):
         refuse(element.line, f"this is no map, so no event: {shown(element.value, 60)} (is this Jepsen's history.edn?)")

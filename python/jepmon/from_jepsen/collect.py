@@ -197,7 +197,8 @@ class Collector:
     def take(self, element: edn.Element, count: int) -> None:
         fields = fields_of(element)
         stated, kind = integer(fields.get(":index")), fields.get(":type")
-        index = stated if stated is not None and stated in NATURAL else count
+        stated = stated if stated in NATURAL else None
+        index = count if stated is None else stated
         process = self.clients.number_of(self.named(fields.get(":process"), element.line), kind == ":invoke")
         if process is not None and not (kind == ":info" and process in self.clients.names and process not in self.open):
             self.apart.take(element.line, fields)
@@ -313,7 +314,8 @@ class Collector:
         return part
 
     def answered(self, line: int, name: str, part: Value) -> str:
-        """The type of what is answered. A dequeue that answers nil took nothing, nor does one that answers false, if nobody has put that in."""
+        """Finds the type of an :ok by its answer. A dequeue that answers nil took nothing, nor does one that answers false, unless false was
+        put in."""
         if name != ":dequeue" or part not in EMPTY:
             return ":ok"
         if part == "false":
