@@ -12,7 +12,7 @@ import time
 from typing import TYPE_CHECKING, Callable, Dict, List, Optional, Sequence, Tuple
 
 from .errors import Died, ServerError
-from .family import MARK, adopt, continue_family, kill_family, kill_strays, stop_family
+from .family import MARK, adopt, bury, continue_family, kill_family, kill_strays, stop_family
 
 if TYPE_CHECKING:
     from .guard import Guard
@@ -89,8 +89,9 @@ class Node:
         with self._lock:
             if self._process is not None:
                 had_ended = self._process.poll() is not None
-                kill_family(self._process.pid)
+                _, *orphans = kill_family(self._process.pid)
                 self._process.wait()
+                bury(orphans)
                 if had_ended:
                     kill_strays(self._mark)
                 self._guard.leave(self._process.pid)
