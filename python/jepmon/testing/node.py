@@ -24,6 +24,7 @@ GLANCE = 0.1  # seconds between two looks
 LAST_LINES = 3  # of a log, in an error
 TELLING = ("no space left on device", "disk quota exceeded", "read-only file system", "unable to write", "address already in use",
            "permission denied", "cannot allocate memory", "out of memory", "too many open files")  # in a log, of what can't be done
+AGAIN = "--- started again\n"  # in a log
 ELSEWHERE = 2.0  # seconds, after which a server that listens at another address will not come to listen at its own
 
 
@@ -74,6 +75,8 @@ class Node:
     def start(self) -> None:
         """Starts it; it may take some time until it answers."""
         with self._lock, open(self.log, "ab") as log, self.inside():
+            log.write(AGAIN.encode() if self.starts else b"")
+            log.flush()
             try:
                 process = subprocess.Popen(
                     as_user(self.user, self.words), stdin=subprocess.DEVNULL, stdout=log, stderr=subprocess.STDOUT, start_new_session=True,

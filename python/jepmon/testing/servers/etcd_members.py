@@ -1,4 +1,8 @@
-"""The strike `shrink` of etcd: a member is removed from the group, with its data, and joins it again as a new one."""
+"""The strike `shrink` of etcd: a member is removed from the group, with its data, and joins it again as a new one.
+
+A change of the group is asked for until it is certain. Who answers may not know yet what the others have agreed on, so that a member is
+removed by the number that the group gave it, and one that joins is told the members that the answer to its own joining lists.
+"""
 from __future__ import annotations
 
 import contextlib
@@ -14,62 +18,74 @@ if TYPE_CHECKING:
     from ..node import Node
     from .etcd import Etcd
 
-TIMEOUT, TRIES, PAUSE, LAST = 2.0, 3, 0.2, 5.0  # seconds of a call, calls to remove a member, seconds between two, and at the end
+TIMEOUT, PAUSE, LAST = 2.0, 0.2, 5.0  # seconds of a call, between two, and at the end
+GONE, THERE = "member not found", "Peer URLs already exists"  # what etcd says of a change that has taken place before
 Ask = Callable[..., Any]  # of the JSON gateway: its path, and what is asked
 
 
 @contextlib.contextmanager
 def shrunk(cluster: Cluster, node: Node, values: Values) -> Iterator[None]:
-    """The node is down first, since one that is removed ends by itself. If the others can't agree, it stays a member, and is only down. One
-    at a time: two that wait for each other to come back would wait forever."""
+    """The node is down first, since one that is removed ends by itself. If the others can't agree now, it is removed at the end. One at a
+    time: two that wait for each other to come back would wait forever."""
     server: Any = cluster.server
     etcd: Etcd = server
     cluster.kill(node)
     try:
-        for _ in range(TRIES):
-            with contextlib.suppress(OSError, KeyError):
-                remove(etcd, node)
-                break
+        with contextlib.suppress(OSError, KeyError):
+            remove(etcd, node)
         yield
     finally:
-        if not joined(etcd, node, cluster):
-            shutil.rmtree(node.folder / "data", ignore_errors=True)
-            join(etcd, node, cluster)
+        until(lambda: remove(etcd, node), cluster)
+        shutil.rmtree(node.folder / "data", ignore_errors=True)
+        until(lambda: join(etcd, node), cluster)
         cluster.restart(node)
 
 
-def members(etcd: Etcd, node: Node) -> Dict[str, str]:
-    """The numbers of the members, by the links where others reach them, as one of the other nodes knows them."""
-    found = asked(etcd, node, "cluster/member/list")["members"]
-    return {one["peerURLs"][0]: one["ID"] for one in found}
-
-
 def remove(etcd: Etcd, node: Node) -> None:
-    number = members(etcd, node).get(etcd.peer(node))
-    if number is not None:
-        asked(etcd, node, "cluster/member/remove", ID=number)
+    """Raises where it is not certain that it is no member any more."""
+    if node.name not in etcd.numbers:
+        etcd.numbers[node.name] = number_of(etcd, node, members(etcd, node))
+    try:
+        asked(etcd, node, "cluster/member/remove", ID=etcd.numbers[node.name])
+    except OSError as fault:
+        if GONE not in str(fault):
+            raise
 
 
-def joined(etcd: Etcd, node: Node, cluster: Cluster) -> bool:
-    """Whether it is a member, once another one can say so."""
-    return bool(until(lambda: [etcd.peer(node) in members(etcd, node)], cluster)[0])
+def join(etcd: Etcd, node: Node) -> None:
+    """Raises where it is not certain that it is a member, by a new number, or where nobody that knows so has said who the members are."""
+    try:
+        found = asked(etcd, node, "cluster/member/add", peerURLs=[etcd.peer(node)])["members"]
+    except OSError as fault:
+        if THERE not in str(fault):
+            raise
+        found = members(etcd, node)
+    number = number_of(etcd, node, found)
+    if number == etcd.numbers[node.name]:
+        raise ConnectionError("who answered does not know yet that the member was removed")
+    etcd.numbers[node.name] = number
+    etcd.existing[node.name] = [one["peerURLs"][0] for one in found]
 
 
-def join(etcd: Etcd, node: Node, cluster: Cluster) -> None:
-    def add() -> List[str]:
-        if etcd.peer(node) not in members(etcd, node):
-            asked(etcd, node, "cluster/member/add", peerURLs=[etcd.peer(node)])
-        return list(members(etcd, node))
-
-    etcd.existing[node.name] = until(add, cluster)
+def members(etcd: Etcd, node: Node) -> List[Dict[str, Any]]:
+    """As one of the other nodes knows them."""
+    found: List[Dict[str, Any]] = asked(etcd, node, "cluster/member/list")["members"]
+    return found
 
 
-def until(what: Callable[[], List[Any]], cluster: Cluster) -> List[Any]:
+def number_of(etcd: Etcd, node: Node, found: List[Dict[str, Any]]) -> str:
+    """Raises a KeyError where it is none of these members."""
+    numbers: Dict[str, str] = {one["peerURLs"][0]: one["ID"] for one in found}
+    return numbers[etcd.peer(node)]
+
+
+def until(what: Callable[[], object], cluster: Cluster) -> None:
     """Tries until the others answer: other strikes may hold them, which end before the run does. Where the test is over, a little longer."""
     end, is_over = time.monotonic() + cluster.server.patience, False
     while True:
         try:
-            return what()
+            what()
+            return
         except (OSError, KeyError) as fault:
             if time.monotonic() > end:
                 raise ServerError(f"a member of etcd could not join the group again: {fault}") from fault
@@ -89,6 +105,8 @@ def asked(etcd: Etcd, node: Node, path: str, **body: Any) -> Any:
                     return etcd.ask(other, path, TIMEOUT, **body)
                 except OSError as found:
                     fault = found
+                    if any(said in str(found) for said in (GONE, THERE)):
+                        break
     raise fault
 
 
