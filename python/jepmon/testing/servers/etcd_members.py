@@ -19,7 +19,7 @@ if TYPE_CHECKING:
     from .etcd import Etcd
 
 TIMEOUT, PAUSE, LAST = 2.0, 0.2, 5.0  # seconds of a call, between two, and at the end
-GONE, THERE = "member not found", "Peer URLs already exists"  # what etcd says of a change that has taken place before
+GONE = "member not found"  # what etcd says where a member was removed before
 Ask = Callable[..., Any]  # of the JSON gateway: its path, and what is asked
 
 
@@ -44,7 +44,7 @@ def shrunk(cluster: Cluster, node: Node, values: Values) -> Iterator[None]:
 def remove(etcd: Etcd, node: Node) -> None:
     """Raises where it is not certain that it is no member any more."""
     if node.name not in etcd.numbers:
-        etcd.numbers[node.name] = number_of(etcd, node, members(etcd, node))
+        etcd.numbers[node.name] = numbers(members(etcd, node))[etcd.peer(node)]
     try:
         asked(etcd, node, "cluster/member/remove", ID=etcd.numbers[node.name])
     except OSError as fault:
@@ -53,18 +53,12 @@ def remove(etcd: Etcd, node: Node) -> None:
 
 
 def join(etcd: Etcd, node: Node) -> None:
-    """Raises where it is not certain that it is a member, by a new number, or where nobody that knows so has said who the members are."""
-    try:
+    """Raises where it is not certain that it is a member, by a new number. One that was asked for before may have become one since."""
+    found = members(etcd, node)
+    if numbers(found).get(etcd.peer(node)) in (None, etcd.numbers[node.name]):
         found = asked(etcd, node, "cluster/member/add", peerURLs=[etcd.peer(node)])["members"]
-    except OSError as fault:
-        if THERE not in str(fault):
-            raise
-        found = members(etcd, node)
-    number = number_of(etcd, node, found)
-    if number == etcd.numbers[node.name]:
-        raise ConnectionError("who answered does not know yet that the member was removed")
-    etcd.numbers[node.name] = number
-    etcd.existing[node.name] = [one["peerURLs"][0] for one in found]
+    etcd.numbers[node.name] = numbers(found)[etcd.peer(node)]
+    etcd.existing[node.name] = list(numbers(found))
 
 
 def members(etcd: Etcd, node: Node) -> List[Dict[str, Any]]:
@@ -73,10 +67,9 @@ def members(etcd: Etcd, node: Node) -> List[Dict[str, Any]]:
     return found
 
 
-def number_of(etcd: Etcd, node: Node, found: List[Dict[str, Any]]) -> str:
-    """Raises a KeyError where it is none of these members."""
-    numbers: Dict[str, str] = {one["peerURLs"][0]: one["ID"] for one in found}
-    return numbers[etcd.peer(node)]
+def numbers(found: List[Dict[str, Any]]) -> Dict[str, str]:
+    """Of members, by the links where others reach them."""
+    return {one["peerURLs"][0]: one["ID"] for one in found}
 
 
 def until(what: Callable[[], object], cluster: Cluster) -> None:
@@ -105,7 +98,7 @@ def asked(etcd: Etcd, node: Node, path: str, **body: Any) -> Any:
                     return etcd.ask(other, path, TIMEOUT, **body)
                 except OSError as found:
                     fault = found
-                    if any(said in str(found) for said in (GONE, THERE)):
+                    if GONE in str(found):
                         break
     raise fault
 
