@@ -10,7 +10,7 @@ import contextlib
 import http.client
 import json
 import uuid
-from typing import Any, Dict, List, Optional, Sequence, Type, Union
+from typing import Any, Dict, List, Optional, Sequence, Set, Type, Union
 
 from ...endings import Exceptions
 from ..node import At, Node
@@ -155,10 +155,12 @@ class Etcd(Server):
         super().__init__(*words)
         self.existing: Dict[str, List[str]] = {}  # of a node that has joined the group again: where its members are reached
         self.numbers: Dict[str, str] = {}  # of nodes, that the group has given them
+        self.removed: Set[str] = set()  # numbers of members that are none any more
 
     def command(self, node: Node) -> List[str]:
-        known = self.existing.get(node.name, [self.peer(other) for other in self.nodes])
-        members = ",".join(f"{other.name}={self.peer(other)}" for other in self.nodes if self.peer(other) in known)
+        peers = {other.name: self.peer(other) for other in [*self.nodes, node]}  # a node more than these may join
+        known = self.existing.get(node.name, list(peers.values()))
+        members = ",".join(f"{name}={peer}" for name, peer in peers.items() if peer in known)
         joins = ["sh", "-c", JOIN] if node.name in self.existing else []
         return [*joins, "etcd", "--name", node.name, "--data-dir", str(node.folder / "data"), "--initial-cluster", members,
                 "--listen-client-urls", url(node, node.ports["client"]), "--advertise-client-urls", url(node, node.port),

@@ -1,4 +1,5 @@
-"""The strike `shrink` of etcd: a member is removed from the group, with its data, and joins it again as a new one.
+"""Strikes on who is a member of etcd's group. `shrink`: a member is removed, with its data, and joins again as a new one. `grow`: one more
+joins, and is removed again.
 
 A change of the group is asked for until it is certain. Who answers may not know yet what the others have agreed on, so that a member is
 removed by the number that the group gave it, and one that joins is told the members that the answer to its own joining lists.
@@ -11,7 +12,7 @@ import time
 from typing import TYPE_CHECKING, Any, Callable, Dict, Iterator, List
 
 from ..errors import ServerError
-from ..strikes.kind import PROCESS, Strike, Values
+from ..strikes.kind import NEEDS_SPARE, OTHER, PROCESS, Strike, Values
 
 if TYPE_CHECKING:
     from ..cluster import Cluster
@@ -25,8 +26,8 @@ Ask = Callable[..., Any]  # of the JSON gateway: its path, and what is asked
 
 @contextlib.contextmanager
 def shrunk(cluster: Cluster, node: Node, values: Values) -> Iterator[None]:
-    """The node is down first, since one that is removed ends by itself. If the others can't agree now, it is removed at the end. One at a
-    time: two that wait for each other to come back would wait forever."""
+    """If the others can't agree now, the node is down, and removed at the end. One at a time: two that wait for each other to come back would
+    wait forever."""
     server: Any = cluster.server
     etcd: Etcd = server
     cluster.kill(node)
@@ -35,27 +36,52 @@ def shrunk(cluster: Cluster, node: Node, values: Values) -> Iterator[None]:
             remove(etcd, node)
         yield
     finally:
-        until(lambda: remove(etcd, node), cluster)
-        shutil.rmtree(node.folder / "data", ignore_errors=True)
+        leave(etcd, node, cluster)
         until(lambda: join(etcd, node), cluster)
         cluster.restart(node)
+
+
+@contextlib.contextmanager
+def grown(cluster: Cluster, node: Node, values: Values) -> Iterator[None]:
+    """If the others can't agree now, none joins. What was asked for may be agreed on later, so that it joins all the same before it is
+    removed."""
+    server: Any = cluster.server
+    etcd: Etcd = server
+    (spare,) = cluster.spares
+    try:
+        with contextlib.suppress(OSError, KeyError):
+            join(etcd, spare)
+            cluster.restart(spare)
+        yield
+    finally:
+        cluster.kill(spare)
+        until(lambda: join(etcd, spare), cluster)
+        leave(etcd, spare, cluster)
+
+
+def leave(etcd: Etcd, node: Node, cluster: Cluster) -> None:
+    """It is down, since one that is removed ends by itself."""
+    until(lambda: remove(etcd, node), cluster)
+    shutil.rmtree(node.folder / "data", ignore_errors=True)
 
 
 def remove(etcd: Etcd, node: Node) -> None:
     """Raises where it is not certain that it is no member any more."""
     if node.name not in etcd.numbers:
         etcd.numbers[node.name] = numbers(members(etcd, node))[etcd.peer(node)]
+    number = etcd.numbers[node.name]
     try:
-        asked(etcd, node, "cluster/member/remove", ID=etcd.numbers[node.name])
+        asked(etcd, node, "cluster/member/remove", ID=number)
     except OSError as fault:
         if GONE not in str(fault):
             raise
+    etcd.removed.add(number)
 
 
 def join(etcd: Etcd, node: Node) -> None:
     """Raises where it is not certain that it is a member, by a new number. One that was asked for before may have become one since."""
     found = members(etcd, node)
-    if numbers(found).get(etcd.peer(node)) in (None, etcd.numbers[node.name]):
+    if numbers(found).get(etcd.peer(node)) in {None, *etcd.removed}:
         found = asked(etcd, node, "cluster/member/add", peerURLs=[etcd.peer(node)])["members"]
     etcd.numbers[node.name] = numbers(found)[etcd.peer(node)]
     etcd.existing[node.name] = list(numbers(found))
@@ -103,5 +129,9 @@ def asked(etcd: Etcd, node: Node, path: str, **body: Any) -> Any:
     raise fault
 
 
-TEXT = "{node} is removed from the group if the others agree, and joins it again as a new member"
-STRIKES = {"shrink": Strike(TEXT, shrunk, PROCESS, nodes=3, is_single=True)}
+STRIKES = {
+    "shrink": Strike("{node} is removed from the group if the others agree, and joins it again as a new member", shrunk, PROCESS, nodes=3,
+                     is_single=True),
+    "grow": Strike("one more member joins the group if the others agree, and is removed again", grown, OTHER, is_single=True,
+                   needs=frozenset([NEEDS_SPARE])),
+}
