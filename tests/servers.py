@@ -19,7 +19,7 @@ from typing import List, NamedTuple, Optional, Tuple, Type
 TOP = pathlib.Path(__file__).resolve().parent.parent
 sys.path.insert(0, str(TOP / "python"))
 
-from jepmon.testing import Server, ServerError, clocks, disks  # noqa: E402
+from jepmon.testing import Server, ServerError, clocks, disks, places  # noqa: E402
 from jepmon.testing.words import SERVERS  # noqa: E402
 from program import PROGRAM  # noqa: E402
 
@@ -31,12 +31,13 @@ PATIENCE = 1800.0  # seconds, on a busy machine
 COUNTED = [("rabbitmq", "early")]
 # beanstalkd syncs by its wall clock: once that was set back, it acknowledges what it has not synced, and a loss of power loses it.
 CLOCKED = {"beanstalkd": "kill,pause,cut,slow,bump,strobe"}
+CLUSTERS = {"rabbitmq": "3"}  # servers that are one node, unless more are asked for
 AT_ONCE = 2  # tests; each of them mostly waits
 
 
 class Test(NamedTuple):
     server: str
-    what: str  # an object, a planted fault, a durability, `clocks`, `own` strikes or `proxy`
+    what: str  # an object, a planted fault, a durability, `clocks`, `own` strikes, a `cluster` or `proxy`
     words: List[str]
     statuses: Tuple[int, ...]
 
@@ -53,6 +54,8 @@ def tests(server: str) -> List[Test]:
     found += [Test(server, "proxy", ["--network", "proxy", "--time", str(SECONDS)], GOOD)]
     if "bump" not in kind.cannot and not clocks.why_not():
         found += [Test(server, "clocks", ["--nemesis", CLOCKED.get(server, "all,bump,strobe"), "--time", str(SECONDS)], GOOD)]
+    if server in CLUSTERS and not places.why_not():
+        found += [Test(server, "cluster", ["--nodes", CLUSTERS[server], "--network", "namespaces", "--time", str(SECONDS)], GOOD)]
     if kind.strikes:
         found += [Test(server, "own", ["--nemesis", ",".join(kind.strikes), "--time", str(SECONDS)], GOOD)]
     if not disks.why_not():

@@ -141,7 +141,7 @@ class RabbitMQ(Server):
     def prepare(self, node: Node) -> None:
         is_cluster = len(self.nodes) > 1
         if is_cluster and node.place is None:
-            raise ServerError(f"--nodes {len(self.nodes)}: RabbitMQ takes --network namespaces for a cluster, and strikes on links or that option")
+            raise ServerError(f"--nodes {len(self.nodes)}: a cluster of RabbitMQ takes --network namespaces")
         (node.folder / "plugins").write_text("[].\n")
         members = "".join(f"cluster_formation.classic_config.nodes.{one.number + 1} = {name_of(one)}\n" for one in self.nodes)
         # in a network namespace clients come from another address
