@@ -52,15 +52,29 @@ def borne(names, kind):
     return ",".join(name for name in names.split(",") if name not in kind.cannot and (name not in STRIKES or STRIKES[name].nodes <= kind.size))
 
 
-def speeds(server, seconds):
+def speeds(server, seconds, rounds):
+    """The median of some rounds, in each of which all strikes have their turn."""
     kind = kind_of(server)
     for number, model in enumerate(kind.objects):
-        for nemesis in filter(None, (borne(names, kind) for names in (STRUCK if number == 0 else STRUCK[:2]))):
-            with tempfile.TemporaryDirectory() as room:
-                one = ran([server, "--object", model, "--nemesis", nemesis, "--time", str(seconds), "--rate", "0"], room)
-            found = RATE.search(one.stdout)
-            said = f"{found[1]} | {found[2]} % | {one.stdout.splitlines()[-1]}" if found else f"- | - | {one.stderr.splitlines()[-1]}"
-            print(f"| {server}, {model} | {nemesis} | {said} |", flush=True)
+        struck = list(dict.fromkeys(filter(None, (borne(names, kind) for names in (STRUCK if number == 0 else STRUCK[:2])))))
+        runs = [(nemesis, speed(server, model, nemesis, seconds)) for _ in range(rounds) for nemesis in struck]
+        for nemesis in struck:
+            said = [(rate, late, verdict) for name, (rate, late, verdict) in runs if name == nemesis]
+            rates = sorted(rate for rate, _, _ in said)
+            late = statistics.median(late for _, late, _ in said)
+            verdicts = ", ".join(sorted({verdict for _, _, verdict in said}))
+            print(f"| {server}, {model} | {nemesis} | {statistics.median(rates):,.0f} | {rates[0]:,.0f}, {rates[-1]:,.0f} | {late:.1f} % | {verdicts} |",
+                  flush=True)
+
+
+def speed(server, model, nemesis, seconds):
+    """Operations a second that were ok, the percentage that timed out, and the verdict."""
+    with tempfile.TemporaryDirectory() as room:
+        one = ran([server, "--object", model, "--nemesis", nemesis, "--time", str(seconds), "--rate", "0"], room)
+    found = RATE.search(one.stdout)
+    if found is None:
+        return 0.0, 0.0, one.stderr.splitlines()[-1]
+    return float(found[1].replace(",", "")), float(found[2]), one.stdout.splitlines()[-1]
 
 
 # --- What is found ---
@@ -118,6 +132,7 @@ def main():
     parser.add_argument("--trial", action="append", default=[], metavar="WORDS")
     parser.add_argument("--only", choices=("speed", "trials"))
     parser.add_argument("--seconds", type=int, default=20, help="of a run that measures speed")
+    parser.add_argument("--rounds", type=int, default=1, help="of these runs")
     parser.add_argument("--times", type=int, default=10, help="runs of each trial")
     parser.add_argument("--at-once", type=int, default=1, help="of these runs")
     parser.add_argument("--keep", type=pathlib.Path, default=pathlib.Path(tempfile.gettempdir(), "jepmon-found"))
@@ -127,7 +142,7 @@ def main():
     for server in SERVERS if not given.trial else ():
         wanted = [name for name in given.names if name.split("/")[0] == server]
         if given.only != "trials" and (not given.names or server in wanted):
-            speeds(server, given.seconds)
+            speeds(server, given.seconds, given.rounds)
         for name, words in trials(server).items():
             if given.only != "speed" and (not given.names or server in wanted or name in wanted):
                 measured(name, words, given.times, given.at_once, given.keep)

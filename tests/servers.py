@@ -31,6 +31,7 @@ PATIENCE = 1800.0  # seconds, on a busy machine
 COUNTED = [("rabbitmq", "early")]
 # beanstalkd syncs by its wall clock: once that was set back, it acknowledges what it has not synced, and a loss of power loses it.
 CLOCKED = {"beanstalkd": "kill,pause,cut,slow,bump,strobe"}
+FILES = {"redis": {"failover": "examples/python/redis_failover.py"}}  # servers that are wrong
 CLUSTERS = {"rabbitmq": "3"}  # servers that are one node, unless more are asked for
 AT_ONCE = 2  # tests; each of them mostly waits
 
@@ -40,6 +41,7 @@ class Test(NamedTuple):
     what: str  # an object, a planted fault, a durability, `clocks`, `own` strikes, a `cluster` or `proxy`
     words: List[str]
     statuses: Tuple[int, ...]
+    file: str = ""  # that is run in place of the server's own
 
     @property
     def name(self) -> str:
@@ -61,6 +63,7 @@ def tests(server: str) -> List[Test]:
     if not disks.why_not():
         found += [Test(server, name, ["--durability", name, "--nemesis", "power", "--nodes", "1", "--time", str(seconds(server, name))], (1,))
                   for name in list(kind.durabilities)[1:]]
+    found += [Test(server, name, ["--time", str(UNTIL_FOUND)], (1,), str(TOP / path)) for name, path in FILES.get(server, {}).items()]
     return found + [Test(server, plant, ["--plant", plant, "--time", str(seconds(server, plant))], (1,)) for plant in kind.plants]
 
 
@@ -104,7 +107,7 @@ def run(test: Test) -> Tuple[bool, int, str]:
 
 def tried(test: Test, room: pathlib.Path) -> Tuple[bool, int, str]:
     """Runs it, and gives whether it is as it should be, its status, and what it said."""
-    words = [sys.executable, "-m", "jepmon", "test", test.server, *test.words, "--out", str(room / "runs"), *PATIENT]
+    words = [sys.executable, "-m", "jepmon", "test", test.file or test.server, *test.words, "--out", str(room / "runs"), *PATIENT]
     environment = {**os.environ, "JEPMON": str(PROGRAM), "PYTHONPATH": str(TOP / "python"), "TMPDIR": str(room)}
     try:
         ran = subprocess.run(words, stdout=subprocess.PIPE, stderr=subprocess.PIPE, universal_newlines=True, timeout=PATIENCE,
