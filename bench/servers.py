@@ -2,11 +2,12 @@
 """Measures jepmon-test on real servers: `servers.py [NAME..]`, where a NAME is a server (all of them unless given), or one trial of it, as
 redis/lease or redis/everysec.
 
-Speed: operations a second that were ok, as many as clients can do, and the share that timed out: for each object without faults and under
-all that it bears, and for the first object under the strikes of each lane alone. Trials: each planted fault, and each durability but the
-first under `power`: how often of --times it was found, the median seconds from the first strike (or the first operation, where nothing
-strikes before) to the verdict, and the causes, with N for each number. `--trial WORDS` measures these words of jepmon-test alone, as
-`--trial "./mine.py --nemesis kill"`. What a run left that has found nothing is kept in --keep.
+Speed is the number of operations a second that were ok, as many as clients can do, and the share that timed out. It is measured for each object
+without faults and under all that it bears, and for the first object also under the strikes of each lane alone.
+
+A trial is a planted fault, or a durability (not the first one) under `power`. The script prints how often of --times it was found, and the causes,
+with N for each number. The seconds are from the first strike, or from the first operation if nothing struck, to the verdict. `--trial WORDS`
+measures these words of jepmon-test alone, as `--trial "./mine.py --nemesis kill"`. --keep keeps the folders of runs that found nothing.
 """
 import argparse
 import collections

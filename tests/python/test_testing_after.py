@@ -96,7 +96,7 @@ class Verdicts(unittest.TestCase):
         self.assertIn("can't be told", self.on(4, n1=Reading(None, "no answer (TimeoutError)")))
 
     def test_of_an_answer_that_is_the_last_write(self) -> None:
-        """Of two writes at once the one that was acknowledged first may be the last. A read between has made it impossible."""
+        """Two writes overlap, and the one that is acknowledged first is the last. A stale read between makes its value impossible."""
         events = [event(0, "invoke", "write", 60, 0.1), event(1, "invoke", "write", 62, 0.1, 1), event(2, "ok", "write", 62, 0.2, 1),
                   event(3, "ok", "write", 60, 0.3), event(4, "invoke", "read", None, 0.4), event(5, "ok", "read", 60, 0.5)]
         self.assertEqual(self.on(62, events, n1=62), "An earlier read was STALE: 62 stays, and no write that began after it was there has been "

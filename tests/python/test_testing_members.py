@@ -11,7 +11,7 @@ from jepmon.testing.servers.etcd_members import GONE, join, remove
 
 
 class Group:
-    """What etcd is to these strikes: n1 to n3 are members, and n1, which is asked first, may know an old list."""
+    """An etcd for these strikes: n1 to n3 are members, and n1, which is asked first, may know an old list."""
 
     def __init__(self) -> None:
         self.nodes = [SimpleNamespace(name=f"n{number}", pid=number, inside=contextlib.nullcontext) for number in (1, 2, 3)]

@@ -180,8 +180,8 @@ def one_reading(cluster: Cluster, number: int, key: int) -> Reading:
 
 
 def verdict_on(fatal: Event, readings: Dict[str, Reading], acknowledged: Acknowledged, known: int) -> str:
-    """What the readings tell: lost, stale or diverged. `acknowledged` is what was, before the operation began, and `known` the event from
-    which on the answer is known to have been there, or -1."""
+    """Says lost, stale or diverged. `acknowledged` holds the writes before the operation began, and `known` is the event that first shows the
+    answer in the key, or -1."""
     values = [reading.value for reading in readings.values() if not reading.fault]
     if not values:
         return "No node answered, so it can't be told whether something is lost."

@@ -23,8 +23,8 @@ from .server import Server
 
 class Cluster:
     """It starts with its block. `network` says by what links others reach the nodes (links.py), `has_disks` whether each node's folder is
-    a disk of its own, which can lose power (disks.py), `has_clocks` whether each has a wall clock of its own (clocks.py), and `has_spare`
-    whether there is a node more, which strikes start."""
+    a disk of its own, which can lose power (disks.py), and `has_clocks` whether each has a wall clock of its own (clocks.py). `has_spare`
+    adds one node for strikes to start."""
 
     def __init__(self, kind: Type[Server], model: str, plant: str, size: int, logs: pathlib.Path, network: str, patience: float = 0.0,
                  has_disks: bool = False, has_clocks: bool = False, durability: str = "", has_spare: bool = False) -> None:

@@ -52,8 +52,7 @@ class Acknowledged(NamedTuple):
 
 
 def known_from(events: Sequence[Event], index: int, value: object) -> int:
-    """The event, before that one, from which on a register is known to have held the value: an operation that brings it was acknowledged,
-    or it was read. -1 where there is none."""
+    """The first event before `index` that shows the value in a register: the end of an operation that brings it, or of a read. Else -1."""
     return next((event.index for event in events if event.kind == "ok" and event.index < index and value in (brought_by(event), event.value)),
                 -1)
 

@@ -1,8 +1,8 @@
 """Strikes on who is a member of etcd's group. `shrink`: a member is removed, with its data, and joins again as a new one. `grow`: one more
 joins, and is removed again.
 
-A change of the group is asked for until it is certain. Who answers may not know yet what the others have agreed on, so that a member is
-removed by the number that the group gave it, and one that joins is told the members that the answer to its own joining lists.
+A change of the group is asked for until it is certain. A member that answers may lag behind the others. So a member is removed by the number
+that the group gave it, and a joining one gets the list of members in the answer to its own joining.
 """
 from __future__ import annotations
 
@@ -43,8 +43,7 @@ def shrunk(cluster: Cluster, node: Node, values: Values) -> Iterator[None]:
 
 @contextlib.contextmanager
 def grown(cluster: Cluster, node: Node, values: Values) -> Iterator[None]:
-    """If the others can't agree now, none joins. What was asked for may be agreed on later, so that it joins all the same before it is
-    removed."""
+    """If the others can't agree now, none joins. They may agree later, so that the end lets it join in any case before it removes it."""
     server: Any = cluster.server
     etcd: Etcd = server
     (spare,) = cluster.spares
@@ -66,7 +65,7 @@ def leave(etcd: Etcd, node: Node, cluster: Cluster) -> None:
 
 
 def remove(etcd: Etcd, node: Node) -> None:
-    """Raises where it is not certain that it is no member any more."""
+    """Raises unless it is certain that the node has left the group."""
     if node.name not in etcd.numbers:
         etcd.numbers[node.name] = numbers(members(etcd, node))[etcd.peer(node)]
     number = etcd.numbers[node.name]
@@ -79,7 +78,7 @@ def remove(etcd: Etcd, node: Node) -> None:
 
 
 def join(etcd: Etcd, node: Node) -> None:
-    """Raises where it is not certain that it is a member, by a new number. One that was asked for before may have become one since."""
+    """Raises unless it is certain that the node is a member, by a new number. An earlier call may have made it one."""
     found = members(etcd, node)
     if numbers(found).get(etcd.peer(node)) in {None, *etcd.removed}:
         found = asked(etcd, node, "cluster/member/add", peerURLs=[etcd.peer(node)])["members"]
@@ -94,7 +93,7 @@ def members(etcd: Etcd, node: Node) -> List[Dict[str, Any]]:
 
 
 def numbers(found: List[Dict[str, Any]]) -> Dict[str, str]:
-    """Of members, by the links where others reach them."""
+    """The numbers of members, by the links where others reach them."""
     return {one["peerURLs"][0]: one["ID"] for one in found}
 
 

@@ -1,6 +1,6 @@
 """RabbitMQ: one node, with durable queues, persistent messages that are confirmed, and consumers that get and acknowledge. Several nodes
-are a cluster, with quorum queues, of which a minority pauses itself. It takes network namespaces: the nodes find one another by one port,
-at an address each.
+are a cluster with quorum queues, whose minority pauses itself. It takes network namespaces: the nodes find one another by one port, at an
+address each.
 
 It delivers at least once: what was not acknowledged when a connection or the server ended comes again. So a dequeue takes place where a
 message comes for the first time in the whole test; a message that has come before is a :fail.
@@ -180,5 +180,5 @@ class RabbitMQ(Server):
 
 
 def name_of(node: Node) -> str:
-    """Of the node, in Erlang."""
+    """The name of the node in Erlang."""
     return f"jepmon{node.ports['client']}@{node.address}"
