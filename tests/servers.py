@@ -57,7 +57,7 @@ def tests(server: str) -> List[Test]:
     if "bump" not in kind.cannot and not clocks.why_not():
         found += [Test(server, "clocks", ["--nemesis", CLOCKED.get(server, "all,bump,strobe"), "--time", str(SECONDS)], GOOD)]
     if server in CLUSTERS and not places.why_not():
-        found += [Test(server, "cluster", ["--nodes", CLUSTERS[server], "--network", "namespaces", "--time", str(SECONDS)], GOOD)]
+        found += [Test(server, "cluster", ["--nodes", CLUSTERS[server], "--time", str(SECONDS)], GOOD)]
     if kind.strikes:
         found += [Test(server, "own", ["--nemesis", ",".join(kind.strikes), "--time", str(SECONDS)], GOOD)]
     if not disks.why_not():

@@ -7,17 +7,17 @@ import signal
 import socket
 import subprocess
 import sys
-import tempfile
 import time
 import unittest
 from typing import Set
+from unittest import mock
 
+from jepmon.testing import links
 from jepmon.testing.errors import ServerError
 from jepmon.testing.guard import environment
 from jepmon.testing.links import AUTO, CLIENTS, CUT, DIRECT, NAMESPACES, PROXY, Effect, Switched, both_ways, network
 from jepmon.testing.node import Node
 from jepmon.testing.places import HERE, Place, why_not
-from jepmon.testing.servers.rabbitmq import RabbitMQ
 from tests.python.test_testing_nodes import PATIENCE, Room, is_alive, wait_for
 
 PORT = 7000
@@ -214,12 +214,14 @@ class TheChoice(unittest.TestCase):
     def test_namespaces_where_there_are_some(self) -> None:
         self.assertEqual(network(AUTO, True), PROXY if why_not() else NAMESPACES)
 
-    def test_a_cluster_of_rabbitmq_takes_some(self) -> None:
-        with tempfile.TemporaryDirectory() as room:
-            nodes = [Node(number, pathlib.Path(room), pathlib.Path(room, "log"), {"client": 1, "epmd": 2}, None)  # type: ignore[arg-type]
-                     for number in range(3)]
-            with self.assertRaisesRegex(ServerError, "^--nodes 3: a cluster of RabbitMQ takes --network namespaces$"):
-                RabbitMQ(nodes, "unordered-queue", "").prepare(nodes[0])
+    def test_nodes_that_find_one_another_by_addresses_take_some(self) -> None:
+        with self.assertRaisesRegex(ServerError, "^--network proxy: the nodes of this server find one another by their addresses"):
+            network(PROXY, True, True)
+        with mock.patch.object(links, "why_not", return_value=None):
+            self.assertEqual(network(AUTO, False, True), NAMESPACES)
+        with mock.patch.object(links, "why_not", return_value="not permitted"):
+            with self.assertRaisesRegex(ServerError, "^--network namespaces: .*: not permitted; they take root, and one node takes none$"):
+                network(AUTO, False, True)
 
     def test_where_there_are_none_it_is_said(self) -> None:
         if why_not() is None:

@@ -96,7 +96,7 @@ class Test:
         self.given, self._progress = given, progress
         self.client = given.server.objects[given.model]
         self.plan = planned(given)
-        self.network = network(given.network, self.plan.needs(NEEDS_LINKS))
+        self.network = network(given.network, self.plan.needs(NEEDS_LINKS), given.server.by_addresses and given.nodes > 1)
         self.begun = self.ended = 0.0
         self.at_work: Dict[str, Counter[str]] = {}
         self.struck: Counter[str] = Counter()

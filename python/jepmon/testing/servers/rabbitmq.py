@@ -117,7 +117,7 @@ PLANTED: Dict[str, Type[Queue]] = {"early": EarlyQueue, "twice": LateQueue}
 class RabbitMQ(Server):
     objects = {"unordered-queue": Queue}
     ports = ("client", "distribution", "epmd")
-    sizes, in_turn = range(1, 6), True
+    sizes, in_turn, by_addresses = range(1, 6), True, True
     patience = 300.0
     plants = {
         "early": Plant("messages are confirmed before they are on the disk: they are not persistent", "unordered-queue", "kill:n1", 1),
@@ -139,13 +139,10 @@ class RabbitMQ(Server):
         self.kind = QUORUM if len(self.nodes) > 1 else CLASSIC
 
     def prepare(self, node: Node) -> None:
-        is_cluster = len(self.nodes) > 1
-        if is_cluster and node.place is None:
-            raise ServerError(f"--nodes {len(self.nodes)}: a cluster of RabbitMQ takes --network namespaces")
         (node.folder / "plugins").write_text("[].\n")
         members = "".join(f"cluster_formation.classic_config.nodes.{one.number + 1} = {name_of(one)}\n" for one in self.nodes)
         # in a network namespace clients come from another address
-        (node.folder / "rabbitmq.conf").write_text("loopback_users = none\n" + (CONFIGURED + members if is_cluster else ""))
+        (node.folder / "rabbitmq.conf").write_text("loopback_users = none\n" + (CONFIGURED + members if len(self.nodes) > 1 else ""))
         (node.folder / COOKIE).write_text("jepmon")
         (node.folder / COOKIE).chmod(0o400)
         node.environment = {
