@@ -99,8 +99,8 @@ class Verdicts(unittest.TestCase):
         """Two writes overlap, and the one that is acknowledged first is the last. A stale read between makes its value impossible."""
         events = [event(0, "invoke", "write", 60, 0.1), event(1, "invoke", "write", 62, 0.1, 1), event(2, "ok", "write", 62, 0.2, 1),
                   event(3, "ok", "write", 60, 0.3), event(4, "invoke", "read", None, 0.4), event(5, "ok", "read", 60, 0.5)]
-        self.assertEqual(self.on(62, events, n1=62), "An earlier read was STALE: 62 stays, and no write that began after it was there has been "
-                         "acknowledged.")
+        self.assertEqual(self.on(62, events, n1=62), "An EARLIER answer was wrong: 62 stays, and no write that began after it was there has "
+                         "been acknowledged.")
         later = [event(6, "invoke", "write", 70, 0.6), event(7, "ok", "write", 70, 0.7)]
         self.assertEqual(self.on(62, [*events, *later], n1=62), "A write is LOST: the wrong answer stays. The write of 70 was acknowledged at "
                          '0.70 s, 1.30 s before "n1 is down, by kill -9" began.')

@@ -75,7 +75,7 @@ class Members(unittest.TestCase):
         self.assertIn("peer of n2", self.group.existing["n2"])
 
     def test_one_more_member(self) -> None:
-        spare = SimpleNamespace(name="n4", pid=None, inside=contextlib.nullcontext)
+        spare: Any = SimpleNamespace(name="n4", pid=None, inside=contextlib.nullcontext)
         join(self.group, spare)
         join(self.group, spare)  # before it is removed
         self.assertEqual(self.changes(), ["add"])

@@ -201,7 +201,7 @@ def verdict_on(fatal: Event, readings: Dict[str, Reading], acknowledged: Acknowl
     later = [one for one in acknowledged.after(known) if one.value != wrong]
     if later:
         return f"A write is LOST: the wrong answer stays. The write of {told(later[-1])}."
-    return f"An earlier read was STALE: {shown(wrong)} stays, and no write that began after it was there has been acknowledged."
+    return f"An EARLIER answer was wrong: {shown(wrong)} stays, and no write that began after it was there has been acknowledged."
 
 
 def lost_members(readings: Dict[str, Reading], acknowledged: Acknowledged) -> List[One]:
