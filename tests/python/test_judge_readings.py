@@ -43,7 +43,7 @@ class Readings(Judged):
                 self.assertEqual(self.judged(lines(rows), *first, *words, "--no-cause", *shards).status, status, (words, shards))
 
     def test_clocks_that_are_apart(self) -> None:
-        self.settled(APART, "by their times some clients had long ended when others began", [(("--skew", "0ms"), 1), (("--time-unit", "ms", "--skew", "2s"), 0)])
+        self.settled(APART, "the history is illegal, and by their times some clients had long ended when others began", [(("--skew", "0ms"), 1), (("--time-unit", "ms", "--skew", "2s"), 0)])
         self.assertEqual(self.judged(lines([dict(row, start=row["start"] % 1000, end=row["end"] % 1000) for row in APART])).status, 0)
 
     def test_a_clock_that_is_behind_before_one_recorder(self) -> None:
@@ -62,6 +62,19 @@ class Readings(Judged):
         rows = [operation(0, "write", 1, 0), operation(0, "write", "1", 2), operation(0, "read", 7, 4)]
         self.assertEqual(self.judged(lines(rows)).status, 1)
         self.assertEqual(self.judged(lines([*rows[:2], operation(0, "read", "1", 4)])).status, 0)
+
+    def test_statuses_of_http(self) -> None:
+        rows = [{**operation(0, "write", value, start), "code": code} for value, start, code in ((1, 0, 200), (2, 2, 409))]
+        rows.append({**operation(1, "read", 2, 4), "code": 200})
+        self.settled(rows, "and illegal if 4xx are failures; say a mapping file with \"outcomes\"", [])
+        for outcome, status in (("info", 0), ("fail", 1)):
+            (self.top / "m.json").write_text(json.dumps({"outcomes": {"409": outcome, "200": "ok"}}))
+            self.assertEqual(self.judged(lines(rows), "--mapping", "m.json").status, status)
+
+    def test_a_read_of_a_set_without_an_answer(self) -> None:
+        rows = [{"client": 0, "key": 0, "op": "add", "value": 1, "start": 0, "end": 1}, {"client": 0, "key": 0, "op": "read", "start": 2, "end": 3}]
+        self.settled(rows, "line 2: this read of the set 0 is ok, and has no answer", [])
+        self.assertEqual(self.judged(lines([*rows[:1], {**rows[1], "result": []}])).status, 1)
 
     def test_an_ok_that_is_false(self) -> None:
         events: List[str] = []

@@ -44,11 +44,23 @@ def quoted(text: str) -> str:
 def strange_answer(line: KeyLine, events: Sequence[Event], concurrency: int) -> Optional[int]:
     """The value that the fatal operation found in an illegal register or queue, if no operation of the key can have brought it in."""
     made = operations(events, concurrency)
-    fatal = next((each for each in made if each.completion is not None and each.completion.index == line.index), None)
+    fatal = fatal_of(line, made)
     if fatal is None:
         return None
     value = wanted(fatal) if line.model in REGISTERS else taken(fatal)
     return None if value is None or any(value in (brought(each), each.invocation.value) for each in made) else value
+
+
+def fatal_of(line: KeyLine, made: Sequence[Operation]) -> Optional[Operation]:
+    """The operation whose completion makes the key illegal."""
+    return next((each for each in made if each.completion is not None and each.completion.index == line.index), None)
+
+
+def read_without_answer(line: KeyLine, events: Sequence[Event], concurrency: int) -> Optional[Event]:
+    """The completion that makes a set illegal, if it is that of a read which answered nothing."""
+    fatal = fatal_of(line, operations(events, concurrency)) if line.model == "set" else None
+    is_empty = fatal is not None and fatal.completion is not None and fatal.completion.value is None
+    return fatal.completion if fatal is not None and is_empty else None
 
 
 def asked(events: Sequence[Event]) -> Iterator[int]:

@@ -10,6 +10,7 @@ from ..forms.door import Translation
 from ..forms.mapping import LINES, TIMES
 from ..forms.mapping_words import KINDS
 from ..forms.order import APART, BY_TIMES, EITHER
+from ..forms.outcomes import BY_MAPPING
 from ..forms.recorded import Recorded
 from ..from_jepsen.meant import NUMBERS, text_of
 from ..history import Event
@@ -49,12 +50,23 @@ def test(given: Given, judged: Judged, judge: Callable[[Given], str]) -> None:
     """Refuses a verdict that another reading of the input does not have. `judge` gives the verdict of such a reading."""
     if judged.found.is_own or judged.word not in VERDICTS:
         return
+    _test_sets(judged)
     ways = list(_ways(given, judged))
     for tried in [[way] for way in ways] + ([ways] if len(ways) > 1 else []):
         _test_one(given, judged.word, tried, judge)
     if judged.word == "illegal" and any(guess.assumed == APART for guess in judged.found.account.guesses):
-        raise Refused("by their times some clients had long ended when others began, so the history is illegal by their clocks: say --skew 0ms if "
-                      "these agree, or by how much they may be wrong, as --skew 5s")
+        raise Refused("the history is illegal, and by their times some clients had long ended when others began: say --skew 0ms if their clocks "
+                      "agree, or by how much they may be wrong, as --skew 5s")
+
+
+def _test_sets(judged: Judged) -> None:
+    """Refuses a set that is illegal by a read without an answer: it may have read anything."""
+    dead = {line.key: line for line in judged.keys if line.status in DEAD and line.model == "set"}
+    for key, events in judged.events_of(list(dead)[:MOST_KEYS]).items() if dead else ():
+        empty = doubts.read_without_answer(dead[key], events, judged.concurrency)
+        if empty is not None:
+            raise Refused(f"line {empty.line}: this read of the set {judged.found.key_names.get(key, str(key))} is ok, and has no answer: let it say "
+                          "what it found, or that it failed")
 
 
 def _test_one(given: Given, word: str, ways: List[Way], judge: Callable[[Given], str]) -> None:
@@ -84,12 +96,20 @@ def _of_both(guess: Guess, given: Given) -> Iterator[Way]:
     """Those by which an illegal history may be legal, and a legal one illegal."""
     if guess.of == TYPE:
         yield Way(lambda given: given._replace(values=NUMBERS), guess.assumed, "they are one", "--values exact or --values number")
+    if guess.option == BY_MAPPING:
+        yield Way(_refusals_of_http, guess.assumed, "4xx are failures", f"{BY_MAPPING}, as {{\"outcomes\": {{\"409\": \"fail\"}}}}")
     word, _, said = guess.option.partition(" ")
     if word == "--outcome":
         what, _, kind = said.partition("=")
         for other in KINDS:
             if other != kind:
                 yield Way(_with_outcome(what, other), guess.assumed, f"taken as :{other}", f"{guess.option} or --outcome {what}={other}")
+
+
+def _refusals_of_http(given: Given) -> Given:
+    """With statuses by which a server refuses what it was asked as failures."""
+    failures = {str(status): "fail" for status in range(400, 500)}
+    return given._replace(mapping=given.mapping._replace(outcomes={**failures, **given.mapping.outcomes}))
 
 
 def _with_outcome(what: str, kind: str) -> Callable[[Given], Given]:
