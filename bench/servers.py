@@ -31,7 +31,7 @@ from jepmon.testing.words import SERVERS  # noqa: E402
 
 TIME = re.compile(r":time ([0-9]+)\}?$")
 RATE = re.compile(r"^([0-9,]+) operations a second were ok, ([0-9.]+) %", re.M)
-WORD = re.compile(r"\b(LOST or STALE|LOST|STALE|DIVERGED)\b")
+WORD = re.compile(r"\b(LOST or STALE|LOST|STALE|DIVERGED|EARLIER)\b")
 STRUCK = ("none", "all", "kill,pause", "cut,part,slow", "loss,reorder,corrupt", "power,tear", "bump,strobe", "client-pause,client-crash")
 
 
