@@ -30,10 +30,10 @@ from ..shards.splitting import judged_elsewhere
 from ..shards.tally import Tally
 from ..shrinking.part import as_asked, text_of
 from . import as_json, bad_keys, causes, doubts, large_key, least, rates, readings, results, terminal, turned, wide
-from .hints import MOST_EVENTS, counted, is_legal_as
+from .hints import MOST_EVENTS, counted, of_nil_reads, of_order, outcomes
 from .judging import Task
 from .large import Large
-from .models import ALIKE, Choice, account_for, by_operations
+from .models import Choice, account_for, by_operations
 from .outputs import Folder, Page
 from .words import NAME, Given
 
@@ -191,7 +191,7 @@ def _word_of(found: Large, options: Options, given: Given) -> str:
 def _recorded(found: Large, history: Asked, with_faults: bool) -> Recorded:
     """What the history is beside its events."""
     if found.made is None or history.made is None:
-        told = faults.of_lines(lambda: lines_in(found.source.texts())) if with_faults else []
+        told = faults.of_lines(lambda: lines_in(found.texts())) if with_faults else []
         return Recorded("", "", Facts(), history.account, faults=told, is_own=True)
     return turned.recorded(found.made, history.made)
 
@@ -217,7 +217,7 @@ def anew(given: Given, session: shards.Session, path: str, verdict: Verdict) -> 
 def timed(found: Large, history: Asked) -> Iterator[rates.Told]:
     """The events of clients with their times."""
     if history.made is None or found.made is None:
-        return rates.events_of(lines_in(found.source.texts()), None)
+        return rates.events_of(lines_in(found.texts()), None)
     return rates.events_of(lines_in(history.made.texts()), found.made.times(history.made.begun))
 
 
@@ -228,8 +228,8 @@ def lines_in(texts: Iterable[str]) -> Iterator[str]:
 def events_of(session: shards.Session, found: Large, history: Asked, keys: List[int]) -> Dict[int, List[Event]]:
     """The events of each of these keys, as far as they are judged, with their lines in the file that was given."""
     if found.made is None or history.made is None:
-        return large_key.events_of(session, keys, found.path)
-    return turned.with_lines(found.made, history.made, large_key.events_of(session, keys, None))
+        return large_key.events_of(session, keys, found.texts())
+    return turned.with_lines(found.made, history.made, large_key.events_of(session, keys, ()))
 
 
 def judged(given: Given, session: shards.Session, options: Options) -> List[Judged]:
@@ -248,7 +248,7 @@ def said_of_bad(report: Report, task: Task, keys: Sequence[causes.Shown], with_c
     if line.status in CUT:
         yield CUT[line.status].format(line.key, line.index)
     elif report.word == "illegal" and with_cause:
-        yield from hints_of_order(keys[0].events, task.options, line)
+        yield from of_order(line.key, line.model, keys[0].events, task.options)
 
 
 # --- The report ---
@@ -316,11 +316,7 @@ def said(found: Large, history: Asked, tally: Tally, verdict: Verdict, task: Tas
     """What the history was found to be."""
     yield (f"{found.name}: {form_of(found)}, {counted(tally.events, 'event')}, concurrency {task.options.concurrency:,}, "
            f"{counted(verdict.keys, 'key')}")
-    outcomes = tally.outcomes()
-    for name in tally.names():
-        yield f"{name}: " + ", ".join(f"{outcomes[f'{name} {kind}']} {kind}" for kind in ("ok", "fail", "info"))
-    if not any(outcome.endswith(" ok") for outcome in outcomes):
-        yield "no operation is ok: nothing was judged"
+    yield from outcomes(tally.outcomes())
     yield from history.account.told(history.made is not None)
     if not task.choice.is_guess:
         yield f"model {task.choice.common}, {task.choice.reason}"
@@ -336,13 +332,8 @@ def judged_by(found: Large, history: Asked, task: Task) -> str:
 def nil_hints(tally: Tally, choice: Choice) -> Iterator[str]:
     """Reads of a register that are answered by nil say nothing, unless nil is what a missing key answers."""
     reads, of_nil = tally.number_of("read", "ok"), tally.reads_of_nil()
-    if choice.common not in kinds.REGISTERS or of_nil == 0:
-        return
-    if of_nil == reads:
-        yield f"NOTHING IS SAID OF WHAT A REGISTER HOLDS: each read is answered by nil, which fits whatever it holds: {of_nil}"
-    else:
-        yield f"reads answered by nil, which fits whatever a register holds: {of_nil} of {reads}"
-    yield "where nil is what a missing key answers, say --nil-is-absent, and they are judged"
+    if choice.common in kinds.REGISTERS and of_nil:
+        yield from of_nil_reads(reads, of_nil, None)
 
 
 def hints_of_refusal(found: Large, line: str, options: Options) -> Iterator[str]:
@@ -350,12 +341,3 @@ def hints_of_refusal(found: Large, line: str, options: Options) -> Iterator[str]
     index = line.rpartition(" event ")[2]
     if found.path is not None and found.made is None and index.isdigit() and int(index) < MOST_EVENTS and options.concurrency <= kinds.THREADS:
         yield from explained(line, large_key.front_lines(found.path, int(index) + 1), Explained(options.concurrency, options.model))
-
-
-def hints_of_order(events: Sequence[Event], options: Options, line: KeyLine) -> Iterator[str]:
-    """Where a key that is illegal would be legal by a model with the same operations."""
-    other = ALIKE.get(line.model)
-    if other is None:
-        return
-    if is_legal_as(other, events, options):
-        yield f"key {line.key} is judged as a {line.model}, and is legal as an {other}: where no order was promised, say --model {other}"
