@@ -213,7 +213,7 @@ class Collector:
     def take(self, element: edn.Element, count: int) -> None:
         fields = fields_of(element)
         stated, kind = integer(fields.get(":index")), fields.get(":type")
-        stated = stated if stated in NATURAL else None
+        stated = stated if stated is not None and stated in NATURAL else None
         index = count if stated is None else stated
         process = self.clients.number_of(self.named(fields.get(":process"), element.line), kind == ":invoke")
         if process is not None and not (kind == ":info" and process in self.clients.names and process not in self.open):
