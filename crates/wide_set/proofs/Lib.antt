@@ -12,3 +12,4 @@ pub mod Loops
 pub mod Places
 pub mod Asking
 pub mod Taking
+pub mod Searching

@@ -217,7 +217,7 @@ impl Known {
             Some(Pending {
                 call: Call::Add(value),
                 ..
-            }) if !self.spares(id, value) => Change::Dies,
+            }) if !self.spares(id, &value) => Change::Dies,
             _ => Change::Leaves(id),
         }
     }

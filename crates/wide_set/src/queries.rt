@@ -36,11 +36,11 @@ pub fn pending_of(pending: &[Pending], id: u32) -> Option<Pending>
 }
 
 // Whether the operation is an open add of the value, and another one than this.
-fn adds(call: &Pending, value: i64, but: u32) -> bool
-    ensures { IsTrue result ↔ ((call.now.id ≢ but) × (call.now.call ≡ Call.Add value)) }
+fn adds(call: &Pending, value: &i64, but: u32) -> bool
+    ensures { IsTrue result ↔ ((call.now.id ≢ but) × (call.now.call ≡ Call.Add value.now)) }
 {
     match call.call {
-        Call::Add(other) => other == value && call.id != but,
+        Call::Add(other) => other == *value && call.id != but,
         Call::Read | Call::Other => false,
     }
 }
@@ -56,9 +56,9 @@ fn earlier(first: Option<u64>, moment: u64) -> u64
 }
 
 // When the first open add of the value was invoked, apart from this operation. Takes the time of the open operations.
-fn first_pending(pending: &[Pending], value: i64, but: u32) -> Option<u64>
-    ensures found { IfSome result (λ moment. HasPendingAdd pending.now but value moment) }
-    ensures least { (moment : ℕ) → HasPendingAdd pending.now but value moment → IsNoLater result moment }
+fn first_pending(pending: &[Pending], value: &i64, but: u32) -> Option<u64>
+    ensures found { IfSome result (λ moment. HasPendingAdd pending.now but value.now moment) }
+    ensures least { (moment : ℕ) → HasPendingAdd pending.now but value.now moment → IsNoLater result moment }
 {
     let mut first = None;
     for call in pending {
@@ -70,11 +70,11 @@ fn first_pending(pending: &[Pending], value: i64, but: u32) -> Option<u64>
 }
 
 // Whether the value is a member. Takes the logarithm of how many there are.
-fn has(members: &[i64], value: i64) -> bool
+fn has(members: &[i64], value: &i64) -> bool
     requires { IsAscending members.now }
-    ensures { IsTrue result ↔ Contains members.now value }
+    ensures { IsTrue result ↔ Contains members.now value.now }
 {
-    members.binary_search(&value).is_ok()
+    members.binary_search(value).is_ok()
 }
 
 // Whether each of these is among those. Takes the time of these, each with the logarithm of those.
@@ -83,7 +83,7 @@ fn is_within(these: &[i64], those: &[i64]) -> bool
     ensures { IsTrue result ↔ IsWithin these.now those.now }
 {
     for value in these {
-        if !has(those, *value) {
+        if !has(those, value) {
             return false;
         }
     }
@@ -97,7 +97,7 @@ fn has_beyond(done: &[DoneAdd], members: &[i64], moment: u64) -> bool
     ensures { IsTrue result ↔ HasBeyond done.now members.now moment }
 {
     for add in done {
-        if add.by < moment && !has(members, add.value) {
+        if add.by < moment && !has(members, &add.value) {
             return true;
         }
     }
@@ -131,11 +131,11 @@ fn first_longer(answers: &[Answered], many: usize) -> usize
 }
 
 // The place of the first answer that has the value. Takes the time of the answers behind it.
-fn first_with(answers: &[Answered], value: i64) -> usize
+fn first_with(answers: &[Answered], value: &i64) -> usize
     ensures within { result ≤ length answers.now }
-    ensures with { (a : Answered) → Contains (drop result answers.now) a → Contains a.members value }
+    ensures with { (a : Answered) → Contains (drop result answers.now) a → Contains a.members value.now }
     ensures lacking { AreNested answers.now → (a : Answered) → Contains (take result answers.now) a
-        → ¬ Contains a.members value }
+        → ¬ Contains a.members value.now }
 {
     let mut at = answers.len();
     while at > 0 && has(answers[at - 1].members.as_slice(), value) {
@@ -177,12 +177,12 @@ pub fn place_of(answers: &[Answered], members: &Members, since: u64) -> Place
 impl Known {
     // When the first add of the value that has not failed was invoked, apart from this operation. Takes the time of the open
     // operations, and the logarithm of the values.
-    fn first_add(&self, value: i64, but: u32) -> Option<u64>
-        ensures found { IfSome result (λ moment. HasAdd (facts_of self.now) but value moment) }
-        ensures least { (moment : ℕ) → HasAdd (facts_of self.now) but value moment → IsNoLater result moment }
+    fn first_add(&self, value: &i64, but: u32) -> Option<u64>
+        ensures found { IfSome result (λ moment. HasAdd (facts_of self.now) but value.now moment) }
+        ensures least { (moment : ℕ) → HasAdd (facts_of self.now) but value.now moment → IsNoLater result moment }
     {
         let first = first_pending(&self.pending, value, but);
-        match self.adds.get(&value) {
+        match self.adds.get(value) {
             Some(settled) => Some(earlier(first, settled.since)),
             None => first,
         }
@@ -190,10 +190,10 @@ impl Known {
 
     // The greater of the moment and of the first add of the value; none if it has no add. Takes the logarithm of the values, and
     // the time of the open operations if the value has no add before the moment that cannot fail.
-    fn raised(&self, latest: u64, value: i64, but: u32) -> Option<u64>
-        ensures { IsRaised (facts_of self.now) but value latest result }
+    fn raised(&self, latest: u64, value: &i64, but: u32) -> Option<u64>
+        ensures { IsRaised (facts_of self.now) but value.now latest result }
     {
-        if let Some(settled) = self.adds.get(&value) {
+        if let Some(settled) = self.adds.get(value) {
             if settled.since <= latest {
                 return Some(latest);
             }
@@ -208,7 +208,7 @@ impl Known {
     {
         let mut latest = since;
         for value in members {
-            latest = self.raised(latest, *value, but)?;
+            latest = self.raised(latest, value, but)?;
         }
         Some(latest)
     }
@@ -236,8 +236,8 @@ impl Known {
 
     /// Whether the open add of this value with this id may fail. Takes the time of the answers that have the value, and of the
     /// values of which an add is done.
-    pub fn spares(&self, but: u32, value: i64) -> bool
-        ensures { AreNested self.now.answers.items → IsTrue result ↔ AreSpared (facts_of self.now) but value }
+    pub fn spares(&self, but: u32, value: &i64) -> bool
+        ensures { AreNested self.now.answers.items → IsTrue result ↔ AreSpared (facts_of self.now) but value.now }
     {
         let at = first_with(&self.answers, value);
         if at == self.answers.len() {
