@@ -4,8 +4,10 @@ use Rattle.std.specs.List.{Contains}
 use Rattle.std.proofs.lemmas.Bool.{cases_lt}
 use Rattle.wide_set.specs.declared.known.DoneAdd.{DoneAdd}
 use Rattle.wide_set.specs.declared.known.Answered.{Answered}
+use Rattle.wide_set.specs.declared.queries.Place.{Place}
+use Rattle.wide_set.specs.declared.queries.Place.TheVariants.{Nowhere, Known, Behind}
 use Rattle.wide_set.specs.Facts.{Facts, AreNested, HasAdd, WereAdded, IsSpared, AreSpared}
-use Rattle.wide_set.specs.Queries.{IsNoLater, IsRaisedByAll, HasBeyond, HasBefore}
+use Rattle.wide_set.specs.Queries.{IsPlaced, IsAnswered, IsNoLater, IsRaisedByAll, HasBeyond, HasBefore}
 use Rattle.wide_set.proofs.Places.{in_left, in_right, left_or_right, first_is_in, from_first}
 
 module _ (f : Facts) (but since : ℕ) (members : List ℤ) where
@@ -29,6 +31,11 @@ module _ (f : Facts) (but since : ℕ) (members : List ℤ) where
       (λ (e : n ≡ since). (let le : since ≤ b.0.by = w.not_before b.0 b.1 b.3 in omega arith))
       (λ k. (let a = w.in_time k.0 b.0 k.1 b.1 b.3 in let x : a.0 ≤ b.0.by = a.2 in let y : n ≤ a.0 = k.2 a.0 a.1 in omega arith))
       h.2
+
+  pub answered_of : (place : Place) → IsPlaced f.answers since members place → WereAdded f but since members → IsAnswered f but since members place
+  answered_of Nowhere h w = λ chain. absurd (h chain)
+  answered_of Known h w = (h.0, w, h.1)
+  answered_of (Behind at) h w = (h.0, w, h.1)
 
 -- whether an add of the value may fail, where the answers from this place on have it
 module _ (f : Facts) (are : AreNested f.answers) (but : ℕ) (v : ℤ) (at : ℕ)

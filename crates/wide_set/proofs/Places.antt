@@ -1,8 +1,8 @@
 -- where an answer stands in a chain
-use Rattle.std.proofs.Common.{◌≡◌, ◌≢◌, ℕ, suc, ◌+◌, ◌≤◌, ◌<◌, ℤ, ◌⊎◌, inl, inr, ⊎_elim, List, [], ◌∷◌, ◌++◌, length, take, drop, get_or, refl, sym, ap, ◌∙◌, subst, arith}
+use Rattle.std.proofs.Common.{◌≡◌, ◌≢◌, ℕ, zero, suc, ◌+◌, ◌-◌, ◌≤◌, ◌<◌, ℤ, ◌⊎◌, inl, inr, ⊎_elim, List, [], ◌∷◌, ◌++◌, length, take, drop, get_or, refl, sym, ap, ◌∙◌, subst, arith, length-drop}
 use Rattle.std.specs.List.{Contains}
 use Rattle.std.proofs.lemmas.Bool.{cases_lt}
-use Rattle.std.proofs.lemmas.List.{take-append-drop, take_more, drop_more, drop_all}
+use Rattle.std.proofs.lemmas.List.{take-append-drop, take_more, drop_more, drop_all, take_all}
 use Rattle.std.proofs.lemmas.List.Elements.{Contains-append_left, Contains-append_right, Contains-append_cases, Contains-push, Contains-push_cases, Contains-get_or}
 use Rattle.values.specs.Members.{IsAscending}
 use Rattle.values.proofs.Sorting.{one_ascending}
@@ -13,6 +13,15 @@ use Rattle.set_chains.proofs.Sorts.{within_no_longer, as_long}
 use Rattle.wide_set.specs.declared.known.Answered.{Answered}
 use Rattle.wide_set.specs.Facts.{Nests, AreNested, IsInChain, IsPlace}
 use Rattle.wide_set.specs.Queries.{HasBefore}
+
+-- what is read from a place on
+pub rest : (xs : List Answered) (at : ℕ) → take (length xs - at) (drop at xs) ≡ drop at xs
+rest xs at = take_all (length xs - at) (drop at xs) (omega (arith, length-drop at xs))
+
+pub some_behind : (xs : List Answered) (n : ℕ) → n < length xs → (x : Answered) × Contains (drop n xs) x
+some_behind [] n lt = absurd (omega arith)
+some_behind (x ∷ xs) zero lt = (x, Contains-head x xs)
+some_behind (x ∷ xs) (suc n) lt = some_behind xs n (omega arith)
 
 -- the same or before it in the chain
 abbrev pub IsUpTo : Answered → Answered → Type 0
@@ -100,7 +109,7 @@ module _ (answers : List Answered) (are : AreNested answers) (members : List ℤ
   below_first none first lt is w a h = ((λ v k. (from_first answers are at first lt is a h).0 v (w v k)), in_turn_of none a h)
 
   pub below_none : ¬ HasBefore (drop at answers) since → length answers ≤ at → IsBelowAll
-  below_none none le a h = absurd (Contains-nil a (subst (λ l. Contains l a) (drop_all answers at le) h))
+  below_none none le a h = absurd (Contains-nil a (subst (λ l. Contains l a) (drop_all at answers le) h))
 
   placed : IsBelowAll → ((a : Answered) → Contains (take at answers) a → IsWithin a.members members) → IsInChain answers since members
   placed below above = record {

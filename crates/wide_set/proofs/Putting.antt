@@ -1,5 +1,7 @@
 -- the adds of a value with one more
-use Rattle.std.proofs.Common.{◌≡◌, ◌≢◌, ℕ, ◌≤◌, ℤ, ◌⊎◌, inl, inr, ⊎_elim, Bool, true, false, cond, ◌||◌, Option, Some, None, List, [], ◌∷◌, ◌++◌, refl, sym, ap, ◌∙◌, subst, arith, min}
+use Rattle.std.proofs.Common.{◌≡◌, ◌≢◌, ℕ, ◌≤◌, ℤ, ◌⊎◌, inl, inr, ⊎_elim, Bool, true, false, cond, not, ◌||◌, Option, Some, None, List, [], ◌∷◌, ◌++◌, refl, sym, ap, ◌∙◌, subst, arith, min}
+use Rattle.std.specs.Prelude.{Result, Ok, Err, OnOk}
+use Rattle.std.specs.Result.{is_ok}
 use Rattle.std.specs.List.{Contains}
 use Rattle.std.specs.Ordering.{int_cmp, is_eq}
 use Rattle.std.specs.Cmp.{tied_itself}
@@ -11,7 +13,7 @@ use Rattle.std.proofs.lemmas.Map.Lookups.{exact_signed}
 use Rattle.std.proofs.lemmas.List.Elements.{Contains-append_left, Contains-push, Contains-push_cases}
 use Rattle.wide_set.specs.declared.known.Settled.{Settled}
 use Rattle.wide_set.specs.declared.known.DoneAdd.{DoneAdd}
-use Rattle.wide_set.specs.Facts.{settled_with, put_add, is_told, done_with, AreTold}
+use Rattle.wide_set.specs.Facts.{Facts, settled_with, put_add, is_told, done_with, AreTold}
 
 is_equal : (o : Ordering) → is_eq o ≡ true → o ≡ Equal
 is_equal Less e = absurd (true≢false (sym e))
@@ -78,3 +80,19 @@ module _ (o : Option Settled) (done : List DoneAdd) (v : ℤ) (by : ℕ) where
       inr
       (λ e. inl (subst (λ b. Contains (cond b done (done ++ own ∷ [])) own) (sym e) (Contains-push done own)))
       (cases_Bool (is_told o))
+
+-- facts are the same where each of them is
+pub same_facts : (a b : Facts) → a.now ≡ b.now → a.pending ≡ b.pending → ((v : ℤ) → a.adds v ≡ b.adds v) → a.done ≡ b.done → a.answers ≡ b.answers → a ≡ b
+same_facts a b e f g h k = λ i. record { now = e i; pending = f i; adds = λ v. g v i; done = h i; answers = k i }
+
+pub not_true : (b : Bool) → not b ≡ true → b ≢ true
+not_true true e f = true≢false (sym e)
+not_true false e f = true≢false (sym f)
+
+pub is_not : (b : Bool) → b ≢ true → not b ≡ true
+is_not true n = absurd (n refl)
+is_not false n = refl
+
+pub from_ok : {T E : Type 0} (r : Result T E) (P : Type 0) → is_ok r ≡ true → OnOk r P → P
+from_ok (Ok x) P e h = h
+from_ok (Err y) P e h = absurd (true≢false (sym e))

@@ -13,7 +13,8 @@ use Rattle.values.proofs.PutIn.{put_in-member, put_in-not_found}
 use Rattle.std.proofs.lemmas.List.Elements.{Contains-get_or}
 use Rattle.wide_set.specs.declared.known.Pending.{Pending}
 use Rattle.wide_set.specs.declared.known.Call.TheVariants as calls
-use Rattle.wide_set.specs.Facts.{HasPendingAdd}
+use Rattle.wide_set.specs.declared.known.Settled.{Settled}
+use Rattle.wide_set.specs.Facts.{Facts, HasAdd, HasPendingAdd}
 use Rattle.wide_set.specs.Queries.{IsNoLater, earlier_of}
 use Rattle.wide_set.proofs.Loops.{with_here}
 
@@ -62,3 +63,23 @@ module _ (pending : List Pending) (but : ℕ) (v : ℤ) where
 
   pub same_least : (i : ℕ) (d : Pending) → i < length pending → (first : Option ℕ) → IsLeast i first → ¬ (((get_or pending i d).id ≢ but) × ((get_or pending i d).call ≡ calls.Add v)) → IsLeast (i + 1) first
   same_least i d lt first least none = with_here (λ (p : Pending). p.id ≢ but → p.call ≡ calls.Add v → IsNoLater first p.since) pending i d lt least (λ ne e. absurd (none (ne, e)))
+
+-- the first add of a value, where one cannot fail any more
+module _ (f : Facts) (but : ℕ) (v : ℤ) (s : Settled) (e : f.adds v ≡ Some s) where
+  pub settled_found : (first : Option ℕ) → IfSome first (λ m. HasPendingAdd f.pending but v m) → HasAdd f but v (earlier_of first s.since)
+  settled_found None i = inl (s, e, refl)
+  settled_found (Some m) i = ⊎_elim
+      (λ (lt : m < s.since). (let q : m ≡ min m s.since = omega arith in inr (subst (HasPendingAdd f.pending but v) q i)))
+      (λ (le : s.since ≤ m). inl (s, e, (let q : s.since ≡ min m s.since = omega arith in q)))
+      (cases_lt m s.since)
+
+  pub settled_least : (first : Option ℕ) → ((m : ℕ) → HasPendingAdd f.pending but v m → IsNoLater first m) → (m : ℕ) → HasAdd f but v m → earlier_of first s.since ≤ m
+  settled_least first least m h = ⊎_elim
+      (λ k.
+      let q : Some k.0 ≡ Some s = sym k.1 ∙ e in
+      let same : k.0 ≡ s = cc in
+      let r : s.since ≡ m = ap (λ (x : Settled). x.since) (sym same) ∙ k.2 in
+      let le : earlier_of first s.since ≤ s.since = earlier_than_new first s.since in
+      omega arith)
+      (λ p. earlier_than_old first s.since m (least m p))
+      h

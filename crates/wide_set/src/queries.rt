@@ -220,11 +220,11 @@ impl Known {
         ensures placed { AreNested self.now.answers.items → IsAnswered (facts_of self.now) but since members.now result }
         ensures ascending { IsAscending members.now }
     {
+        let these = members.as_slice();
         let place = place_of(&self.answers, members, since);
         if matches!(place, Place::Nowhere) {
             return place;
         }
-        let these = members.as_slice();
         let Some(latest) = self.raised_by_all(since, these, but) else {
             return Place::Nowhere;
         };
