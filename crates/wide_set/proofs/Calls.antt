@@ -4,8 +4,10 @@ use Rattle.std.specs.List.{Contains}
 use Rattle.models.specs.declared.operation.Name.{Name}
 use Rattle.models.specs.declared.operation.Name.TheVariants.{Read, Add}
 use Rattle.models.specs.declared.operation.Part.{Part}
-use Rattle.models.specs.declared.operation.Part.TheVariants.{Nil, Int}
+use Rattle.models.specs.declared.operation.Part.TheVariants.{Nil, Int, Pair, Set}
 use Rattle.models.specs.declared.operation.Op.{Op}
+use Rattle.models.specs.declared.finding.Answer.TheVariants.{Many}
+use Rattle.models.specs.Objects.{answer_of}
 use Rattle.events.specs.Events.{Mark}
 use Rattle.events.specs.Events.Mark.{Invoked, Returned, Failed, Crashed}
 use Rattle.linspec.specs.Operations.{HasReturned, IsOpen, IsInvoked}
@@ -35,6 +37,12 @@ by_adds op v a = ap (λ n. call_by n op.part) a.0 ∙ ap (call_by Add) a.1
 
 pub by_reads : (op : Op) → op.name ≡ Read → op.part ≡ Nil → call_by op.name op.part ≡ calls.Read
 by_reads op e f = ap (λ n. call_by n op.part) e ∙ ap (call_by Read) f
+
+pub answer_many : (part : Part) (members : List ℤ) → answer_of part ≡ Many members → part ≡ Set members
+answer_many Nil members e = cc
+answer_many (Int a) members e = cc
+answer_many (Pair a b) members e = cc
+answer_many (Set those) members e = let q : Many those ≡ Many members = e in let r : those ≡ members = cc in ap Set r
 
 module _ (f : Facts) (ms : List Mark) (facts : AreFacts f ms) where
   well : AreWellFormed ms

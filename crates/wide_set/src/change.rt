@@ -213,12 +213,19 @@ impl Known {
     fn after_fail(&self, id: u32) -> Change
         ensures { IsTakenBy (facts_of self.now) (Failed id) result }
     {
-        match pending_of(&self.pending, id) {
-            Some(Pending {
-                call: Call::Add(value),
-                ..
-            }) if !self.spares(id, &value) => Change::Dies,
-            _ => Change::Leaves(id),
+        let Some(call) = pending_of(&self.pending, id) else {
+            return Change::Leaves(id);
+        };
+        match &call.call {
+            Call::Add(value) => {
+                if self.spares(id, value) {
+                    Change::Leaves(id)
+                } else {
+                    Change::Dies
+                }
+            }
+            Call::Read => Change::Leaves(id),
+            Call::Other => Change::Leaves(id),
         }
     }
 
@@ -227,13 +234,13 @@ impl Known {
         ensures taken { IsTakenBy (facts_of self.now) (Crashed id) result }
         ensures lives { result ≢ Change.Dies }
     {
-        match pending_of(&self.pending, id) {
-            Some(Pending {
-                call: Call::Add(value),
-                since,
-                ..
-            }) => Change::Crashes(id, value, since),
-            _ => Change::Leaves(id),
+        let Some(call) = pending_of(&self.pending, id) else {
+            return Change::Leaves(id);
+        };
+        match call.call {
+            Call::Add(value) => Change::Crashes(id, value, call.since),
+            Call::Read => Change::Leaves(id),
+            Call::Other => Change::Leaves(id),
         }
     }
 
