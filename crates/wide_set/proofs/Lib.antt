@@ -13,3 +13,5 @@ pub mod Places
 pub mod Asking
 pub mod Taking
 pub mod Searching
+pub mod Beginning
+pub mod Prepared

@@ -7,6 +7,7 @@ use Rattle.models.specs.Objects.{answer_of}
 use Rattle.events.specs.Events.Mark.{Invoked, Returned, Failed, Crashed}
 use Rattle.wide_set.specs.declared.known.Call.TheVariants as calls
 use Rattle.wide_set.specs.declared.known.Pending.{Pending}
+use Rattle.wide_set.specs.declared.known.Answered.{Answered}
 use Rattle.wide_set.specs.declared.change.Change.TheVariants.{Dies, Invokes, Leaves, Adds, Crashes, Answers}
 use Rattle.wide_set.specs.Facts.{facts_of, AreSpared}
 use Rattle.wide_set.specs.Queries.{IsAnswered}
@@ -39,6 +40,6 @@ returns-in_ok-copy-in-Behind c reads h ms facts may =
     let f = facts_of c.args.self.now in
     let p = c.args.call.now in
     let m = c.in-Set.members in
-    let a = record { members = c.in_ok-copy-in-Behind.field-0; by = c.args.self.now.moment } in
+    let a : Answered = record { members = c.in_ok-copy-in-Behind.field-0; by = c.args.self.now.moment } in
     subst (λ (q : Part). IsTakenBy f (Returned p.id (answer_of q)) (Answers p.id c.in-Behind.at a)) (sym c.in-Set.is)
     (answered f p h reads m c.answer.ensures.ascending c.in-Behind.at a c.in_ok-copy-in-Behind.ensures refl (subst (IsAnswered f p.id p.since m) c.in-Behind.is (c.answer.ensures.placed facts.nested))) ms facts may
