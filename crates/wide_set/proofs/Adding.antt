@@ -1,23 +1,21 @@
 -- the facts after an add is done or has crashed
-use Rattle.std.proofs.Common.{◌≡◌, ◌≢◌, ℕ, ◌+◌, ◌≤◌, ◌<◌, ℤ, ◌⊎◌, inl, inr, ⊎_elim, Bool, true, false, Option, Some, List, [], ◌∷◌, ◌++◌, length, refl, sym, ap, ◌∙◌, subst, arith}
+use Rattle.std.proofs.Common.{◌≡◌, ℕ, ◌≤◌, ◌<◌, ℤ, ◌⊎◌, inl, inr, ⊎_elim, Bool, true, false, Option, Some, List, [], ◌∷◌, ◌++◌, length, refl, sym, ap, ◌∙◌, subst, arith}
 use Rattle.std.specs.List.{Contains}
 use Rattle.std.proofs.lemmas.List.Elements.{Contains-push, Contains-push_cases}
 use Rattle.models.specs.declared.operation.Op.{Op}
-use Rattle.models.specs.declared.operation.Name.TheVariants.{Read}
 use Rattle.models.specs.declared.finding.Answer.{Answer}
 use Rattle.models.specs.declared.finding.Answer.TheVariants.{Many}
 use Rattle.events.specs.Events.{Mark}
-use Rattle.events.specs.Events.Mark.{Invoked, Returned, Failed, Crashed}
-use Rattle.linspec.specs.Operations.{IsInvoked, IsOpen, HasReturned}
+use Rattle.events.specs.Events.Mark.{Invoked, Returned, Crashed}
 use Rattle.linspec.specs.MarkRule.{AreWellFormed}
-use Rattle.set_chains.specs.Chains.{IsAddOf, HasRead, IsChained}
+use Rattle.set_chains.specs.Chains.{IsAddOf, HasRead}
 use Rattle.set_chains.proofs.Once.{one_op}
 use Rattle.set_chains.proofs.Oks.{chained_after_ok_of_add}
 use Rattle.set_chains.proofs.Steps.{no_both, same_int_part}
 use Rattle.wide_set.specs.declared.known.Settled.{Settled}
 use Rattle.wide_set.specs.declared.known.DoneAdd.{DoneAdd}
 use Rattle.wide_set.specs.declared.known.Answered.{Answered}
-use Rattle.wide_set.specs.Facts.{StandsAt, CannotFail, AreAdds, AreDone, AreAnswers, AreTold, Facts, AreFacts, settled_with, put_add, is_told, done_with, with_crashed, with_done}
+use Rattle.wide_set.specs.Facts.{StandsAt, CannotFail, AreAdds, AreTold, Facts, AreFacts, settled_with, put_add, done_with, with_crashed, with_done}
 use Rattle.wide_set.proofs.Moments.{stands_below, stands_on, stands_last, stands_cases, stands_contains, invoked_at_once}
 use Rattle.wide_set.proofs.Putting.{same_value_or_not, put_same, put_other, no_later_than_new, no_later_than_old, new_or_old, was_done, told_done, stays_done, done_was, is_done_now}
 use Rattle.wide_set.proofs.Carrying.{kept, add_is, cannot_fail_is, add_was, stood, done_carried, answers_carried, invoked_before, pending_without}

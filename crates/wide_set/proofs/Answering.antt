@@ -1,5 +1,5 @@
 -- a read may answer these members exactly if they are in the chain and were added in time
-use Rattle.std.proofs.Common.{◌≡◌, ◌≢◌, ◌↔◌, ℕ, ◌≤◌, ℤ, ◌⊎◌, inl, inr, ⊎_elim, List, refl, sym, ap, ◌∙◌, subst, arith}
+use Rattle.std.proofs.Common.{◌≡◌, ◌≢◌, ℕ, ◌≤◌, ℤ, ◌⊎◌, inl, inr, ⊎_elim, List, sym, ap, ◌∙◌, subst, arith}
 use Rattle.std.specs.List.{Contains}
 use Rattle.models.specs.declared.operation.Name.TheVariants.{Read}
 use Rattle.models.specs.declared.operation.Part.TheVariants.{Nil}
@@ -8,19 +8,18 @@ use Rattle.models.specs.declared.finding.Answer.{Answer}
 use Rattle.models.specs.declared.finding.Answer.TheVariants.{Many}
 use Rattle.values.specs.Members.{IsAscending}
 use Rattle.events.specs.Events.{Mark}
-use Rattle.events.specs.Events.Mark.{Invoked, Returned, Failed}
-use Rattle.linspec.specs.Operations.{IsOpen, HasReturned, Precedes}
-use Rattle.linspec.specs.MarkRule.{AreWellFormed}
-use Rattle.set_chains.specs.Chains.{IsAddOf, HasRead, IsWithin, IsDoneAddBeyond, ComesAfter, MayAnswer}
+use Rattle.events.specs.Events.Mark.{Invoked, Returned}
+use Rattle.linspec.specs.Operations.{IsOpen}
+use Rattle.set_chains.specs.Chains.{IsAddOf, HasRead, IsWithin, IsDoneAddBeyond, MayAnswer}
 use Rattle.set_chains.proofs.Once.{one_op}
 use Rattle.set_chains.proofs.Steps.{no_both}
 use Rattle.wide_set.specs.declared.known.Call.TheVariants as calls
 use Rattle.wide_set.specs.declared.known.Pending.{Pending}
 use Rattle.wide_set.specs.declared.known.DoneAdd.{DoneAdd}
 use Rattle.wide_set.specs.declared.known.Answered.{Answered}
-use Rattle.wide_set.specs.Facts.{StandsAt, Facts, AreFacts, HasAdd, IsInChain, WereAdded}
+use Rattle.wide_set.specs.Facts.{StandsAt, Facts, AreFacts, IsInChain, WereAdded}
 use Rattle.wide_set.proofs.Moments.{stands_contains, stands_of, not_precedes, no_later}
-use Rattle.wide_set.proofs.Calls.{read_by, op_of, IsAdd, from_has_add, to_has_add}
+use Rattle.wide_set.proofs.Calls.{read_by, op_of, from_has_add, to_has_add}
 
 module _ (f : Facts) (ms : List Mark) (facts : AreFacts f ms) where
   -- a done add is known, or one of the same value that is no later; so is an answer

@@ -1,14 +1,14 @@
 -- what the greatest of the first adds says
-use Rattle.std.proofs.Common.{◌≡◌, ◌≢◌, ℕ, ◌≤◌, ◌<◌, ℤ, ◌⊎◌, inl, inr, ⊎_elim, Option, Some, None, List, length, take, drop, get_or, refl, sym, ap, ◌∙◌, subst, arith, IfSome}
+use Rattle.std.proofs.Common.{◌≡◌, ℕ, ◌≤◌, ◌<◌, ℤ, ⊎_elim, Some, None, List, length, take, drop, get_or, arith}
 use Rattle.std.specs.List.{Contains}
 use Rattle.std.proofs.lemmas.Bool.{cases_lt}
 use Rattle.wide_set.specs.declared.known.DoneAdd.{DoneAdd}
 use Rattle.wide_set.specs.declared.known.Answered.{Answered}
 use Rattle.wide_set.specs.declared.queries.Place.{Place}
 use Rattle.wide_set.specs.declared.queries.Place.TheVariants.{Nowhere, Known, Behind}
-use Rattle.wide_set.specs.Facts.{Facts, AreNested, HasAdd, WereAdded, IsSpared, AreSpared}
+use Rattle.wide_set.specs.Facts.{Facts, AreNested, HasAdd, WereAdded, AreSpared}
 use Rattle.wide_set.specs.Queries.{IsPlaced, IsAnswered, IsNoLater, IsRaisedByAll, HasBeyond, HasBefore}
-use Rattle.wide_set.proofs.Places.{in_left, in_right, left_or_right, first_is_in, from_first}
+use Rattle.wide_set.proofs.Places.{in_right, left_or_right, first_is_in, from_first}
 
 module _ (f : Facts) (but since : ℕ) (members : List ℤ) where
   pub none_added : IsRaisedByAll f but members since None → ¬ WereAdded f but since members

@@ -1,6 +1,5 @@
 -- a history without events
-use Rattle.std.proofs.Common.{◌≡◌, ℕ, ◌+◌, suc, ⊎_elim, List, [], ◌∷◌, ◌++◌, length, refl, ap, arith, length-append}
-use Rattle.events.specs.Events.{Mark}
+use Rattle.std.proofs.Common.{◌≡◌, ◌+◌, suc, [], ◌∷◌, ◌++◌, length, refl, ap, arith, length-append}
 use Rattle.linspec.specs.MarkRule.{AreWellFormed}
 use Rattle.linspec.proofs.Lists.{Contains-nil}
 use Rattle.set_chains.specs.Chains.{IsChained}

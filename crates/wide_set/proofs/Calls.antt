@@ -1,5 +1,5 @@
 -- operations by what they do
-use Rattle.std.proofs.Common.{◌≡◌, ◌≢◌, ℕ, ◌≤◌, ℤ, ◌⊎◌, inl, inr, ⊎_elim, Some, List, refl, sym, ap, ◌∙◌, subst, arith}
+use Rattle.std.proofs.Common.{◌≡◌, ◌≢◌, ℕ, ◌≤◌, ℤ, ◌⊎◌, inl, inr, ⊎_elim, List, refl, sym, ap, ◌∙◌, subst, arith}
 use Rattle.std.specs.List.{Contains}
 use Rattle.models.specs.declared.operation.Name.{Name}
 use Rattle.models.specs.declared.operation.Name.TheVariants.{Read, Add}
@@ -9,16 +9,14 @@ use Rattle.models.specs.declared.operation.Op.{Op}
 use Rattle.models.specs.declared.finding.Answer.TheVariants.{Many}
 use Rattle.models.specs.Objects.{answer_of}
 use Rattle.events.specs.Events.{Mark}
-use Rattle.events.specs.Events.Mark.{Invoked, Returned, Failed, Crashed}
-use Rattle.linspec.specs.Operations.{HasReturned, IsOpen, IsInvoked}
+use Rattle.events.specs.Events.Mark.{Invoked, Failed, Crashed}
+use Rattle.linspec.specs.Operations.{IsOpen, IsInvoked}
 use Rattle.linspec.specs.MarkRule.{AreWellFormed}
 use Rattle.linspec.proofs.Fates.{returned_or_not, crashed_or_not}
 use Rattle.set_chains.specs.Chains.{Adds, IsAddOf}
 use Rattle.set_chains.proofs.Once.{one_op, one_completion, returned_not_failed}
-use Rattle.wide_set.specs.declared.known.Call.{Call}
 use Rattle.wide_set.specs.declared.known.Call.TheVariants as calls
 use Rattle.wide_set.specs.declared.known.Pending.{Pending}
-use Rattle.wide_set.specs.declared.known.Settled.{Settled}
 use Rattle.wide_set.specs.Facts.{call_by, StandsAt, CannotFail, Facts, AreFacts, HasAdd}
 use Rattle.wide_set.proofs.Moments.{stands_contains, stands_of, invoked_at_once}
 

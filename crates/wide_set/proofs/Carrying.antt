@@ -1,5 +1,5 @@
 -- what is known stays known with one more mark, apart from what that mark says
-use Rattle.std.proofs.Common.{◌≡◌, ◌≢◌, ℕ, ◌≤◌, ◌<◌, ℤ, ◌⊎◌, inl, inr, ⊎_elim, Option, Some, List, [], ◌∷◌, ◌++◌, length, refl, sym, ap, ◌∙◌, subst, append_assoc, arith, nat_eq, not, true}
+use Rattle.std.proofs.Common.{◌≡◌, ◌≢◌, ℕ, ◌≤◌, ℤ, ◌⊎◌, inl, inr, ⊎_elim, Option, List, [], ◌∷◌, ◌++◌, length, refl, sym, ap, ◌∙◌, subst, append_assoc, nat_eq, not, true}
 use Rattle.std.specs.List.{Contains, filter}
 use Rattle.std.proofs.lemmas.List.Elements.{Contains-append_left, Contains-push, Contains-push_cases}
 use Rattle.std.proofs.lemmas.Bool.{cases_Bool, true≢false, eqb-true, eq-eqb, ne_eqb}
@@ -7,10 +7,10 @@ use Rattle.models.specs.declared.operation.Op.{Op}
 use Rattle.models.specs.declared.finding.Answer.{Answer}
 use Rattle.models.specs.declared.finding.Answer.TheVariants.{Many}
 use Rattle.events.specs.Events.{Mark}
-use Rattle.events.specs.Events.Mark.{Invoked, Returned, Failed, Crashed}
-use Rattle.linspec.specs.Operations.{IsInvoked, IsOpen, HasReturned}
+use Rattle.events.specs.Events.Mark.{Invoked, Returned}
+use Rattle.linspec.specs.Operations.{IsInvoked, IsOpen}
 use Rattle.linspec.specs.MarkRule.{id_of, IsNew, MayFollow, AreWellFormed}
-use Rattle.linspec.proofs.Open.{IsCompletion, no_invocation, was_open, stays_open, open_with_new, open_without_new, new_is_open}
+use Rattle.linspec.proofs.Open.{IsCompletion, was_open, stays_open, open_with_new, open_without_new, new_is_open}
 use Rattle.set_chains.specs.Chains.{IsAddOf, HasRead}
 use Rattle.set_chains.proofs.Once.{returned_invoked}
 use Rattle.wide_set.specs.declared.known.Pending.{Pending}

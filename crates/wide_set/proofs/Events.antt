@@ -1,33 +1,19 @@
 -- the facts after each event
-use Rattle.std.proofs.Common.{◌≡◌, ◌≢◌, ℕ, ◌+◌, ◌≤◌, ◌<◌, ℤ, ◌⊎◌, inl, inr, ⊎_elim, Bool, true, false, Option, Some, List, [], ◌∷◌, ◌++◌, length, take, drop, refl, sym, ap, ◌∙◌, subst, arith, length-append}
-use Rattle.std.specs.List.{Contains, filter, insert}
-use Rattle.std.proofs.lemmas.List.Elements.{Contains-append_left, Contains-append_right, Contains-append_cases, Contains-push, Contains-push_cases}
+use Rattle.std.proofs.Common.{◌≡◌, ℕ, ◌+◌, ℤ, ◌⊎◌, inl, inr, ⊎_elim, List, [], ◌∷◌, ◌++◌, length, refl, sym, ◌∙◌, subst, arith, length-append}
+use Rattle.std.specs.List.{Contains}
+use Rattle.std.proofs.lemmas.List.Elements.{Contains-append_left, Contains-push_cases}
 use Rattle.models.specs.declared.operation.Op.{Op}
-use Rattle.models.specs.declared.operation.Name.TheVariants.{Read}
-use Rattle.models.specs.declared.operation.Part.TheVariants.{Nil}
-use Rattle.models.specs.declared.finding.Answer.{Answer}
-use Rattle.models.specs.declared.finding.Answer.TheVariants.{Many}
 use Rattle.events.specs.Events.{Mark}
-use Rattle.events.specs.Events.Mark.{Invoked, Returned, Failed, Crashed}
-use Rattle.linspec.specs.Operations.{IsInvoked, IsOpen, HasReturned}
-use Rattle.linspec.specs.Orders.{Pairwise}
+use Rattle.events.specs.Events.Mark.{Invoked, Failed, Crashed}
+use Rattle.linspec.specs.Operations.{IsInvoked, IsOpen}
 use Rattle.linspec.specs.MarkRule.{AreWellFormed}
-use Rattle.linspec.proofs.Lists.{Contains-head, Contains-cons_cases, Pairwise-append, Pairwise-left, Pairwise-right, Pairwise-across, cut_at}
-use Rattle.set_chains.specs.Chains.{IsAddOf, HasRead, IsWithin, IsChained}
-use Rattle.set_chains.proofs.Once.{one_op, returned_invoked}
-use Rattle.set_chains.proofs.Steps.{no_both}
+use Rattle.linspec.proofs.Lists.{cut_at}
+use Rattle.set_chains.specs.Chains.{IsAddOf, IsChained}
+use Rattle.set_chains.proofs.Once.{returned_invoked}
 use Rattle.set_chains.proofs.Quiet.{quiet}
-use Rattle.wide_set.specs.declared.known.Call.{Call}
-use Rattle.wide_set.specs.declared.known.Call.TheVariants as calls
 use Rattle.wide_set.specs.declared.known.Pending.{Pending}
-use Rattle.wide_set.specs.declared.known.Settled.{Settled}
-use Rattle.wide_set.specs.declared.known.DoneAdd.{DoneAdd}
-use Rattle.wide_set.specs.declared.known.Answered.{Answered}
-use Rattle.wide_set.specs.Facts.{StandsAt, CannotFail, AreAdds, AreDone, AreAnswers, AreNested, AreTold, Facts, AreFacts, call_by, settled_with, put_add, done_with, with_invoked, without, with_crashed, with_done, with_answer, IsPlace}
-use Rattle.wide_set.proofs.Moments.{stands_below, stands_on, stands_last, stands_cases, stands_contains, invoked_at_once}
-use Rattle.wide_set.proofs.Calls.{op_of, adds_of_call}
-use Rattle.wide_set.proofs.Putting.{same_value_or_not, put_same, put_other, no_later_than_new, no_later_than_old, new_or_old, was_done, told_done, stays_done, done_was, is_done_now}
-use Rattle.wide_set.proofs.Carrying.{kept, add_is, cannot_fail_is, add_was, stood, adds_carried, done_carried, answers_carried, pending_without, pending_with}
+use Rattle.wide_set.specs.Facts.{CannotFail, Facts, AreFacts, call_by, with_invoked, without}
+use Rattle.wide_set.proofs.Carrying.{add_was, adds_carried, done_carried, answers_carried, pending_without, pending_with}
 
 pub one_more : (ms : List Mark) (m : Mark) (now : ℕ) → now ≡ length ms → now + 1 ≡ length (ms ++ m ∷ [])
 one_more ms m now e = let a : length (ms ++ m ∷ []) ≡ length ms + 1 = length-append ms (m ∷ []) in omega arith

@@ -1,20 +1,16 @@
 -- an open operation may fail exactly if each answer with the value that it puts in has another add in time
-use Rattle.std.proofs.Common.{◌≡◌, ◌≢◌, ℕ, ◌≤◌, ℤ, ◌⊎◌, inl, inr, ⊎_elim, List, refl, sym, ap, ◌∙◌, subst, arith}
+use Rattle.std.proofs.Common.{◌≡◌, ◌≢◌, ℕ, ◌≤◌, ℤ, inl, inr, ⊎_elim, List, sym, ◌∙◌, subst, arith}
 use Rattle.std.specs.List.{Contains}
-use Rattle.models.specs.declared.operation.Op.{Op}
 use Rattle.models.specs.declared.finding.Answer.{Answer}
 use Rattle.models.specs.declared.finding.Answer.TheVariants.{Many}
 use Rattle.events.specs.Events.{Mark}
-use Rattle.events.specs.Events.Mark.{Invoked, Returned, Failed}
-use Rattle.linspec.specs.Operations.{IsOpen, HasReturned, Precedes}
-use Rattle.set_chains.specs.Chains.{IsAddOf, HasRead, ComesWith, MayFail}
-use Rattle.wide_set.specs.declared.known.Call.{Call}
+use Rattle.events.specs.Events.Mark.{Returned, Failed}
+use Rattle.linspec.specs.Operations.{IsOpen, Precedes}
+use Rattle.set_chains.specs.Chains.{IsAddOf, MayFail}
 use Rattle.wide_set.specs.declared.known.Call.TheVariants as calls
 use Rattle.wide_set.specs.declared.known.Pending.{Pending}
-use Rattle.wide_set.specs.declared.known.DoneAdd.{DoneAdd}
-use Rattle.wide_set.specs.declared.known.Answered.{Answered}
-use Rattle.wide_set.specs.Facts.{StandsAt, Facts, AreFacts, HasAdd, IsSpared, AreSpared}
-use Rattle.wide_set.proofs.Moments.{stands_contains, stands_of, not_precedes, no_later}
+use Rattle.wide_set.specs.Facts.{StandsAt, Facts, AreFacts, HasAdd, AreSpared}
+use Rattle.wide_set.proofs.Moments.{not_precedes, no_later}
 use Rattle.wide_set.proofs.Calls.{call_of_add, adds_of_call, from_has_add, to_has_add}
 use Rattle.wide_set.proofs.Answering.{known_done, done_beyond, known_answer}
 

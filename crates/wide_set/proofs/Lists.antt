@@ -1,7 +1,7 @@
 -- lists that were filtered, and values that were put
-use Rattle.std.proofs.Common.{◌≡◌, ◌≢◌, ℕ, ◌⊎◌, inl, inr, ⊎_elim, Bool, true, false, cond, List, [], ◌∷◌, ◌++◌, sym, ap, ◌∙◌, subst}
+use Rattle.std.proofs.Common.{◌≡◌, Bool, true, cond, List, ◌∷◌, sym, subst}
 use Rattle.std.specs.List.{Contains, filter}
-use Rattle.std.proofs.lemmas.List.Elements.{Contains-append_left, Contains-append_right, All-contains, All-filter, All-contains_itself, filter_passes, filter-append}
+use Rattle.std.proofs.lemmas.List.Elements.{Contains-append_right, All-contains, All-filter, All-contains_itself, filter_passes, filter-append}
 use Rattle.linspec.proofs.Lists.{Contains-head, cut_at}
 
 module _ {X : Type 0} (p : X → Bool) (xs : List X) where

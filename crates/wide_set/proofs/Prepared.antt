@@ -1,5 +1,5 @@
 -- what an event is answered
-use Rattle.std.proofs.Common.{◌≡◌, ◌≢◌, ◌↔◌, ℕ, ◌⊎◌, inl, inr, ⊎_elim, Bool, true, false, not, Some, List, [], ◌∷◌, ◌++◌, IsTrue, refl, sym, ap, ◌∙◌, subst}
+use Rattle.std.proofs.Common.{◌≡◌, ◌≢◌, ◌↔◌, ℕ, ◌⊎◌, inl, inr, ⊎_elim, Bool, false, not, Some, List, [], ◌∷◌, ◌++◌, IsTrue, refl, sym, ap}
 use Rattle.std.proofs.lemmas.Bool.{true≢false}
 use Rattle.models.specs.declared.operation.Op.{Op}
 use Rattle.models.specs.Objects.{set_of_numbers}
@@ -8,7 +8,7 @@ use Rattle.events.specs.declared.event.EventKind.TheVariants.{Invoke, Ok, Fail, 
 use Rattle.events.specs.Events.{Mark, act_by, mark_by_act}
 use Rattle.events.specs.Events.Mark.{Invoked, Returned, Failed, Crashed}
 use Rattle.linspec.specs.Orders.{IsLinearizable}
-use Rattle.linspec.specs.MarkRule.{MayFollow, AreWellFormed}
+use Rattle.linspec.specs.MarkRule.{MayFollow}
 use Rattle.set_chains.proofs.Build.{linearizable_if_chained}
 use Rattle.set_chains.proofs.Quiet.{quiet}
 use Rattle.wide_set.specs.declared.change.Change.{Change}

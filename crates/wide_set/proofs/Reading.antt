@@ -1,5 +1,5 @@
 -- the facts after a read has answered
-use Rattle.std.proofs.Common.{◌≡◌, ◌≢◌, ℕ, ◌+◌, ◌≤◌, ◌<◌, ℤ, ◌⊎◌, inl, inr, ⊎_elim, List, [], ◌∷◌, ◌++◌, length, take, drop, refl, sym, ap, ◌∙◌, subst, arith}
+use Rattle.std.proofs.Common.{◌≡◌, ◌≢◌, ℕ, ◌≤◌, ◌<◌, ℤ, ◌⊎◌, inl, inr, ⊎_elim, List, [], ◌∷◌, ◌++◌, length, take, drop, sym, ap, ◌∙◌, subst, arith}
 use Rattle.std.specs.List.{Contains, insert}
 use Rattle.std.proofs.lemmas.List.{take-append-drop}
 use Rattle.std.proofs.lemmas.List.Elements.{Contains-append_left, Contains-append_right, Contains-append_cases, Contains-push, Contains-push_cases}
@@ -10,19 +10,18 @@ use Rattle.models.specs.declared.finding.Answer.{Answer}
 use Rattle.models.specs.declared.finding.Answer.TheVariants.{Many}
 use Rattle.values.specs.Members.{IsAscending}
 use Rattle.events.specs.Events.{Mark}
-use Rattle.events.specs.Events.Mark.{Invoked, Returned, Failed, Crashed}
-use Rattle.linspec.specs.Operations.{IsInvoked, IsOpen, HasReturned}
+use Rattle.events.specs.Events.Mark.{Invoked, Returned}
+use Rattle.linspec.specs.Operations.{IsInvoked}
 use Rattle.linspec.specs.Orders.{Pairwise}
 use Rattle.linspec.specs.MarkRule.{AreWellFormed}
 use Rattle.linspec.proofs.Lists.{Contains-head, Contains-tail, Contains-cons_cases, Pairwise-append, Pairwise-left, Pairwise-right, Pairwise-across}
-use Rattle.set_chains.specs.Chains.{IsAddOf, HasRead, IsWithin, IsChained}
+use Rattle.set_chains.specs.Chains.{IsAddOf, HasRead, IsChained}
 use Rattle.set_chains.proofs.Once.{one_op}
 use Rattle.set_chains.proofs.Steps.{no_both}
-use Rattle.wide_set.specs.declared.known.DoneAdd.{DoneAdd}
 use Rattle.wide_set.specs.declared.known.Answered.{Answered}
-use Rattle.wide_set.specs.Facts.{StandsAt, CannotFail, AreAnswers, Nests, AreNested, Facts, AreFacts, without, with_answer, IsPlace}
-use Rattle.wide_set.proofs.Moments.{stands_below, stands_on, stands_last}
-use Rattle.wide_set.proofs.Carrying.{kept, add_was, adds_carried, done_carried, answers_carried, pending_without}
+use Rattle.wide_set.specs.Facts.{StandsAt, CannotFail, Nests, AreNested, Facts, AreFacts, without, with_answer, IsPlace}
+use Rattle.wide_set.proofs.Moments.{stands_below, stands_last}
+use Rattle.wide_set.proofs.Carrying.{kept, adds_carried, done_carried, answers_carried, pending_without}
 use Rattle.wide_set.proofs.Events.{one_more, settled_invoked}
 
 -- what is in the chain with one more

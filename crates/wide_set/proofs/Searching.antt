@@ -1,5 +1,5 @@
 -- what searches of lists say
-use Rattle.std.proofs.Common.{◌≡◌, ◌≢◌, ◌↔◌, ℕ, suc, ◌+◌, ◌-◌, ◌≤◌, ◌<◌, ℤ, ◌⊎◌, inl, inr, ⊎_elim, Option, Some, None, Ok, Err, Result, List, [], ◌∷◌, ◌++◌, length, take, drop, get_or, min, IsTrue, refl, sym, ap, ◌∙◌, subst, arith, length-append, length-drop, IfSome}
+use Rattle.std.proofs.Common.{◌≡◌, ◌≢◌, ◌↔◌, ℕ, suc, ◌+◌, ◌-◌, ◌≤◌, ◌<◌, ℤ, inl, inr, ⊎_elim, Option, Some, None, Ok, Err, Result, List, ◌∷◌, ◌++◌, length, take, drop, get_or, min, IsTrue, refl, sym, ap, ◌∙◌, subst, arith, length-append, length-drop, IfSome}
 use Rattle.std.specs.List.{Contains, insert}
 use Rattle.std.specs.Result.{is_ok}
 use Rattle.std.specs.Ordering.{int_cmp}
@@ -10,7 +10,6 @@ use Rattle.std.proofs.lemmas.Cmp.{int_ranked}
 use Rattle.std.proofs.lemmas.List.{length-take}
 use Rattle.values.specs.Members.{IsAscending, put_in}
 use Rattle.values.proofs.PutIn.{put_in-member, put_in-not_found}
-use Rattle.std.proofs.lemmas.List.Elements.{Contains-get_or}
 use Rattle.wide_set.specs.declared.known.Pending.{Pending}
 use Rattle.wide_set.specs.declared.known.Call.TheVariants as calls
 use Rattle.wide_set.specs.declared.known.Settled.{Settled}

@@ -1,5 +1,5 @@
 -- what each event makes of the facts
-use Rattle.std.proofs.Common.{◌≡◌, ◌≢◌, ℕ, ℤ, ◌⊎◌, inl, inr, ⊎_elim, List, [], ◌∷◌, ◌++◌, refl, sym, ap, ◌∙◌, subst}
+use Rattle.std.proofs.Common.{◌≡◌, ◌≢◌, ℕ, ℤ, ⊎_elim, List, [], ◌∷◌, ◌++◌, sym, ◌∙◌, subst}
 use Rattle.std.specs.List.{Contains}
 use Rattle.std.proofs.lemmas.List.Elements.{Contains-push}
 use Rattle.models.specs.declared.operation.Op.{Op}
@@ -9,18 +9,15 @@ use Rattle.models.specs.Objects.{set_of_numbers}
 use Rattle.values.specs.Members.{IsAscending}
 use Rattle.events.specs.Events.{Mark}
 use Rattle.events.specs.Events.Mark.{Invoked, Returned, Failed, Crashed}
-use Rattle.linspec.specs.Operations.{IsOpen, HasReturned}
-use Rattle.linspec.specs.Orders.{IsLinearizable}
+use Rattle.linspec.specs.Operations.{IsOpen}
 use Rattle.linspec.specs.MarkRule.{MayFollow, AreWellFormed}
 use Rattle.linspec.proofs.Lists.{snoc_cut}
 use Rattle.linspec.proofs.Fronts.{IsLinearizable-append}
-use Rattle.set_chains.specs.Chains.{IsAddOf, HasRead, IsChained, MayAnswer, MayFail}
+use Rattle.set_chains.specs.Chains.{HasRead, IsChained, MayAnswer}
 use Rattle.set_chains.proofs.Once.{one_answer}
 use Rattle.set_chains.proofs.Legal.{chained_if_linearizable}
-use Rattle.set_chains.proofs.Build.{linearizable_if_chained}
 use Rattle.set_chains.proofs.OkOfRead.{chained_after_ok_of_read}
 use Rattle.set_chains.proofs.Quiet.{chained_after_fail}
-use Rattle.wide_set.specs.declared.known.Call.{Call}
 use Rattle.wide_set.specs.declared.known.Call.TheVariants as calls
 use Rattle.wide_set.specs.declared.known.Pending.{Pending}
 use Rattle.wide_set.specs.declared.known.Answered.{Answered}
@@ -29,9 +26,9 @@ use Rattle.wide_set.specs.declared.change.Change.{Change}
 use Rattle.wide_set.specs.declared.change.Change.TheVariants.{Dies, Invokes, Leaves, Adds, Crashes, Answers}
 use Rattle.wide_set.specs.Facts.{Facts, AreFacts, call_by, AreSpared}
 use Rattle.wide_set.specs.Queries.{IsAnswered}
-use Rattle.wide_set.specs.Kept.{IsDead, StandAfter, IsTakenBy}
+use Rattle.wide_set.specs.Kept.{IsDead, IsTakenBy}
 use Rattle.wide_set.proofs.Moments.{last_or_before}
-use Rattle.wide_set.proofs.Calls.{read_by, by_adds, by_reads, op_of, same_call, adds_of_call, call_of_add}
+use Rattle.wide_set.proofs.Calls.{read_by, by_reads, op_of, same_call, adds_of_call, call_of_add}
 use Rattle.wide_set.proofs.Answering.{fits, may_answer}
 use Rattle.wide_set.proofs.Failing.{others_may_fail, are_spared, may_fail}
 use Rattle.wide_set.proofs.Carrying.{invoked_was, add_was}

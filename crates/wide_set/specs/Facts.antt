@@ -1,5 +1,5 @@
 -- Invariant: what is kept of the history of a set, where the moment of a mark is how many marks come before it
-use Rattle.std.specs.Prelude.{◌≡◌, ◌≢◌, ◌↔◌, ℕ, ◌+◌, ◌<◌, ◌≤◌, ℤ, ◌⊎◌, Bool, true, false, not, nat_eq, Option, Some, None, List, [], ◌∷◌, ◌++◌, length, take, drop, min, cond, ◌||◌, if◌then◌else◌}
+use Rattle.std.specs.Prelude.{◌≡◌, ◌≢◌, ℕ, ◌+◌, ◌<◌, ◌≤◌, ℤ, ◌⊎◌, Bool, true, false, not, nat_eq, Option, Some, None, List, [], ◌∷◌, ◌++◌, length, take, drop, min, cond, ◌||◌, if◌then◌else◌}
 use Rattle.std.specs.List.{Contains, filter, insert}
 use Rattle.std.specs.Ordering.{int_cmp, is_eq}
 use Rattle.std.specs.BTreeMap.{get}
@@ -12,7 +12,7 @@ use Rattle.models.specs.declared.finding.Answer.{Answer}
 use Rattle.models.specs.declared.finding.Answer.TheVariants.{Many}
 use Rattle.values.specs.Members.{IsAscending}
 use Rattle.events.specs.Events.{Mark}
-use Rattle.events.specs.Events.Mark.{Invoked, Returned, Failed, Crashed}
+use Rattle.events.specs.Events.Mark.{Invoked, Returned, Crashed}
 use Rattle.linspec.specs.Operations.{HasReturned, IsOpen}
 use Rattle.linspec.specs.Orders.{Pairwise}
 use Rattle.linspec.specs.MarkRule.{AreWellFormed}

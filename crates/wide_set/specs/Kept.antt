@@ -1,5 +1,5 @@
 -- Invariant: changes of the facts, and the histories that facts with a change that is due stand for
-use Rattle.std.specs.Prelude.{◌≡◌, ℕ, Option, Some, None, List, [], ◌∷◌, ◌++◌}
+use Rattle.std.specs.Prelude.{Option, Some, None, List, [], ◌∷◌, ◌++◌}
 use Rattle.models.specs.Objects.{set_of_numbers}
 use Rattle.events.specs.Events.{Mark}
 use Rattle.linspec.specs.MarkRule.{MayFollow, AreWellFormed}

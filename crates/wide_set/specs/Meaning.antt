@@ -1,5 +1,5 @@
 -- Promise: what an event makes of the histories of a set that are stood for, and what it answers
-use Rattle.std.specs.Prelude.{◌≡◌, ◌↔◌, ℕ, Bool, IsTrue, List, [], ◌∷◌, ◌++◌, Result, IfOk, MatchResult}
+use Rattle.std.specs.Prelude.{◌↔◌, Bool, IsTrue, List, [], ◌∷◌, ◌++◌, Result, IfOk, MatchResult}
 use Rattle.std.specs.declared.alloc.AllocError.{AllocError}
 use Rattle.models.specs.Objects.{set_of_numbers}
 use Rattle.events.specs.Events.{Mark}

@@ -1,5 +1,5 @@
 -- Invariant: what is asked of the facts
-use Rattle.std.specs.Prelude.{◌≡◌, ◌≢◌, ℕ, ◌<◌, ◌≤◌, ℤ, ◌⊎◌, Option, Some, None, List, min}
+use Rattle.std.specs.Prelude.{◌≡◌, ℕ, ◌<◌, ◌≤◌, ℤ, ◌⊎◌, Option, Some, None, List, min}
 use Rattle.std.specs.List.{Contains}
 use Rattle.wide_set.specs.declared.known.DoneAdd.{DoneAdd}
 use Rattle.wide_set.specs.declared.known.Answered.{Answered}

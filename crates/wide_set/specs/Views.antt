@@ -1,11 +1,10 @@
 -- Promise: a set that is judged, seen as the histories that it stands for
-use Rattle.std.specs.Prelude.{Bool, true, false, Option, Some, None, List}
+use Rattle.std.specs.Prelude.{Bool, true, false, Option, Some, None}
 use Rattle.events.specs.declared.event.EventKind.{EventKind}
 use Rattle.events.specs.declared.event.EventKind.TheVariants.{Invoke, Ok, Fail, Info}
-use Rattle.events.specs.Events.{Mark}
 use Rattle.wide_set.specs.declared.change.Change.{Change}
 use Rattle.wide_set.specs.declared.judged.WideSet.{WideSet}
-use Rattle.wide_set.specs.Facts.{Facts, facts_of}
+use Rattle.wide_set.specs.Facts.{facts_of}
 use Rattle.wide_set.specs.Kept.{StandBy}
 use Rattle.wide_set.specs.Meaning.{SetView}
 

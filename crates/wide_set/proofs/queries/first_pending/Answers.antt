@@ -1,5 +1,4 @@
-use Rattle.std.proofs.Common.{◌≡◌, ◌≢◌, ℕ, ◌+◌, Some, sym, ap, ◌∙◌, subst, get_or, IfSome}
-use Rattle.std.specs.List.{Contains}
+use Rattle.std.proofs.Common.{◌≡◌, ◌≢◌, ◌+◌, Some, sym, ap, ◌∙◌, subst, get_or, IfSome}
 use Rattle.std.proofs.lemmas.Bool.{true≢false}
 use Rattle.std.proofs.lemmas.List.Elements.{Contains-get_or}
 use Rattle.wide_set.specs.declared.known.Pending.{Pending}

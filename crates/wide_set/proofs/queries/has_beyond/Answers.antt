@@ -1,4 +1,4 @@
-use Rattle.std.proofs.Common.{◌<◌, ◌≤◌, arith, sym, subst, length}
+use Rattle.std.proofs.Common.{◌<◌, arith, sym}
 use Rattle.std.specs.List.{Contains}
 use Rattle.std.proofs.lemmas.Bool.{true≢false}
 use Rattle.wide_set.specs.declared.known.DoneAdd.{DoneAdd}

@@ -1,6 +1,6 @@
 use Rattle.std.proofs.Common.{ℤ}
 use Rattle.std.specs.List.{Contains}
-use Rattle.wide_set.proofs.Loops.{with_here, of_all}
+use Rattle.wide_set.proofs.Loops.{with_here}
 use Rattle.wide_set.proofs.queries.is_within.Goals as goal
 
 pub loop-value-preserved : goal.loop-value-preserved

@@ -1,9 +1,9 @@
-use Rattle.std.proofs.Common.{◌≡◌, ◌≢◌, ℕ, ◌+◌, ◌-◌, ◌<◌, ◌≤◌, ℤ, List, length, take, drop, sym, ap, ◌∙◌, subst, arith}
+use Rattle.std.proofs.Common.{◌≡◌, ◌≢◌, ◌+◌, ◌-◌, ◌<◌, ◌≤◌, ℤ, List, length, take, drop, sym, ap, ◌∙◌, subst, arith}
 use Rattle.std.specs.List.{Contains}
 use Rattle.std.proofs.lemmas.Bool.{true≢false}
 use Rattle.set_chains.specs.Chains.{IsWithin}
 use Rattle.wide_set.specs.declared.known.Answered.{Answered}
-use Rattle.wide_set.specs.Facts.{AreNested, IsPlace}
+use Rattle.wide_set.specs.Facts.{IsPlace}
 use Rattle.wide_set.specs.Queries.{HasBefore}
 use Rattle.wide_set.proofs.Places.{rest, IsBelowAll, not_before, not_within_first, below_first, below_none, place_first, place_known, not_same, not_after_last, place_behind}
 use Rattle.wide_set.proofs.queries.place_of.Goals as goal

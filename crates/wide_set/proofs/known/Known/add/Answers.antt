@@ -1,8 +1,8 @@
-use Rattle.std.proofs.Common.{◌≡◌, ℤ, true, false, not, cond, Some, refl, sym, ap, ◌∙◌, subst, to_z, of_z, w64}
+use Rattle.std.proofs.Common.{◌≡◌, true, not, cond, Some, refl, ap, ◌∙◌, to_z, of_z, w64}
 use Rattle.std.specs.Ordering.{int_cmp, is_eq}
 use Rattle.std.specs.BTreeMap.{get, get_by, Updates}
 use Rattle.std.proofs.lemmas.Int.{to_z-of_z}
-use Rattle.wide_set.specs.Facts.{facts_of, settled_with, done_with}
+use Rattle.wide_set.specs.Facts.{settled_with, done_with}
 use Rattle.wide_set.proofs.Putting.{same_facts, from_ok}
 use Rattle.wide_set.proofs.known.Known.add.Goals as goal
 

@@ -1,4 +1,4 @@
-use Rattle.std.proofs.Common.{◌≡◌, ℤ, Some, None, List, sym, ◌∙◌, subst}
+use Rattle.std.proofs.Common.{ℤ, Some, None, List, sym, ◌∙◌, subst}
 use Rattle.std.proofs.lemmas.Bool.{true≢false}
 use Rattle.wide_set.specs.declared.known.Answered.{Answered}
 use Rattle.wide_set.specs.declared.known.DoneAdd.{DoneAdd}

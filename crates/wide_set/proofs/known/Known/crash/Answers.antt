@@ -1,8 +1,8 @@
-use Rattle.std.proofs.Common.{◌≡◌, ℤ, true, false, cond, Some, refl, sym, ap, ◌∙◌, subst, to_z, of_z, w64}
+use Rattle.std.proofs.Common.{◌≡◌, false, cond, Some, refl, ap, ◌∙◌, to_z, of_z, w64}
 use Rattle.std.specs.Ordering.{int_cmp, is_eq}
 use Rattle.std.specs.BTreeMap.{get, get_by}
 use Rattle.std.proofs.lemmas.Int.{to_z-of_z}
-use Rattle.wide_set.specs.Facts.{facts_of, settled_with}
+use Rattle.wide_set.specs.Facts.{settled_with}
 use Rattle.wide_set.proofs.Putting.{same_facts}
 use Rattle.wide_set.proofs.known.Known.crash.Goals as goal
 

@@ -1,6 +1,6 @@
 use Rattle.std.proofs.Common.{ℕ, ◌≤◌, sym, subst, IfSome}
 use Rattle.wide_set.specs.Facts.{facts_of, HasAdd, HasPendingAdd}
-use Rattle.wide_set.specs.Queries.{IsNoLater, earlier_of}
+use Rattle.wide_set.specs.Queries.{IsNoLater}
 use Rattle.wide_set.proofs.Searching.{settled_found, settled_least}
 use Rattle.wide_set.proofs.known.Known.first_add.Goals as goal
 

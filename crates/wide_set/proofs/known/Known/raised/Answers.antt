@@ -1,6 +1,6 @@
-use Rattle.std.proofs.Common.{◌≡◌, ℕ, ◌≤◌, ◌<◌, inl, inr, ⊎_elim, refl, sym, subst, arith, max}
+use Rattle.std.proofs.Common.{◌≡◌, ◌≤◌, ◌<◌, inl, inr, ⊎_elim, refl, sym, subst, arith, max}
 use Rattle.std.proofs.lemmas.Bool.{cases_lt}
-use Rattle.wide_set.specs.Facts.{facts_of, HasAdd}
+use Rattle.wide_set.specs.Facts.{facts_of}
 use Rattle.wide_set.specs.Queries.{IsRaised}
 use Rattle.wide_set.proofs.known.Known.raised.Goals as goal
 
