@@ -72,8 +72,12 @@ module _ (f : Facts) (are : AreNested f.answers) (but : ℕ) (v : ℤ) (at : ℕ
       pub spared : ¬ HasBefore (drop at f.answers) first → ¬ HasBeyond f.done a.members first → AreSpared f but v
       spared none beyond b h k = record {
         in_time = (first, found, ⊎_elim (λ (l : b.by < first). absurd (none (b, has_it b h k, l))) (λ (l : first ≤ b.by). l) (cases_lt b.by first));
-        before_done = λ d i o. (first, found, ⊎_elim
-            (λ (l : d.by < first). absurd (beyond (d, i, l, (λ c. o ((from_first f.answers are at a lt is b (has_it b h k)).0 d.value c)))))
-            (λ (l : first ≤ d.by). l)
-            (cases_lt d.by first));
+        before_done = λ d i o. (
+          first,
+          found,
+          ⊎_elim
+              (λ (l : d.by < first). absurd (beyond (d, i, l, (λ c. o ((from_first f.answers are at a lt is b (has_it b h k)).0 d.value c)))))
+              (λ (l : first ≤ d.by). l)
+              (cases_lt d.by first),
+        );
       }

@@ -111,7 +111,7 @@ module _ (ms : List Mark) (m : Mark) (completes : IsCompletion m) where
   pending_without pending are = record {
     is = λ p h. (let k = are.is p (was_in (is_other (id_of m)) pending p h) in (
       stays_open ms m completes p.id k.0 (not_same p.id (id_of m) (passes (is_other (id_of m)) pending p h)),
-      (k.1.0, stands_on ms (m ∷ []) p.since _ k.1.1, k.1.2)
+      (k.1.0, stands_on ms (m ∷ []) p.since _ k.1.1, k.1.2),
     ));
     all = λ id o. (let w = was_open ms m completes id o in let k = are.all id w.0 in (k.0, stays_in (is_other (id_of m)) pending k.0 k.1 (is_not_same k.0.id (id_of m) (λ e. w.1 (sym k.2 ∙ e))), k.2));
   }

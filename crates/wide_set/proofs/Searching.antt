@@ -29,11 +29,11 @@ found_or_not v xs (Ok i) is within found = ((λ t. (i, within, int_ranked (get_o
 found_or_not v xs (Err i) is within found = (
   (λ t. absurd (true≢false (sym t))),
   (λ h.
-  let e : insert xs i v ≡ put_in v xs = put_in-not_found v xs i is within found in
-  let f : put_in v xs ≡ xs = put_in-member v xs is h in
-  let g : length (insert xs i v) ≡ suc (length xs) = length-insert xs i v within in
-  let k : length (insert xs i v) ≡ length xs = ap length (e ∙ f) in
-  absurd (omega arith)),
+      let e : insert xs i v ≡ put_in v xs = put_in-not_found v xs i is within found in
+      let f : put_in v xs ≡ xs = put_in-member v xs is h in
+      let g : length (insert xs i v) ≡ suc (length xs) = length-insert xs i v within in
+      let k : length (insert xs i v) ≡ length xs = ap length (e ∙ f) in
+      absurd (omega arith)),
 )
 
 earlier_than_new : (first : Option ℕ) (n : ℕ) → earlier_of first n ≤ n

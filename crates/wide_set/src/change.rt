@@ -61,7 +61,12 @@ fn told(was: &Option<Settled>) -> bool
 }
 
 // Puts a value among the done ones.
-fn note_done(done: &mut Vec<DoneAdd>, was: &Option<Settled>, value: i64, by: u64) -> Result<(), AllocError>
+fn note_done(
+    done: &mut Vec<DoneAdd>,
+    was: &Option<Settled>,
+    value: i64,
+    by: u64,
+) -> Result<(), AllocError>
     ensures ok { OnOk result (done.new.items ≡ done_with was.now done.old.items value by) }
     ensures err { OnErr result (done.new.items ≡ done.old.items) }
 {

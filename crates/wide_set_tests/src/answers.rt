@@ -108,7 +108,10 @@ fn wide_set_answers(rt: HostRuntime) -> Result<(), Fail> {
     let alloc = rt.alloc();
     assert!(rt; judge(alloc, &STALE_READ)?, "stale read");
     assert!(rt; judge(alloc, &CROSSED_ANSWERS)?, "crossed answers");
-    assert!(rt; judge(alloc, &FAILED_ADD_WAS_READ)?, "a failed add was read");
+    assert!(rt;
+        judge(alloc, &FAILED_ADD_WAS_READ)?,
+        "a failed add was read"
+    );
     assert!(rt; judge(alloc, &ANOTHER_ADD_STAYS)?, "another add stays");
     assert!(rt; judge(alloc, &READ_BACKWARDS)?, "read backwards");
     assert!(rt; judge(alloc, &LATE_ANSWER)?, "late answer");

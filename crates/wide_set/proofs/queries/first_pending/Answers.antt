@@ -16,16 +16,18 @@ loop-call-preserved c =
     let i = c.loop-call.call-index in
     let but = c.args.but in
     let v = c.args.value.now in
-    elim c.if-adds.branch [ then-adds w ↦ (
-      let is : c.if-adds.first ≡ Some (earlier_of c.loop-call.first (get_or ps i _).since) = w.first-is ∙ ap Some w.earlier.ensures in
-      record {
-        found = subst (λ o. IfSome o (λ m. HasPendingAdd ps but v m)) (sym is) (next_found ps but v (get_or ps i _) (Contains-get_or ps i _ c.loop-call-test.true) (c.adds.ensures.0 w.if-adds.true) c.loop-call.first c.loop-call.invariant.found);
-        least = subst (IsLeast ps but v (i + 1)) (sym is) (next_least ps but v i _ c.loop-call-test.true c.loop-call.first c.loop-call.invariant.least);
-      })
-    | else-adds w ↦ record {
-      found = subst (λ o. IfSome o (λ m. HasPendingAdd ps but v m)) (sym w.first-is) c.loop-call.invariant.found;
-      least = subst (IsLeast ps but v (i + 1)) (sym w.first-is) (same_least ps but v i _ c.loop-call-test.true c.loop-call.first c.loop-call.invariant.least (λ h. true≢false (sym (c.adds.ensures.1 h) ∙ w.if-adds.false)));
-    } ]
+    elim c.if-adds.branch [
+      | then-adds w ↦ (
+          let is : c.if-adds.first ≡ Some (earlier_of c.loop-call.first (get_or ps i _).since) = w.first-is ∙ ap Some w.earlier.ensures in
+          record {
+            found = subst (λ o. IfSome o (λ m. HasPendingAdd ps but v m)) (sym is) (next_found ps but v (get_or ps i _) (Contains-get_or ps i _ c.loop-call-test.true) (c.adds.ensures.0 w.if-adds.true) c.loop-call.first c.loop-call.invariant.found);
+            least = subst (IsLeast ps but v (i + 1)) (sym is) (next_least ps but v i _ c.loop-call-test.true c.loop-call.first c.loop-call.invariant.least);
+          })
+      | else-adds w ↦ record {
+        found = subst (λ o. IfSome o (λ m. HasPendingAdd ps but v m)) (sym w.first-is) c.loop-call.invariant.found;
+        least = subst (IsLeast ps but v (i + 1)) (sym w.first-is) (same_least ps but v i _ c.loop-call-test.true c.loop-call.first c.loop-call.invariant.least (λ h. true≢false (sym (c.adds.ensures.1 h) ∙ w.if-adds.false)));
+      }
+    ]
 
 pub returns-clause-found : goal.returns-clause-found
 returns-clause-found c = c.loop-call.invariant.found

@@ -46,9 +46,11 @@ returns-then-at-eq0 c nested =
     let more : (a : Answered) → Contains (drop at xs) a → length m < length a.members = subst (λ (l : List ℤ). (a : Answered) → Contains (drop at xs) a → length l < length a.members) tv c.first_longer-at.ensures.more in
     let fewer : (a : Answered) → Contains (take at xs) a → length a.members ≤ length m = subst (λ (l : List ℤ). (a : Answered) → Contains (take at xs) a → length a.members ≤ length l) tv (c.first_longer-at.ensures.fewer nested) in
     let none : ¬ HasBefore (drop at xs) since = λ h. true≢false (sym (c.has_before.ensures.1 (subst (λ (l : List Answered). HasBefore l since) (sym (rest xs at)) h)) ∙ c.if-has_before.false) in
-    let below : IsBelowAll xs nested m asc since at more fewer = elim c.else-at-answers.branch [ else-at-answers-via-then-at-answers+else-not-is_within w ↦ below_first xs nested m asc since at more fewer none w.index-answers-at.result w.if-at-answers.true w.index-answers-at.is
-        (subst (λ l. IsWithin l w.index-answers-at.result.members) tv (subst (IsWithin c.as_slice-these.result.now) (w.as_slice.ensures.value ∙ ap (λ (x : Answered). x.members) (sym w.index-answers-at.is)) (w.is_within.ensures.0 w.if-not-is_within.false)))
-        | else-at-answers-via-else-at-answers w ↦ below_none xs nested m asc since at more fewer none w.if-at-answers.false ] in
+    let below : IsBelowAll xs nested m asc since at more fewer = elim c.else-at-answers.branch [
+      | else-at-answers-via-then-at-answers+else-not-is_within w ↦ below_first xs nested m asc since at more fewer none w.index-answers-at.result w.if-at-answers.true w.index-answers-at.is
+          (subst (λ l. IsWithin l w.index-answers-at.result.members) tv (subst (IsWithin c.as_slice-these.result.now) (w.as_slice.ensures.value ∙ ap (λ (x : Answered). x.members) (sym w.index-answers-at.is)) (w.is_within.ensures.0 w.if-not-is_within.false)))
+      | else-at-answers-via-else-at-answers w ↦ below_none xs nested m asc since at more fewer none w.if-at-answers.false
+    ] in
     let k = place_first xs nested m asc since at more fewer c.if-at-eq0.true below in
     (k.0, subst (λ n. IsPlace xs n m) c.if-at-eq0.true k.1)
 
@@ -63,9 +65,11 @@ returns-then-same c nested =
     let more : (a : Answered) → Contains (drop at xs) a → length m < length a.members = subst (λ (l : List ℤ). (a : Answered) → Contains (drop at xs) a → length l < length a.members) tv c.first_longer-at.ensures.more in
     let fewer : (a : Answered) → Contains (take at xs) a → length a.members ≤ length m = subst (λ (l : List ℤ). (a : Answered) → Contains (take at xs) a → length a.members ≤ length l) tv (c.first_longer-at.ensures.fewer nested) in
     let none : ¬ HasBefore (drop at xs) since = λ h. true≢false (sym (c.has_before.ensures.1 (subst (λ (l : List Answered). HasBefore l since) (sym (rest xs at)) h)) ∙ c.if-has_before.false) in
-    let below : IsBelowAll xs nested m asc since at more fewer = elim c.else-at-answers.branch [ else-at-answers-via-then-at-answers+else-not-is_within w ↦ below_first xs nested m asc since at more fewer none w.index-answers-at.result w.if-at-answers.true w.index-answers-at.is
-        (subst (λ l. IsWithin l w.index-answers-at.result.members) tv (subst (IsWithin c.as_slice-these.result.now) (w.as_slice.ensures.value ∙ ap (λ (x : Answered). x.members) (sym w.index-answers-at.is)) (w.is_within.ensures.0 w.if-not-is_within.false)))
-        | else-at-answers-via-else-at-answers w ↦ below_none xs nested m asc since at more fewer none w.if-at-answers.false ] in
+    let below : IsBelowAll xs nested m asc since at more fewer = elim c.else-at-answers.branch [
+      | else-at-answers-via-then-at-answers+else-not-is_within w ↦ below_first xs nested m asc since at more fewer none w.index-answers-at.result w.if-at-answers.true w.index-answers-at.is
+          (subst (λ l. IsWithin l w.index-answers-at.result.members) tv (subst (IsWithin c.as_slice-these.result.now) (w.as_slice.ensures.value ∙ ap (λ (x : Answered). x.members) (sym w.index-answers-at.is)) (w.is_within.ensures.0 w.if-not-is_within.false)))
+      | else-at-answers-via-else-at-answers w ↦ below_none xs nested m asc since at more fewer none w.if-at-answers.false
+    ] in
     let before = at - 1 in
     let last = c.index-answers-at-2.result in
     let within : at ≤ length xs = c.first_longer-at.ensures.within in
@@ -108,9 +112,11 @@ returns-then-is_within c nested =
     let more : (a : Answered) → Contains (drop at xs) a → length m < length a.members = subst (λ (l : List ℤ). (a : Answered) → Contains (drop at xs) a → length l < length a.members) tv c.first_longer-at.ensures.more in
     let fewer : (a : Answered) → Contains (take at xs) a → length a.members ≤ length m = subst (λ (l : List ℤ). (a : Answered) → Contains (take at xs) a → length a.members ≤ length l) tv (c.first_longer-at.ensures.fewer nested) in
     let none : ¬ HasBefore (drop at xs) since = λ h. true≢false (sym (c.has_before.ensures.1 (subst (λ (l : List Answered). HasBefore l since) (sym (rest xs at)) h)) ∙ c.if-has_before.false) in
-    let below : IsBelowAll xs nested m asc since at more fewer = elim c.else-at-answers.branch [ else-at-answers-via-then-at-answers+else-not-is_within w ↦ below_first xs nested m asc since at more fewer none w.index-answers-at.result w.if-at-answers.true w.index-answers-at.is
-        (subst (λ l. IsWithin l w.index-answers-at.result.members) tv (subst (IsWithin c.as_slice-these.result.now) (w.as_slice.ensures.value ∙ ap (λ (x : Answered). x.members) (sym w.index-answers-at.is)) (w.is_within.ensures.0 w.if-not-is_within.false)))
-        | else-at-answers-via-else-at-answers w ↦ below_none xs nested m asc since at more fewer none w.if-at-answers.false ] in
+    let below : IsBelowAll xs nested m asc since at more fewer = elim c.else-at-answers.branch [
+      | else-at-answers-via-then-at-answers+else-not-is_within w ↦ below_first xs nested m asc since at more fewer none w.index-answers-at.result w.if-at-answers.true w.index-answers-at.is
+          (subst (λ l. IsWithin l w.index-answers-at.result.members) tv (subst (IsWithin c.as_slice-these.result.now) (w.as_slice.ensures.value ∙ ap (λ (x : Answered). x.members) (sym w.index-answers-at.is)) (w.is_within.ensures.0 w.if-not-is_within.false)))
+      | else-at-answers-via-else-at-answers w ↦ below_none xs nested m asc since at more fewer none w.if-at-answers.false
+    ] in
     let before = at - 1 in
     let last = c.index-answers-at-2.result in
     let within : at ≤ length xs = c.first_longer-at.ensures.within in
