@@ -302,9 +302,9 @@ def time_used(process):
     return (int(fields[11]) + int(fields[12])) / os.sysconf("SC_CLK_TCK")
 
 
-def run_stopped(terminal, pause):
+def run_stopped(terminal, pause, tries=20):
     """A run of clients that is stopped for so long on its way, standard error a terminal or a pipe: what went to standard error,
-    and the last line of the report."""
+    and the last line of the report. A run that a busy machine let end before it was stopped is tried again."""
     words = "run --ops 100000 --keys 64 --concurrency 8".split()
     shown, errors = os.openpty() if terminal else os.pipe()
     process = subprocess.Popen([str(PROGRAM), *words], stdin=subprocess.DEVNULL, stdout=subprocess.PIPE, stderr=errors)
@@ -312,10 +312,12 @@ def run_stopped(terminal, pause):
     while time_used(process) < 0.1 and process.poll() is None:
         time.sleep(0.005)
     process.send_signal(signal.SIGSTOP)
-    time.sleep(pause)
+    has_ended = process.poll() is not None
+    time.sleep(0 if has_ended else pause)
     process.send_signal(signal.SIGCONT)
     written = process.communicate(timeout=60)[0]
-    return all_shown(shown), written.splitlines()[-1:]
+    said = all_shown(shown)
+    return run_stopped(terminal, pause, tries - 1) if has_ended and tries > 1 else (said, written.splitlines()[-1:])
 
 
 def run_run_progress():
