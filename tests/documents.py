@@ -19,7 +19,8 @@ import tempfile
 
 TOP = pathlib.Path(__file__).resolve().parent.parent
 from program import PROGRAM  # noqa: E402
-DOCUMENTS = ["README.md", "docs/GUIDE.md", "docs/FORMATS.md", "docs/ADDING.md"]
+GUIDE = sorted(str(page.relative_to(TOP)) for page in TOP.glob("docs/guide/*.md"))
+DOCUMENTS = ["README.md", "docs/GUIDE.md", *GUIDE, "docs/READING_PROOFS.md", "docs/FORMATS.md", "docs/ADDING.md"]
 TOOLS = ["judge", "shards", "explain", "from-jepsen", "from-json", "test"]
 MARK = "\x1e"
 COMMAND = re.compile(r"(\$ |\./|jepmon |examples/\S+ |python3 )")

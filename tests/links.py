@@ -3,12 +3,14 @@
 is as its first lines say: its index has each heading once, in order and in the same words, with an answer, and an entry has at most 120
 words, link targets left out, and says why not the other way and what would change it (tables after an entry are not counted).
 
-Prints what is wrong, and ends with 'N passed, M failed', one for each document and one for the decisions."""
+The drawing of the layers in docs/ARCHITECTURE.md is that of crates.txt. Prints what is wrong, and ends with 'N passed, M failed', one for each document, one for the decisions and one for the layers."""
 import pathlib
 import re
 import subprocess
 import sys
 from typing import Dict, Iterator, List, Set, Tuple
+
+import layers
 
 TOP = pathlib.Path(__file__).resolve().parent.parent
 DECISIONS = TOP / "docs" / "DECISIONS.md"
@@ -113,6 +115,7 @@ def main() -> int:
     files = [TOP / name for name in listed.split("\0") if name] or [TOP / "README.md", TOP / "CHANGELOG.md", *sorted((TOP / "docs").glob("*.md"))]
     results = [(str(file.relative_to(TOP)), broken(file)) for file in files if file.exists()]
     results.append(("docs/DECISIONS.md", of_decisions()))
+    results.append(("docs/ARCHITECTURE.md", layers.faults()))
     for name, faults in results:
         for fault in faults:
             print(f"{name}: {fault}")

@@ -45,7 +45,8 @@ class Tree:
             (self.top / "crates" / name / "src" / "lib.rt").write_text(f"//! {name}\n")
         (self.top / "crates.txt").write_text("# crates\nlow:\njepmon: low\ntests: jepmon\n")
         (self.top / "HANDLES").write_text("Handles allowed: none.\n")
-        (self.top / "README.md").write_text(f"`{TOOLCHAIN}`\n")
+        (self.top / "docs").mkdir()
+        (self.top / "docs" / "PROOFS.md").write_text(f"`{TOOLCHAIN}`\n")
         shutil.copy(TOP / "jepmon", self.top / "jepmon")
         self.bin.mkdir()
         self.temporary.mkdir()
@@ -214,7 +215,7 @@ def run_install() -> List[str]:
     with tree() as made:
         faults = came(made.run("install", "to/bin"), "", "installed to/bin/jepmon", 0)
         faults += differing("what was installed", (made.top / "to" / "bin" / "jepmon").read_text(), RELEASED)
-        faults += came(made.run("install", "README.md"), "", "README.md is no folder, and can't be made one", 3)
+        faults += came(made.run("install", "crates.txt"), "", "crates.txt is no folder, and can't be made one", 3)
         return (faults + came(made.run("install"), "", "install takes a folder: ./jepmon install ~/.local/bin", 3)
                 + came(made.run("build", "it"), "", "build takes no words", 3) + came(made.run("origin", "it"), "", "origin takes no words", 3))
 

@@ -1,8 +1,8 @@
 """Walks through the events of one key, and keeps what can be after each: its ends.
 
 An end is what one possible order of the operations leaves: the state, the open operations that have taken place in it, with what
-each found, and the timed-out ones that have (but reads, which decide nothing). The words are those of docs/GUIDE.md, "Budgets and
-unknown". Where no end goes on the key is dead; where an ok meets more ends than the budget it is over. The proved program says
+each found, and the timed-out ones that have (but reads, which decide nothing). The words are those of docs/guide/BUDGETS.md.
+Where no end goes on the key is dead; where an ok meets more ends than the budget it is over. The proved program says
 both, and this walk must say the same: it is there to show what the program only counts. It is tested against the program, and not
 proved. Where it would take too long it gives up, and then nothing that it has found may be shown.
 

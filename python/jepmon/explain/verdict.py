@@ -92,7 +92,7 @@ def of_many_ends(of_key: Sequence[Event]) -> Iterator[str]:
         yield (f"{completed.count('enqueue')} enqueues and {completed.count('dequeue')} dequeues had completed; "
                "of a queue the backlog counts too:")
         yield "let the queue be shorter, let fewer consumers wait on it and fewer producers send at once, or split it into several"
-        yield "keys; or raise --budget (GUIDE, Budgets and unknown, has how much a queue may hold)"
+        yield "keys; or raise --budget (docs/guide/BUDGETS.md has how much a queue may hold)"
     else:
         yield "raise --budget, let fewer clients use a key, or let writes go on with a new key after some timeouts, while reads stay"
 

@@ -27,7 +27,7 @@ class Limits(NamedTuple):
 
 
 class Room(NamedTuple):
-    """Of one object, for the default budget (docs/GUIDE.md, Budgets)."""
+    """Of one object, for the default budget (docs/guide/BUDGETS.md)."""
 
     timeouts: int  # after so many operations that timed out, and may yet take place, it is written to no more
     at_once: int  # operations that are open, or have timed out

@@ -1,0 +1,156 @@
+-- ends that are at most another one may be left out
+use Rattle.std.proofs.Common.{◌≡◌, ◌≢◌, ◌↔◌, ℕ, ℤ, inl, inr, ⊎_elim, Bool, true, false, IsTrue, Option, List, [], ◌∷◌, ◌++◌, length, ◌≤◌, refl, sym, ap, ◌∙◌, subst, append_assoc, arith}
+use Rattle.std.proofs.lemmas.List.{append-nil}
+use Rattle.std.specs.List.{Contains}
+use Rattle.models.specs.Objects.{register}
+use Rattle.events.specs.Events.{Mark}
+use Rattle.linspec.specs.MarkRule.{AreWellFormed}
+use Rattle.linspec.specs.Operations.{IsOpen}
+use Rattle.linspec.specs.Orders.{Taken, IsLinearizable, Pairwise}
+use Rattle.linspec.proofs.Counts.{no_longer_than}
+use Rattle.linspec.proofs.Lists.{Contains-nil, Contains-head, Contains-cons_cases, Pairwise-weaker}
+use Rattle.lean_ends.specs.LeanEnds.{LeanEnd, start, IsAtMost, AreLeftBy, AreLeftByAll, AreLeanEnds}
+use Rattle.lean_ends.proofs.Covers.{Extra, Covers}
+use Rattle.lean_ends.proofs.Complete.{AreComplete, complete_after, at_first}
+use Rattle.lean_ends.proofs.Sound.{IsLeft, left_after, left_at_first}
+
+-- the greater end stands for as many orders
+module _ (marks : List Mark) (e f : LeanEnd) (order : List Taken) (t : Option ℤ) (most : IsAtMost marks e f) where
+  extra_open : (x : ℕ) (v : ℤ) → Extra marks f order x v → IsOpen marks x → Extra marks e order x v
+  extra_open x v k o = record { is_in = k.is_in; may = k.may; free = λ n. k.free (most.open_ones x n o) }
+
+  extra_more : (x : ℕ) (v : ℤ) → Extra marks e order x v → Extra marks f order x v
+  extra_more x v k = record { is_in = k.is_in; may = k.may; free = λ n. k.free (most.needed x n) }
+
+  pub covers_at_most : Covers marks e order t → Covers marks f order t
+  covers_at_most c = record {
+    needed = λ i n. c.needed i (most.needed i n);
+    how = ⊎_elim
+      (λ s. inl (record {
+        state = s.state ∙ most.state;
+        placed = λ x v k o. most.door x (s.placed x v (extra_open x v k o) o);
+        finds = λ r v m g. ⊎_elim (λ h. inl (most.finds r v h)) (λ j. inr (j.0, extra_more j.0 v j.1, most.door j.0 j.2, most.door r j.3)) (s.finds r v m g);
+      }))
+      (λ b. inr (record {
+        last = (b.last.0, b.last.1, extra_more b.last.0 b.last.1 b.last.2, b.last.3);
+        finds = λ r v m g. ⊎_elim (λ h. inl (most.finds r v h)) (λ j. inr (j.0, extra_more j.0 v j.1)) (b.finds r v m g);
+      }))
+      c.how;
+  }
+
+module _ (marks : List Mark) (m : Mark) (ends left : List LeanEnd) (by : AreLeftBy marks m ends left) where
+  pub complete_left : AreWellFormed (marks ++ m ∷ []) → AreComplete marks (Contains ends) → AreComplete (marks ++ m ∷ []) (Contains left)
+  complete_left well c order t l =
+      let k = complete_after marks (Contains ends) c m well order t l in
+      let g = by.all k.1.0 k.0 k.1.1 k.1.2 in
+      (g.0, g.1, covers_at_most (marks ++ m ∷ []) k.0 g.0 order t g.2 k.2)
+
+  pub sound_left : AreWellFormed (marks ++ m ∷ []) → ((e : LeanEnd) → Contains ends e → IsLeft marks e) → (f : LeanEnd) → Contains left f → IsLeft (marks ++ m ∷ []) f
+  sound_left well s f h = let k = by.each f h in left_after marks m k.0 f well (s k.0 k.1) k.2
+
+front : (before : List Mark) (m : Mark) (more : List Mark) → AreWellFormed (before ++ m ∷ more) → AreWellFormed (before ++ m ∷ [])
+front before m more w xs ys n cut = w xs (ys ++ more) n (sym (append_assoc xs (n ∷ ys) more) ∙ ap (λ l. l ++ more) cut ∙ append_assoc before (m ∷ []) more)
+
+complete_left_by : (before more : List Mark) (ends left : List LeanEnd) → AreWellFormed (before ++ more) → AreLeftByAll before ends more left → AreComplete before (Contains ends) → AreComplete (before ++ more) (Contains left)
+complete_left_by before [] ends left well by c = subst (λ ms. AreComplete ms (Contains left)) (sym (append-nil before)) (subst (λ l. AreComplete before (Contains l)) by c)
+complete_left_by before (m ∷ more) ends left well by c =
+    let e : (before ++ m ∷ []) ++ more ≡ before ++ m ∷ more = append_assoc before (m ∷ []) more in
+    subst (λ ms. AreComplete ms (Contains left)) e
+    (complete_left_by (before ++ m ∷ []) more by.0 left (subst AreWellFormed (sym e) well) by.2 (complete_left before m ends by.0 by.1 (front before m more well) c))
+
+sound_left_by : (before more : List Mark) (ends left : List LeanEnd) → AreWellFormed (before ++ more) → AreLeftByAll before ends more left → ((e : LeanEnd) → Contains ends e → IsLeft before e)
+    → (f : LeanEnd) → Contains left f → IsLeft (before ++ more) f
+sound_left_by before [] ends left well by s f h = subst (λ ms. IsLeft ms f) (sym (append-nil before)) (s f (subst (λ l. Contains l f) (sym by) h))
+sound_left_by before (m ∷ more) ends left well by s f h =
+    let e : (before ++ m ∷ []) ++ more ≡ before ++ m ∷ more = append_assoc before (m ∷ []) more in
+    subst (λ ms. IsLeft ms f) e
+    (sound_left_by (before ++ m ∷ []) more by.0 left (subst AreWellFormed (sym e) well) by.2 (sound_left before m ends by.0 by.1 (front before m more well) s) f h)
+
+only_start : (e : LeanEnd) → Contains (start ∷ []) e → start ≡ e
+only_start e h = ⊎_elim (λ q. q) (λ k. absurd (Contains-nil e k)) (Contains-cons_cases start [] e h)
+
+pub some_is_left : (marks : List Mark) (ends : List LeanEnd) → AreWellFormed marks → AreLeanEnds marks ends → IsLinearizable register marks ↔ ((e : LeanEnd) × Contains ends e)
+some_is_left marks ends well are = (
+  (λ lin. (let k = complete_left_by [] marks (start ∷ []) ends well are
+      (λ order t l. (let f = at_first order t l in (f.0, subst (Contains (start ∷ [])) (sym f.1) (Contains-head start []), f.2)))
+      lin.0 lin.1 lin.2 in (k.0, k.1))),
+  (λ k. (let o = sound_left_by [] marks (start ∷ []) ends well are (λ e h. subst (IsLeft []) (only_start e h) left_at_first) k.0 k.1 in (o.0, o.1, o.2.legal))),
+)
+
+-- two ends that are at most each other are the same
+same_bool : (a b : Bool) → (IsTrue a → IsTrue b) → (IsTrue b → IsTrue a) → a ≡ b
+same_bool true b f g = sym (f refl)
+same_bool false true f g = g refl
+same_bool false false f g = refl
+
+pub at_most_each_other : (marks : List Mark) (e f : LeanEnd) → IsAtMost marks e f → IsAtMost marks f e → e ≡ f
+at_most_each_other marks e f a b = λ i. record {
+  state = a.state i;
+  needed = λ j. same_bool (e.needed j) (f.needed j) (b.needed j) (a.needed j) i;
+  door = λ j. same_bool (e.door j) (f.door j) (a.door j) (b.door j) i;
+  finds = λ r w. same_bool (e.finds r w) (f.finds r w) (a.finds r w) (b.finds r w) i;
+}
+
+pub at_most_itself : (marks : List Mark) (e : LeanEnd) → IsAtMost marks e e
+at_most_itself marks e = record { state = refl; needed = λ i n. n; open_ones = λ i n o. n; door = λ i d. d; finds = λ r w h. h }
+
+at_most_then : (marks : List Mark) (e f g : LeanEnd) → IsAtMost marks e f → IsAtMost marks f g → IsAtMost marks e g
+at_most_then marks e f g a b = record {
+  state = a.state ∙ b.state;
+  needed = λ i n. a.needed i (b.needed i n);
+  open_ones = λ i n o. b.open_ones i (a.open_ones i n o) o;
+  door = λ i d. b.door i (a.door i d);
+  finds = λ r w h. b.finds r w (a.finds r w h);
+}
+
+abbrev Apart : List Mark → LeanEnd → LeanEnd → Type 0
+Apart marks e f = (¬ IsAtMost marks e f) × (¬ IsAtMost marks f e)
+
+-- of two that stand in the list, where the one is at most the other, they are one
+only_itself : (marks : List Mark) (left : List LeanEnd) → Pairwise (Apart marks) left → (e f : LeanEnd) → Contains left e → Contains left f → IsAtMost marks e f → e ≡ f
+only_itself marks [] p e f h k a = absurd (Contains-nil e h)
+only_itself marks (x ∷ left) p e f h k a = ⊎_elim
+    (λ q. ⊎_elim
+      (λ r. sym q ∙ r)
+      (λ j. absurd ((p.0 f j).0 (subst (λ y. IsAtMost marks y f) (sym q) a)))
+      (Contains-cons_cases x left f k))
+    (λ i. ⊎_elim
+      (λ r. absurd ((p.0 e i).1 (subst (IsAtMost marks e) (sym r) a)))
+      (λ j. only_itself marks left p.1 e f i j a)
+      (Contains-cons_cases x left f k))
+    (Contains-cons_cases x left e h)
+
+-- what a mark leaves does not depend on how the same ends are listed
+within : (marks : List Mark) (m : Mark) (ends others left these : List LeanEnd) → ((e : LeanEnd) → Contains ends e → Contains others e) → ((e : LeanEnd) → Contains others e → Contains ends e)
+    → AreLeftBy marks m ends left → AreLeftBy marks m others these → (f : LeanEnd) → Contains left f → Contains these f
+within marks m ends others left these to from a b f h =
+    let k = a.each f h in
+    let g = b.all k.0 f (to k.0 k.1) k.2 in
+    let j = b.each g.0 g.1 in
+    let i = a.all j.0 g.0 (from j.0 j.1) j.2 in
+    let up : IsAtMost (marks ++ m ∷ []) f i.0 = at_most_then (marks ++ m ∷ []) f g.0 i.0 g.2 i.2 in
+    let same : f ≡ i.0 = only_itself (marks ++ m ∷ []) left a.apart f i.0 h i.1 up in
+    let one : f ≡ g.0 = at_most_each_other (marks ++ m ∷ []) f g.0 g.2 (subst (IsAtMost (marks ++ m ∷ []) g.0) (sym same) i.2) in
+    subst (Contains these) (sym one) g.1
+
+within_by : (before more : List Mark) (ends others left these : List LeanEnd) → ((e : LeanEnd) → Contains ends e → Contains others e) → ((e : LeanEnd) → Contains others e → Contains ends e)
+    → AreLeftByAll before ends more left → AreLeftByAll before others more these → (f : LeanEnd) → Contains left f → Contains these f
+within_by before [] ends others left these to from a b f h = subst (λ l. Contains l f) b (to f (subst (λ l. Contains l f) (sym a) h))
+within_by before (m ∷ more) ends others left these to from a b f h =
+    within_by (before ++ m ∷ []) more a.0 b.0 left these
+    (within before m ends others a.0 b.0 to from a.1 b.1)
+    (within before m others ends b.0 a.0 from to b.1 a.1)
+    a.2 b.2 f h
+
+once_by : (before more : List Mark) (ends left : List LeanEnd) → Pairwise (λ e f. e ≢ f) ends → AreLeftByAll before ends more left → Pairwise (λ e f. e ≢ f) left
+once_by before [] ends left p by = subst (Pairwise (λ e f. e ≢ f)) by p
+once_by before (m ∷ more) ends left p by = once_by (before ++ m ∷ []) more by.0 left
+    (Pairwise-weaker (Apart (before ++ m ∷ [])) (λ e f. e ≢ f) by.0 (λ e f h k n q. n.0 (subst (IsAtMost (before ++ m ∷ []) e) q (at_most_itself (before ++ m ∷ []) e))) by.1.apart)
+    by.2
+
+pub as_many : (marks : List Mark) (ends others : List LeanEnd) → AreLeanEnds marks ends → AreLeanEnds marks others → length ends ≡ length others
+as_many marks ends others a b =
+    let one : Pairwise (λ (e f : LeanEnd). e ≢ f) (start ∷ []) = ((λ y h. absurd (Contains-nil y h)), tt) in
+    let x : length ends ≤ length others = no_longer_than ends others (once_by [] marks (start ∷ []) ends one a) (within_by [] marks (start ∷ []) (start ∷ []) ends others (λ e h. h) (λ e h. h) a b) in
+    let y : length others ≤ length ends = no_longer_than others ends (once_by [] marks (start ∷ []) others one b) (within_by [] marks (start ∷ []) (start ∷ []) others ends (λ e h. h) (λ e h. h) b a) in
+    omega arith

@@ -1,0 +1,16 @@
+mod Splits
+mod Orders
+mod Steps
+mod Once
+mod Makes
+mod Covers
+mod Puts
+mod Ending
+mod Events
+mod Beginning
+mod Complete
+mod Stands
+mod Kept
+mod Sound
+mod Left
+mod BadFronts

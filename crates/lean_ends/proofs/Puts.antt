@@ -1,0 +1,71 @@
+-- an end with one more write stands for the orders that have it
+use Rattle.std.proofs.Common.{◌≡◌, ◌≢◌, ℕ, ℤ, ◌⊎◌, inl, inr, ⊎_elim, IsTrue, Option, Some, List, sym, ap, ◌∙◌, subst}
+use Rattle.std.proofs.lemmas.Bool.{cases_eq}
+use Rattle.events.specs.Events.{Mark}
+use Rattle.linspec.specs.MarkRule.{AreWellFormed}
+use Rattle.linspec.specs.Orders.{Taken, Includes}
+use Rattle.lean_ends.specs.LeanEnds.{IsWriteOf, MayRead, LeanEnd, IsPutBehind, IsPutBefore}
+use Rattle.lean_ends.proofs.Once.{read_no_write, same_value}
+use Rattle.lean_ends.proofs.Covers.{MayFind, Extra, CoversSame, CoversBehind, Covers}
+
+module _ (marks : List Mark) (well : AreWellFormed marks) (e g : LeanEnd) (order : List Taken) (t : Option ℤ) (x : ℕ) (v : ℤ)
+    (k : Extra marks e order x v) (needed : (i : ℕ) → IsTrue (e.needed i) → Includes order i × ((w : ℤ) × IsWriteOf marks i w)) where
+  of_both : (i : ℕ) → (i ≡ x) ⊎ IsTrue (e.needed i) → Includes order i × ((w : ℤ) × IsWriteOf marks i w)
+  of_both i h = ⊎_elim (λ s. subst (λ n. Includes order n × ((w : ℤ) × IsWriteOf marks n w)) (sym s) (k.is_in, (v, k.may.write))) (needed i) h
+
+  -- another one that is free stays free
+  other : ((i : ℕ) → IsTrue (g.needed i) → (i ≡ x) ⊎ IsTrue (e.needed i)) → (y : ℕ) (w : ℤ) → y ≢ x → Extra marks e order y w → Extra marks g order y w
+  other back y w ne j = record { is_in = j.is_in; may = j.may; free = λ n. ⊎_elim ne j.free (back y n) }
+
+  was : ((i : ℕ) → (i ≡ x) ⊎ IsTrue (e.needed i) → IsTrue (g.needed i)) → (y : ℕ) (w : ℤ) → Extra marks g order y w → (y ≢ x) × Extra marks e order y w
+  was forth y w j = ((λ s. j.free (forth y (inl s))), record { is_in = j.is_in; may = j.may; free = λ n. j.free (forth y (inr n)) })
+
+  -- a read is not among the needed ones
+  no_read_needed : (r : ℕ) → MayRead marks r → ¬ ((r ≡ x) ⊎ IsTrue (e.needed r))
+  no_read_needed r m h = let w = (of_both r h).1 in read_no_write marks well r w.0 m.0 w.1
+
+  module _ (put : IsPutBehind marks e x v g) where
+    put_last : CoversBehind marks e order t → Covers marks g order t
+    put_last b = record {
+      needed = λ i n. of_both i ((put.needed i).0 n);
+      how = ⊎_elim (λ s. inl (this s)) (λ ne. inr (another ne)) (cases_eq b.last.0 x);
+    }
+      where
+        found : (r : ℕ) (w : ℤ) → MayRead marks r → MayFind marks order r w → IsTrue (g.finds r w) ⊎ ((y : ℕ) × Extra marks g order y w)
+        found r w m f = ⊎_elim
+            (λ h. inl ((put.finds r w).1 (inl h)))
+            (λ j. ⊎_elim
+              (λ s. inl ((put.finds r w).1 (inr (m, same_value marks well x w v (subst (λ n. IsWriteOf marks n w) s j.1.may.write) k.may.write))))
+              (λ ne. inr (j.0, other (λ i. (put.needed i).0) j.0 w ne j.1))
+              (cases_eq j.0 x))
+            (b.finds r w m f)
+
+        another : b.last.0 ≢ x → CoversBehind marks g order t
+        another ne = record { last = (b.last.0, b.last.1, other (λ i. (put.needed i).0) b.last.0 b.last.1 ne b.last.2, b.last.3); finds = found }
+
+        this : b.last.0 ≡ x → CoversSame marks g order t
+        this s = record {
+          state = b.last.3 ∙ ap Some (same_value marks well x b.last.1 v (subst (λ n. IsWriteOf marks n b.last.1) s b.last.2.may.write) k.may.write) ∙ sym put.state;
+          placed = λ y w j o. (put.door y).1 (inr (w, j.may), j.free);
+          finds = λ r w m f. ⊎_elim inl (λ j. inr (j.0, j.1, (put.door j.0).1 (inr (w, j.1.may), j.1.free), (put.door r).1 (inl m, (λ n. no_read_needed r m ((put.needed r).0 n))))) (found r w m f);
+        }
+
+    pub put_behind : CoversBehind marks e order t → Covers marks g order t
+    put_behind = put_last
+
+  module _ (put : IsPutBefore marks e x v g) where
+    pub put_before : CoversSame marks e order t → Covers marks g order t
+    put_before s = record {
+      needed = λ i n. of_both i ((put.needed i).0 n);
+      how = inl (record {
+        state = s.state ∙ sym put.state;
+        placed = λ y w j o. (let q = was (λ i. (put.needed i).1) y w j in (put.door y).1 (s.placed y w q.1 o, q.0));
+        finds = λ r w m f. ⊎_elim
+          (λ h. inl ((put.finds r w).1 (inl h)))
+          (λ j. ⊎_elim
+            (λ q. inl ((put.finds r w).1 (inr (m, j.3, same_value marks well x w v (subst (λ n. IsWriteOf marks n w) q j.1.may.write) k.may.write))))
+            (λ ne. inr (j.0, other (λ i. (put.needed i).0) j.0 w ne j.1, (put.door j.0).1 (j.2, ne), (put.door r).1 (j.3, (λ q. no_read_needed r m (inl q)))))
+            (cases_eq j.0 x))
+          (s.finds r w m f);
+      });
+    }

@@ -1,0 +1,33 @@
+//! Laws of lean ends.
+ghost use Rattle.std.specs.Prelude.{◌≡◌, ◌↔◌, List, ◌∷◌, ◌++◌, [], length};
+ghost use Rattle.std.specs.List.{Contains};
+ghost use Rattle.models.specs.Objects.{register};
+ghost use Rattle.events.specs.Events.{Mark, Entry, marks, IsFront};
+ghost use Rattle.linspec.specs.MarkRule.{AreWellFormed};
+ghost use Rattle.linspec.specs.Orders.{IsLinearizable};
+ghost use Rattle.linspec.specs.Verdicts.{EndsShortestBadFront};
+ghost use Rattle.lean_ends.specs.LeanEnds.{LeanEnd, IsLeanEnd, AreLeanEnds};
+
+/// A history of a register is linearizable exactly if it has a lean end. Nothing is lost if ends that are at most another one are left out at
+/// each event.
+pub fn lean_law()
+    ensures some { (marks : List Mark) → AreWellFormed marks
+        → IsLinearizable register marks ↔ ((e : LeanEnd) × IsLeanEnd marks e) }
+    ensures left { (marks : List Mark) (ends : List LeanEnd) → AreWellFormed marks → AreLeanEnds marks ends
+        → IsLinearizable register marks ↔ ((e : LeanEnd) × Contains ends e) }
+{}
+
+/// How many lean ends a history has does not depend on how they are found.
+pub fn count_law()
+    ensures { (marks : List Mark) (ends others : List LeanEnd) → AreLeanEnds marks ends → AreLeanEnds marks others
+        → length ends ≡ length others }
+{}
+
+/// The history of a register becomes illegal at the event that leaves none of its lean ends.
+pub fn illegal_at_law()
+    ensures { (entries : List Entry) (last : Entry) → AreWellFormed (marks entries)
+        → EndsShortestBadFront register entries last
+        ↔ ((before : List Entry) × IsFront (before ++ last ∷ []) entries
+        × ((e : LeanEnd) × IsLeanEnd (marks before) e)
+        × (¬ ((e : LeanEnd) × IsLeanEnd (marks (before ++ last ∷ [])) e))) }
+{}
