@@ -1,8 +1,7 @@
 //! Clients that wait for each other.
 ghost use Rattle.std.specs.Prelude.{◌≡◌};
 
-use crate::boards::{TURNS, comes};
-use crate::client_boards::{blank, read};
+use crate::boards::{blank, comes, read};
 use board::{Blank, Tag};
 use clients::{NoWatch, run_clients};
 use edn::Gate;
@@ -36,16 +35,8 @@ impl Meeting {
         }
     }
 
-    // Whether both came, none in vain, and the first had its answer once the second had its own.
-    fn was_held(&self) -> bool {
-        !self.missed.load(Ordering::SeqCst)
-            && self.first.load(Ordering::SeqCst)
-            && self.second.load(Ordering::SeqCst)
-            && self.ended.load(Ordering::SeqCst)
-    }
-
     fn wait_for(&self, flag: &AtomicBool) {
-        if !comes(flag, TURNS) {
+        if !comes(flag) {
             self.missed.store(true, Ordering::SeqCst);
         }
     }
@@ -85,16 +76,14 @@ impl Gate for Meeting {
 fn clients_overlap(rt: HostRuntime) {
     let alloc = rt.alloc();
     let items = vec![in alloc; read()].unwrap_or(Vec::new(alloc));
-    let (met, events) = overlap::<Brand, _>(&rt, alloc, blank(&rt, alloc, 3, 2, items));
-    assert!(rt; met && events == 4);
+    overlap::<Brand, _>(&rt, alloc, blank(&rt, alloc, 3, 2, items));
 }
 
-// Whether the clients met, and how many events there are.
 fn overlap<B: Tag + Send + Sync, R: Threads + Wait + Abort + Sync>(
     rt: &R,
     alloc: Global,
     blank: Blank,
-) -> (bool, u32)
+)
     requires names { (blank.word ≡ B.word) × (blank.ledger.name ≡ B.name)
         × (blank.ledger.parts ≡ B.parts) }
     requires seats { blank.seats ≡ 3 }
@@ -107,5 +96,9 @@ fn overlap<B: Tag + Send + Sync, R: Threads + Wait + Abort + Sync>(
         panic!(rt; "refused")
     };
     let core = board.end(rt, back);
-    (meeting.was_held(), core.monitor().history().len())
+    assert!(rt; !meeting.missed.load(Ordering::SeqCst));
+    assert!(rt; meeting.first.load(Ordering::SeqCst));
+    assert!(rt; meeting.second.load(Ordering::SeqCst));
+    assert!(rt; meeting.ended.load(Ordering::SeqCst));
+    assert_eq!(rt; core.monitor().history().len(), 4);
 }
