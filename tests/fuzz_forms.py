@@ -24,7 +24,6 @@ from tests.forms_fuzz.cases import Case, Examiner, Wrong, cases  # noqa: E402
 from tests.forms_fuzz.judged import Judged, Room, is_fault  # noqa: E402
 from tests.forms_fuzz.printed import PRINTERS  # noqa: E402
 from tests.forms_fuzz.shards import Pair, compared  # noqa: E402
-from tests.forms_fuzz.waiting import waits_for  # noqa: E402
 
 COUNT, SEED = 2_000, 63
 NOTED_OF = 1_000  # histories among which one wrong verdict may have a warning
@@ -52,12 +51,8 @@ class Tally:
             self.by_way[f"{case.form} {name}={case.ways[name]}"][word] += 1
 
     def count(self, word: str) -> int:
-        """How many wrong verdicts are SILENT, NOTED, SETTLED or CLOCKS, or wait for what is known."""
-        return sum(_word(wrong) == word for found in self.classes.values() for wrong in found)
-
-
-def _word(wrong: Wrong) -> str:
-    return "waits" if wrong.word == "SILENT" and waits_for(wrong.case.ways) else wrong.word
+        """How many wrong verdicts are SILENT, NOTED, SETTLED or CLOCKS."""
+        return sum(wrong.word == word for found in self.classes.values() for wrong in found)
 
 
 def main() -> int:
@@ -79,11 +74,11 @@ def main() -> int:
                 smallest = examiner.smallest(wrong)
                 tally.classes[smallest.signature()].append(smallest)
     shown(tally, given)
-    silent, noted, settled, clocks, waiting = (tally.count(word) for word in ("SILENT", "NOTED", "SETTLED", "CLOCKS", "waits"))
+    silent, noted, settled, clocks = (tally.count(word) for word in ("SILENT", "NOTED", "SETTLED", "CLOCKS"))
     failed = (silent + sum(map(len, tally.faults.values())) + (noted if noted * NOTED_OF > given.count else 0)
-              + sum(not waits_for(pair.case.ways) for pair in tally.pairs["another verdict"]))
+              + len(tally.pairs["another verdict"]))
     print(f"seed {given.seed}, {given.count} histories: {silent} wrong verdicts in silence, {noted} with a warning, "
-          f"{settled} that the option named settles, {clocks} by clocks that differ, {waiting} that wait for what is known, {time.process_time() - began:.0f} seconds of Python")
+          f"{settled} that the option named settles, {clocks} by clocks that differ, {time.process_time() - began:.0f} seconds of Python")
     print(f"{given.count - failed} passed, {failed} failed")
     return 1 if failed else 0
 

@@ -7,7 +7,6 @@ them, `other_tools` as other tools do. In each folder expected.txt is the table:
     the words of jepmon-judge
       legal, illegal or refused; behind a colon what a line of standard error must have, in any case of letters
       a second line like it is another result that is right
-      waits: what is not mended yet, if the row may still fail
 
 The tables say what is right, so they were never taken from the output of a tool. With words, it runs the rows of these files alone.
 """
@@ -31,7 +30,6 @@ class Row(NamedTuple):
     folder: pathlib.Path
     words: List[str]
     results: List[Tuple[str, str]]  # verdicts, and what must be said beside each
-    waits: str
 
     @property
     def name(self) -> str:
@@ -44,13 +42,10 @@ def rows_of(folder: pathlib.Path) -> List[Row]:
         if not line.strip() or line.startswith("#"):
             continue
         if not line.startswith(" "):
-            rows.append(Row(folder, shlex.split(line), [], ""))
+            rows.append(Row(folder, shlex.split(line), []))
             continue
         word, _, said = (part.strip() for part in line.partition(":"))
-        if word == "waits":
-            rows[-1] = rows[-1]._replace(waits=said)
-        else:
-            rows[-1].results.append((word, said))
+        rows[-1].results.append((word, said))
     return rows
 
 
@@ -80,11 +75,7 @@ def main(names: List[str]) -> int:
     with Room() as room:
         rows = [row for folder in sorted(SAMPLES.iterdir()) for row in rows_of(folder) if not names or row.words[0] in names]
         found = [(row, faults_of(row, room)) for row in rows]
-    waiting = [(row, faults[0]) for row, faults in found if faults and row.waits]
-    for row, fault in waiting:
-        print(f"{row.name} waits for {row.waits}: {fault}")
-    print(f"{len(waiting)} rows wait for what is not mended yet")
-    return case_loop.run_cases("samples", [(row.name, said([] if row.waits else faults)) for row, faults in found], [])
+    return case_loop.run_cases("samples", [(row.name, said(faults)) for row, faults in found], [])
 
 
 if __name__ == "__main__":

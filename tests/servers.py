@@ -19,7 +19,7 @@ from typing import List, NamedTuple, Optional, Tuple, Type
 TOP = pathlib.Path(__file__).resolve().parent.parent
 sys.path.insert(0, str(TOP / "python"))
 
-from jepmon.testing import Server, ServerError, clocks, disks  # noqa: E402
+from jepmon.testing import Server, ServerError, clocks, disks, places  # noqa: E402
 from jepmon.testing.words import SERVERS  # noqa: E402
 from program import PROGRAM  # noqa: E402
 
@@ -31,14 +31,17 @@ PATIENCE = 1800.0  # seconds, on a busy machine
 COUNTED = [("rabbitmq", "early")]
 # beanstalkd syncs by its wall clock: once that was set back, it acknowledges what it has not synced, and a loss of power loses it.
 CLOCKED = {"beanstalkd": "kill,pause,cut,slow,bump,strobe"}
+FILES = {"redis": {"failover": "examples/python/redis_failover.py"}}  # servers that are wrong
+CLUSTERS = {"rabbitmq": "3"}  # servers that are one node, unless more are asked for
 AT_ONCE = 2  # tests; each of them mostly waits
 
 
 class Test(NamedTuple):
     server: str
-    what: str  # an object, a planted fault, a durability, `clocks`, `own` strikes or `proxy`
+    what: str  # an object, a planted fault, a durability, `clocks`, `own` strikes, a `cluster` or `proxy`
     words: List[str]
     statuses: Tuple[int, ...]
+    file: str = ""  # that is run in place of the server's own
 
     @property
     def name(self) -> str:
@@ -53,11 +56,14 @@ def tests(server: str) -> List[Test]:
     found += [Test(server, "proxy", ["--network", "proxy", "--time", str(SECONDS)], GOOD)]
     if "bump" not in kind.cannot and not clocks.why_not():
         found += [Test(server, "clocks", ["--nemesis", CLOCKED.get(server, "all,bump,strobe"), "--time", str(SECONDS)], GOOD)]
+    if server in CLUSTERS and not places.why_not():
+        found += [Test(server, "cluster", ["--nodes", CLUSTERS[server], "--time", str(SECONDS)], GOOD)]
     if kind.strikes:
         found += [Test(server, "own", ["--nemesis", ",".join(kind.strikes), "--time", str(SECONDS)], GOOD)]
     if not disks.why_not():
         found += [Test(server, name, ["--durability", name, "--nemesis", "power", "--nodes", "1", "--time", str(seconds(server, name))], (1,))
                   for name in list(kind.durabilities)[1:]]
+    found += [Test(server, name, ["--time", str(UNTIL_FOUND)], (1,), str(TOP / path)) for name, path in FILES.get(server, {}).items()]
     return found + [Test(server, plant, ["--plant", plant, "--time", str(seconds(server, plant))], (1,)) for plant in kind.plants]
 
 
@@ -101,7 +107,7 @@ def run(test: Test) -> Tuple[bool, int, str]:
 
 def tried(test: Test, room: pathlib.Path) -> Tuple[bool, int, str]:
     """Runs it, and gives whether it is as it should be, its status, and what it said."""
-    words = [sys.executable, "-m", "jepmon", "test", test.server, *test.words, "--out", str(room / "runs"), *PATIENT]
+    words = [sys.executable, "-m", "jepmon", "test", test.file or test.server, *test.words, "--out", str(room / "runs"), *PATIENT]
     environment = {**os.environ, "JEPMON": str(PROGRAM), "PYTHONPATH": str(TOP / "python"), "TMPDIR": str(room)}
     try:
         ran = subprocess.run(words, stdout=subprocess.PIPE, stderr=subprocess.PIPE, universal_newlines=True, timeout=PATIENCE,

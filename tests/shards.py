@@ -100,10 +100,11 @@ def run_many_clients() -> List[str]:
     faults: List[str] = []
     with room() as folder:
         path = folder / "wide.edn"
-        opened = "".join(line("invoke", client, "read", client % 100, "nil") for client in range(200))
+        held = "".join(line(kind, 0, "write", 50, value) for value in (9, 8) for kind in ("invoke", "ok"))
+        opened = held + "".join(line("invoke", client, "read", client % 100, "nil") for client in range(200))
         path.write_text(opened + "".join(line("ok", client, "read", client % 100, "nil" if client != 150 else 9) for client in range(200)))
         status, output, error = tool("judge", str(path))
-        faults += differing("the verdict", (status, output.splitlines()[-1]), (1, "illegal key 50 index 350"))
+        faults += differing("the verdict", (status, output.splitlines()[-1]), (1, "illegal key 50 index 354"))
         faults += differing("the client", ("concurrency 200" in error, "Client 150 read 9 from key 50" in error), (True, True))
         path.write_text("".join(line(kind, client, "read", 3, "nil") for kind in ("invoke", "ok") for client in range(70)))
         status, output, error = tool("judge", str(path), "--jobs", "1")
@@ -234,8 +235,8 @@ def run_jepsen_form() -> List[str]:
         opened = [f"{{:type :invoke, :f :read, :value [key-{client % 20} nil], :process {client}, :time {client}}}\n"
                   for client in range(70)]
         path.write_text("".join(opened) + "{:type :ok, :f :read, :value [key-6 9], :process 6, :time 77, :error \"a, b\"}\n")
-        status, output, error = tool("judge", str(path), "--html", str(folder / "page.html"), "--model", "register")
-        faults += differing("the verdict", (status, output.splitlines()[-1:]), (1, ["illegal key 6 index 70"]))
+        status, output, error = tool("judge", str(path), "--html", str(folder / "page.html"), "--model", "register", "--outcome", "error=ok", "--initial", "7")
+        faults += differing("the verdict", (status, output.splitlines()[-1:]), (1, ["illegal key 6 index 110"]))
         for text in ("70 operations are open at once", "it is judged in shards", "Client 6 read 9 from key key-6", "line 71"):
             faults += differing(f"whether it says {text!r}", text in error, True)
         path.write_text("".join(opened) + "{:type :ok, :f :read, :value [key-6 9], :process 6}\n{:type :ok, :f")

@@ -6,18 +6,19 @@ name once it is whole.
 from __future__ import annotations
 
 import argparse
+import contextlib
 import gc
 import io
 import os
 import sys
-from typing import Any, BinaryIO, Callable, Iterable, NoReturn, Optional, TextIO, Type, Union
+from typing import Any, BinaryIO, Callable, Iterable, Iterator, NoReturn, Optional, TextIO, Type, Union
 
 from . import __version__
 from .errors import OutputError, ProgramError
 from .names import printable
 
 __all__ = ["INTERRUPTED", "OutputError", "REFUSED", "Words", "collect_seldom", "copy_file", "run", "say", "standard_error", "standard_input",
-           "tool", "write_error", "write_file", "write_output"]
+           "temporary_files", "tool", "write_error", "write_file", "write_output"]
 
 REFUSED = 3  # the status of whatever is no verdict
 INTERRUPTED = 130
@@ -27,6 +28,21 @@ OBJECTS = 100_000  # that are made before Python looks for garbage among them
 def collect_seldom() -> None:
     """Has Python look for garbage less often: a tool keeps nearly all that it reads, so that there is little to find."""
     gc.set_threshold(OBJECTS)
+
+
+@contextlib.contextmanager
+def temporary_files(folder: Optional[str]) -> Iterator[None]:
+    """Has all temporary files be made in this folder, if one is named."""
+    if folder is None:
+        yield
+        return
+    import tempfile  # which takes a while, and is seldom needed
+
+    before, tempfile.tempdir = tempfile.tempdir, folder
+    try:
+        yield
+    finally:
+        tempfile.tempdir = before
 
 
 def tool(name: str) -> str:

@@ -86,8 +86,8 @@ def _told(found: Recorded) -> Iterator[str]:
     """What standard error says of what was turned."""
     yield f"{found.form}: {found.facts.events} events"
     yield from found.notes
-    yield from found.account.told()
-    yield from outcomes(found.facts)
+    yield from found.account.told(not found.is_own)
+    yield from outcomes(found.facts.outcomes)
     if found.key_names or found.value_names:
         yield "keys or values are numbered: comments at the end of the output tell what they are"
     choice, threads = models.chosen(found.facts, None, {}, found.possible), models.concurrency_of(found.facts)

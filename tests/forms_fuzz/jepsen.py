@@ -5,7 +5,7 @@ import json
 import random
 from typing import Any, Dict, List, Sequence
 
-from .fields import READS, Variations, clock_of, value_of
+from .fields import READS, Variations, clock_of, stamp, value_of
 from .histories import Op
 from .rows import is_answered, twice
 from .truth import points
@@ -57,19 +57,23 @@ def events(ops: Sequence[Op], ways: Variations, chance: random.Random) -> str:
         if ways.get("index"):
             fields[":index"] = str(index)
         if not ways.get("notime"):
-            fields[":time"] = str(clock_of(mark, op.client, ways) * 1000)
+            fields[":time"] = _time(clock_of(mark, op.client, ways), ways)
         if side and op.outcome == "info":
             fields[":error"] = ":timeout"
             processes[op.client] += many if ways.get("newprocess") else 0
         lines.append(_element(fields, ways))
         clients.append(op.client)
         if ways.get("nemesis") and index % 5 == 2:
-            lines.append(NEMESIS.format(mark * 1000))
+            lines.append(NEMESIS.format(_time(mark, ways)))
             clients.append(-1)
     if ways.get("order") == "clients":
         lines = [line for _, line in sorted(zip(clients, lines), key=lambda pair: pair[0])]
     text = "\n".join(twice(lines, ways, chance)) + "\n"
     return "[" + text + "]" if ways.get("array") else text
+
+
+def _time(mark: int, ways: Variations) -> str:
+    return f'#inst "{stamp(mark, 0, "Z", 0)}"' if ways.get("inst") else str(mark * 1000)
 
 
 def _fields(op: Op, side: int, process: int, ways: Variations) -> Dict[str, str]:

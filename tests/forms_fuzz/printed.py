@@ -34,7 +34,6 @@ PRINTERS: Dict[str, Printer] = {
 MAPPINGS = {"lines": logs.line_mapping(), "headless": logs.headless_mapping()}  # the mapping files that users write for these forms
 SAID = {"slog": ["--map", "msg=type"], "logfmt": ["--map", "msg=type"]}  # and what they say on the command line
 REGISTERS_ALONE = ("etcd", "porcupine")
-OBJECTS_AS_TEXTS = ("logfmt", "otlp")
 OF_EVENTS = ("evrows", "evcsv", "edn", "log", "slog", "logfmt", "lines")
 
 # The ways of a variation that has several; each other variation is there or not.
@@ -56,7 +55,7 @@ USED: Dict[str, List[str]] = {form: names.split() for form, names in {
     "opcsv": f"{ROWS} unitmix names casnames delimiter pybool",
     "evrows": f"{ROWS} types shortend nullvalue endsay notime starts array wrapped",
     "evcsv": f"{ROWS} types shortend endsay notime starts delimiter",
-    "edn": f"values keys alikekeys clients order setread tuplemap nil_fail newprocess keyfield index typefirst pprint record nemesis notime dup array "
+    "edn": f"values keys alikekeys clients order setread tuplemap nil_fail newprocess keyfield index typefirst pprint record nemesis notime inst dup array "
            f"stringly said skew several nokeys {BYTES}",
     "log": "values prefix nemesis crlf blank bom cut gz dup several nokeys",
     "etcd": "crlf bom cut gz several",
@@ -105,7 +104,9 @@ def settled(ways: Variations) -> Variations:
     """The variations without those that make no sense together."""
     if "error" in ways and (ways.get("times") not in UNITS or ways.get("skew")):
         ways = {**ways, "times": "iso", "skew": 0}
-    if ways["form"] in OBJECTS_AS_TEXTS and ways.get("values") == "obj":
+    if "error" in ways:  # which is stated in the unit of the times
+        ways = {name: way for name, way in ways.items() if name != "unitmix"}
+    if ways["form"] == "otlp" and ways.get("values") == "obj":
         ways = {**ways, "values": "objval"}  # the order of its members is of the text
     if "several" in ways:  # an index and new processes are of the whole history
         ways = {name: way for name, way in ways.items() if name not in ("index", "newprocess", "array", "wrapped", "order")}

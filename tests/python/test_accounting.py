@@ -5,13 +5,14 @@ import pathlib
 import unittest
 from typing import Iterator, Tuple
 
-from jepmon.forms import Refused, door, mapping
+from jepmon.forms import Refused, mapping
 from jepmon.forms.account import lines_of
 from jepmon.forms.files import found, of_text
 from jepmon.forms.recorded import Options, recorded
 
 from . import TOP
 
+OWN = "{:type :invoke, :process 0, :f :write, :value [7 1]}\n{:type :ok, :process 0, :f :write, :value [7 1]}\n"
 TOLD = ("args", "stdout", "stderr", "status", "tool", "make.py", "expected.txt")
 FOLDERS = ("judge", "samples")
 MAPPED = {"slog-text": "msg=type", "pino": "worker=client", "a-go-slog": "msg=type", "l-queue": "msg=value", "logrus": "ret=return"}
@@ -37,8 +38,6 @@ class Accounting(unittest.TestCase):
                     made = recorded(source, Options(mapping=said))
                 except Refused:
                     continue
-                if made.form == door.OWN:
-                    continue
                 account, lines = made.account, lines_of(source.text)
                 self.assertEqual(account.taken + sum(account.skipped.values()), lines, f"{account.taken} and {account.skipped}")
                 self.assertGreater(account.taken, 0)
@@ -54,6 +53,8 @@ class Accounting(unittest.TestCase):
             (events.replace(", ", ",\n") + "\n", 6, {}),
             ('{"history": [\n' + events + "\n]}\n", 3, {}),
             ("op,key,value,start,end\nwrite,1,\"a\nb\",1,2\n\n", 2, {"the heading": 1, "blank": 1}),
+            (f"; a run\n\n{OWN}#_{{:type :info, :process :nemesis, :f :heal, :value nil}}\n", 2, {"blank or comment": 3}),
+            (f"{OWN}[:model 7 :register]\n{OWN}[:rewind 2]\n", 2, {"commands": 2, "events that were taken back": 2}),
             ('level=info msg=hello\nop=write key=1 value=1 start=1 end=2\n', 1, {"of a log that tell of no operation": 1}),
             ('{"level": "info", "msg": "hello"}\n' + events + "\n", 1, {"of a log that tell of no operation": 1}),
         ):

@@ -1,6 +1,7 @@
 """The order of events in EDN, clients with names, and an :ok that says of itself that it is none. What is right is said by hand."""
 from __future__ import annotations
 
+import re
 import unittest
 from typing import Any, List
 
@@ -98,12 +99,55 @@ class Order(Turned):
         self.assertIn("events do not stand in their order", self.refused(text(*HOLD, times=False, indices="0 1 2 3 0 1")))
 
     def test_files_that_pass(self) -> None:
-        """Edited files: with gaps, with one :index twice, without some; and an :index that is the number of an operation."""
+        """Edited files: with gaps, without some; and an :index that is the number of an operation."""
         events = ("0 invoke write 1 1", "1 invoke read nil 2", "0 ok write 1 3", "1 ok read 1 4")
-        for indices in ("3 5 9 11", "3 3 4 4", "0 1 0 1", "7 7 7 7"):
+        for indices in ("3 5 9 11", "0 1 0 1", "7 7 7 7"):
             with self.subTest(indices=indices):
                 self.assertEqual(self.turned(text(*events, indices=indices)), self.want(list(events)))
                 self.assertEqual(self.guesses(), [])
+
+    def test_an_index_twice(self) -> None:
+        events = ("0 invoke write 1 1", "1 invoke read nil 2", "0 ok write 1 3", "1 ok read 1 4")
+        for indices, line, index, first in (("3 3 4 4", 2, 3, 1), ("0 1 1 2", 3, 1, 2)):
+            said = self.refused(text(*events, indices=indices))
+            self.assertIn(f"line {line}: the :index {index} is that of line {first} too: are there two runs in one file? --order lines", said)
+            self.assertEqual(self.turned(text(*events, indices=indices), order="lines"), self.want(list(events)))
+        serial = ("0 invoke write 1", "0 ok write 1", "1 invoke read nil", "1 ok read 1")
+        self.assertEqual(self.turned(text(*serial, indices="0 0 1 1")), self.want(list(serial)))
+
+    def test_instants(self) -> None:
+        """As EDN writes them; those of one history are all of one kind."""
+        for tag in ("#inst,", ""):
+            events = [re.sub(r" (\d)$", rf' {tag}"2026-11-30T09:00:00.00\1Z"', event) for event in HOLD]
+            self.assertEqual(self.turned(text(*events)), self.want(IN_TIME))
+            self.assertEqual(self.guesses(), ["--order times"])
+        self.assertIn("is a time of another kind than those before it", self.refused(text(*HOLD[:4], *events[4:])))
+        self.assertIn("is a time of another kind than those before it", self.refused(text(*events[:4], *HOLD[4:])))
+
+    def test_times_that_are_none(self) -> None:
+        for time in ('"09:00"', ":noon", "[1]", "x"):
+            given = text(*HOLD[:3], f"0 ok release nil {time}")
+            self.assertRegex(self.refused(given), f"line 4: .*; --order lines takes the events as they stand")
+            self.assertEqual(self.turned(given, order="lines"), self.want(list(HOLD[:4])))
+        self.assertEqual(self.turned(text("0 invoke read nil nil", "0 ok read 1 nil")), ["0 invoke read", "0 ok read"])
+
+    def test_clients_one_behind_the_other_without_times(self) -> None:
+        """What came first is not known."""
+        first = [f"0 {kind} write {value}" for value in (1, 2) for kind in ("invoke", "ok")]
+        for process in ("1", ":c1"):
+            second = [f"{process} {kind} read {part}" for _ in range(2) for kind, part in (("invoke", "nil"), ("ok", "1"))]
+            given = text(*first, *second)
+            for way in (given, given.replace("{:process", "{:x 1.5, :process")):
+                self.assertIn("line 5: the events of each client stand together, as in files put one behind the other, and have no times: which came "
+                              "first? say --order lines if they stand in their order", self.refused(way))
+            self.assertEqual([event.split(" ", 1)[1] for event in self.turned(given, order="lines")[3:5]], ["ok write", "invoke read"])
+            self.assertEqual(self.guesses(), [])
+        self.turned(text(*first[:2], *second[:2]))
+        self.assertEqual(self.guesses(), ["--order lines"])
+        for given in (text(*first, *second[:2], *first[:2]), text(*first), text(*first, *second, indices="0 1 2 3 4 5 6 7"),
+                      text(*(f"{event} {place}" for place, event in enumerate([*first, *second])))):
+            self.turned(given)
+            self.assertEqual(self.guesses(), [])
 
     def test_events_that_do_not_pair_as_they_stand(self) -> None:
         self.assertEqual(self.turned(text(*(HOLD[place] for place in (1, 0, 2, 3, 5, 4)), indices="1 0 4 5 3 2")), self.want(IN_TIME))
@@ -114,6 +158,24 @@ class Order(Turned):
             self.turned("; a comment\n\n" + given + "{:process :nemesis, :type :info, :f :kill,\n :time 9}\n\n")
             self.assertEqual((self.account.lines, self.account.taken, dict(self.account.skipped)),
                              (11, 6, {"of :nemesis": 2, "blank, comment or bracket": 3}))
+
+
+class Fields(Turned):
+    """Those that stand there twice, and those that may tell runs or objects apart."""
+
+    def test_one_that_stands_there_twice(self) -> None:
+        for further in (", :value 2", ", :time 1, :time 2", ", :type :ok"):
+            given = text("0 invoke write 1", "0 ok write 1").replace("}", further + "}")
+            self.assertRegex(self.refused(given), "line 1: this event has :(value|time|type) twice")
+            self.assertIn("twice", self.refused(given, order="times"))
+
+    def test_runs_and_parts_of_a_key(self) -> None:
+        for name, what in ((":run", "if it tells runs apart"), (":run-id", "if it tells runs apart"), (":table", "if it is a part of the key")):
+            lines = text("0 invoke write 1", "0 ok write 1", "0 invoke read nil", "0 ok read 2").splitlines(True)
+            given = "".join(line.replace("}", f", {name} {place // 2}}}") for place, line in enumerate(lines))
+            self.assertIn(f"line 3: {name} is 1 here and 0 before: {what}", self.refused(given))
+            self.assertIn(f"say --ignore {name[1:]} if it is nothing", self.refused(given, order="times" if ":time" in given else None))
+            self.assertEqual(len(self.turned(given.replace(f"{name} 1", f"{name} 0"))), 4)
 
 
 class Clients(Turned):
@@ -134,13 +196,18 @@ class Outcomes(Turned):
         return [event.split(" ")[1] for event in self.turned(text(*events), **options)]
 
     def test_answers_of_false(self) -> None:
-        for name, value, kind in (("acquire", "nil", "fail"), ("cas", "[1,2]", "fail"), ("release", "nil", "info"), ("write", "1", "info")):
+        for name, value, kind in (("acquire", "nil", "fail"), ("cas", "[1,2]", "fail"), ("release", "nil", "info"), ("write", "1", "info"),
+                                  ("dequeue", "nil", "fail")):
             events = (f"0 invoke {name} {value}", f"0 ok {name} false")
             self.assertEqual(self.kinds(*events), ["invoke", kind])
             self.assertEqual(self.guesses(), [f"--outcome false={kind}"])
             self.assertEqual(self.kinds(*events, outcomes={"false": "ok"}), ["invoke", "ok"])
             self.assertEqual(self.guesses(), [])
         self.assertEqual(self.kinds("0 invoke write false", "0 ok write false", "0 invoke read nil", "0 ok read false")[1::2], ["ok", "ok"])
+
+    def test_false_that_was_put_into_a_queue(self) -> None:
+        self.assertEqual(self.kinds("0 invoke enqueue false", "0 ok enqueue false", "0 invoke dequeue nil", "0 ok dequeue false")[1::2], ["ok", "ok"])
+        self.assertEqual(self.guesses(), [])
 
     def test_an_ok_with_an_error(self) -> None:
         given = text("0 invoke write 1", "0 ok write 1").replace("}\n{", "}\n{:error :timeout, ")

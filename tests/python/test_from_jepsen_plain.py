@@ -87,7 +87,8 @@ class PlainEvents(unittest.TestCase):
 
     def test_most_lines_of_a_history_are_plain(self) -> None:
         cas = LINE.replace("read", "cas").replace("nil", "[1 2]")
-        history = LINE + LINE.replace("invoke", "ok").replace("nil", "3") + cas + cas.replace("invoke", "fail").replace("0}", "1, :node 7, :error [:no 3]}")
+        lines = LINE, LINE.replace("invoke", "ok").replace("nil", "3"), cas, cas.replace("invoke", "fail").replace("0}", "0, :node 7, :error [:no 3]}")
+        history = "".join(line.replace(":index 0", f":index {place}") for place, line in enumerate(lines))
         for text in (history, history.replace("{", "#jepsen.history.Op{"), history.replace("\n", "\r\n"), "[" + history.replace("\n", "\n ") + "]"):
             with mock.patch.object(collect.Collector, "take", side_effect=AssertionError("it was read field by field")):
                 self.assertEqual([event.line for event in turn(text).history.events if isinstance(event, Event)], [1, 2, 3, 4])

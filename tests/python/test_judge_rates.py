@@ -4,6 +4,7 @@ from __future__ import annotations
 import contextlib
 import io
 import os
+import re
 from typing import List, Tuple
 from unittest import mock
 
@@ -25,6 +26,11 @@ JEPSEN = """\
 {:type :invoke, :f :read, :value [0 nil], :process 1, :time 2000000000, :index 3}
 {:type :ok, :f :read, :value [0 1], :process 1, :time 3000000000, :index 4}
 """
+
+
+def parts_of(page: str) -> List[str]:
+    """The page without what says how the history was judged."""
+    return [part for part in re.split("(?=<)", page) if "jepmon" not in part]
 
 
 class Pages(Monitored):
@@ -51,12 +57,17 @@ class Pages(Monitored):
         self.assertIn("illegal at event 3", text)
         self.assertRegex(text, r"<td>read</td><td class=\"number\">1</td>")
         self.assertEqual((self.room / "out" / "rates.html").read_text("utf-8"), text)
+        status, _ = self.judged("own.edn", OWN.replace("ANSWER", "4"), "--html", self.html(), "--jobs", "1")
+        self.assertEqual((status, parts_of(self.rates())), (1, parts_of(text)))
 
     def test_of_legal_histories(self) -> None:
         for name, text, latency in (("own.edn", OWN.replace("ANSWER", "1"), "1,000 ms"), ("rows.csv", ROWS, "1,900 ms"),
                                     ("jepsen.edn", JEPSEN, "1,000 ms")):
             with self.subTest(name):
+                self.assertEqual(self.judged(name, text, "--html", self.html(), "--jobs", "1")[0], 0)
+                in_shards = self.rates().replace("--jobs 1 ", "")
                 self.assertEqual(self.judged(name, text, "--html", self.html())[0], 0)
+                self.assertEqual(parts_of(self.rates()), parts_of(in_shards))
                 self.assertIn(f'<td>read</td><td class="number">1</td><td class="number">0</td><td class="number">0</td><td class="number">0</td>'
                               f'<td class="number">{latency}</td>', self.rates())
                 self.assertFalse((self.room / "page.html").exists())

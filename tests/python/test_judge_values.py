@@ -72,7 +72,7 @@ class Values(Judged):
     def test_they_are_named_and_a_guess(self) -> None:
         text = jsonl(("write", 1), ("read", "1"))
         ran = self.judged(text)
-        self.assertEqual(ran.status, 1)
+        self.assertEqual(ran.status, 3)
         self.assertIn('guess of the type of values: 1 and "1" are different values; --values exact|text|number settles it', ran.err)
         self.assertNotIn("type of values", self.judged(text, "--values", "exact").err)
         self.assertIn("--values exact|text|number", self.judged(text, "--strict-input", "--model", "register").err)
@@ -83,8 +83,15 @@ class Values(Judged):
         rows = [{**row, "op": "write", "key": 1, "value": 1}, {**row, "op": "read", "key": "1", "result": 1, "start": 3, "end": 4}]
         text = "".join(json.dumps(each) + "\n" for each in rows)
         ran = self.judged(text, "--no-cause")
-        self.assertEqual(ran.status, 1)
-        self.assertIn('guess of the type of values: 1 and "1" are different keys; --values exact|text|number settles it', ran.err)
+        self.assertEqual(ran.status, 3)
+        self.assertIn('the history is illegal if 1 and "1" are different keys, and legal if they are one; say --values exact or --values number', ran.err)
+        self.assertEqual([self.status(text, "--initial", "5", "--values", way) for way in ("exact", "text", "number")], [1, 0, 0])
+
+    def test_a_list_and_its_text_as_keys(self) -> None:
+        row = {"client": 0, "start": 1, "end": 2}
+        rows = [{**row, "op": "enqueue", "key": ["t", 0], "value": 1}, {**row, "op": "dequeue", "key": "['t', 0]", "result": 1, "start": 3, "end": 4}]
+        text = "".join(json.dumps(each) + "\n" for each in rows)
+        self.assertIn("are different keys, and legal if they are one; say --values exact", self.judged(text).err)
         self.assertEqual([self.status(text, "--values", way) for way in ("exact", "text", "number")], [1, 0, 0])
 
     def test_groups(self) -> None:
@@ -98,7 +105,8 @@ class Values(Judged):
         for absent, answer in (("", ""), ("0", 0), ("None", "None"), ("-1", -1)):
             for name, form in FORMS.items():
                 right, lost = form(("read", answer), ("write", 7), ("read", 7)), form(("write", 7), ("read", answer))
-                self.assertEqual(self.status(right, name=f"h.{name}"), 1, (absent, name))
+                self.assertEqual([self.status(right, *words, name=f"h.{name}") for words in ((), ("--nil-is-absent",))], [3, 1], (absent, name))
+                self.assertEqual(self.status(lost, name=f"h.{name}"), 1, (absent, name))
                 self.assertEqual(self.status(right, "--absent", absent, name=f"h.{name}"), 0, (absent, name))
                 self.assertEqual(self.status(lost, "--absent", absent, name=f"h.{name}"), 1, (absent, name))
         self.assertEqual(self.status(jsonl(("read", ""), ("read", None), ("write", 7), ("read", 7)), "--absent", "", "--absent", "0"), 0)
@@ -108,13 +116,15 @@ class Values(Judged):
                 {"client": 0, "key": "k", "op": "enqueue", "value": 7, "start": 2, "end": 3},
                 {"client": 0, "key": "k", "op": "dequeue", "result": 7, "start": 4, "end": 5}]
         text = "".join(json.dumps(row) + "\n" for row in rows)
-        self.assertEqual((self.status(text), self.status(text, "--absent", "")), (1, 0))
+        self.assertEqual((self.status(text), self.status(text, "--absent", "")), (3, 0))
+        invented = text.replace('""', "9")
+        self.assertEqual((self.status(invented), self.status(invented, "--absent", "9")), (1, 0))
 
     def test_what_a_key_holds_at_first(self) -> None:
         for initial, answer in (("5", 5), ("x y", "x y"), ('"5"', "5")):
             for name, form in FORMS.items():
                 right = form(("read", answer), ("write", 7), ("read", 7))
-                self.assertEqual(self.status(right, name=f"h.{name}"), 1, (initial, name))
+                self.assertEqual(self.status(right, name=f"h.{name}"), 3, (initial, name))
                 self.assertEqual(self.status(right, "--initial", initial, name=f"h.{name}"), 0, (initial, name))
                 self.assertEqual(self.status(form(("write", 7), ("read", answer)), "--initial", initial, name=f"h.{name}"), 1, (initial, name))
 
@@ -130,13 +140,16 @@ class Values(Judged):
         self.assertEqual(self.status(csv(("read", "0"), ("write", 7), ("read", 7)), "--initial", "0", name="h.csv"), 0)
 
     def test_a_value_that_nobody_has_written_is_asked_about(self) -> None:
-        for answer, shown, word in (("", '""', "''"), (9, "9", "9"), ("a b", '"a b"', "'a b'")):
-            found = self.as_json(jsonl(("read", answer), ("write", 7)))
-            want = (f'nobody has written {shown} to key "k": did the key hold it before the test? then say --initial {word}; is it the answer for '
-                    f"a missing key? then say --absent {word}")
-            self.assertIn(want, found["notes"])
-        for text, words in ((jsonl(("write", 7), ("write", 8), ("read", 7)), ()), (jsonl(("read", 9), ("write", 7)), ("--initial", "3"))):
-            self.assertNotIn("nobody has written", self.judged(text, *words).err.replace("but nobody had written", ""))
+        for answer, word in (("", "''"), (9, "9"), ("a b", "'a b'")):
+            text = jsonl(("read", answer), ("write", 7))
+            want = (f"the history is illegal if no key that answered {word} held it, and legal if that is the answer for a missing key; say "
+                    f"--absent {word}, --initial {word} if a key held it before the test, or --nil-is-absent if it is neither")
+            for words in ((), ("--jobs", "1")):
+                self.assertIn(want, self.as_json(text, *words)["reason"])
+            self.assertEqual([self.status(text, *words) for words in (("--absent", str(answer)), ("--initial", str(answer)), ("--nil-is-absent",))], [0, 0, 1])
+        for text, words in ((jsonl(("write", 7), ("write", 8), ("read", 7)), ()), (jsonl(("read", 9), ("write", 7)), ("--initial", "3")),
+                            (jsonl(("write", 7), ("read", 9)), ())):
+            self.assertEqual(self.status(text, *words), 1)
 
 
 if __name__ == "__main__":

@@ -2,6 +2,7 @@
 from __future__ import annotations
 
 import contextlib
+import json
 import os
 import pathlib
 import shutil
@@ -13,7 +14,7 @@ from typing import Iterator, List, Tuple
 from unittest import mock
 
 from jepmon import command
-from jepmon.forms import door
+from jepmon.forms import door, files
 from jepmon.judge import tool
 
 from . import TOP
@@ -52,6 +53,41 @@ class Ways(unittest.TestCase):
         before = os.getcwd()
         self.addCleanup(os.chdir, before)
         os.chdir(self.room)
+
+    def test_events_with_one_time(self) -> None:
+        """A verdict that rests on the order in which they stand is refused."""
+        rows = (("a", "invoke", "write", 1, 1), ("a", "ok", "write", 1, 5), ("b", "invoke", "write", 2, 5), ("b", "ok", "write", 2, 6),
+                ("c", "invoke", "read", None, 7), ("c", "ok", "read", 1, 8))
+        text = "".join(json.dumps(dict(zip(("client", "type", "f", "value", "time"), row), key="x")) + "\n" for row in rows)
+        pathlib.Path("tied").write_text(text)
+        pathlib.Path("apart").write_text(text.replace('"time": 5', '"time": 4', 1))
+        self.assertEqual(self.agree(["tied"])[0], 3)
+        self.assertEqual(self.agree(["apart"])[0], 1)
+        self.assertEqual(self.agree(["tied", "--order", "times"])[0], 0)
+        self.assertEqual(self.agree(["tied", "--order", "lines"])[0], 1)
+
+    def test_lines_of_jepmons_own_form(self) -> None:
+        """They are accounted for, whether they are read at once, in shards, or event by event."""
+        texts = {"a line each": "; a run\n\n" + own("7", "1"), "two in one": own("7", "1").replace("}\n{:type :ok", "} {:type :ok", 1) + "\n",
+                 "over lines": own("7", "1").replace(", :f", ",\n :f", 1)}
+        wanted = {"a line each": (6, 4, {"blank or comment": 2}), "two in one": (4, 3, {"blank or comment": 1}), "over lines": (5, 5, {})}
+        for name, text in texts.items():
+            pathlib.Path("own.edn").write_text(text)
+            for jobs in ([], ["--jobs", "1"]) if name == "a line each" else (["--jobs", "1"],):
+                output: List[str] = []
+                with self.subTest(name, jobs=jobs), quiet(output):
+                    self.assertEqual(tool.main(["own.edn", "--json", "--no-cause", *jobs]), 0)
+                    said = json.loads("".join(output))["lines"]
+                    self.assertEqual((said["all"], said["of_events"], said["skipped"]), wanted[name])
+
+    def test_the_folder_for_temporary_files(self) -> None:
+        pathlib.Path("own.edn").write_text(own("7", "1"))
+        os.mkdir("room")
+        with mock.patch.object(files, "several", wraps=files.several) as several:
+            several.side_effect = lambda names: self.assertEqual(tempfile.gettempdir(), "room") or mock.DEFAULT
+            self.assertEqual(judged(["own.edn", "--temporary", "room"])[0], 0)
+        self.assertNotEqual(tempfile.gettempdir(), "room")
+        self.assertEqual(judged(["own.edn", "--temporary", "none"])[0], 3)
 
     def agree(self, arguments: List[str], *jobs: str) -> Tuple[int, str]:
         plain = judged(arguments)

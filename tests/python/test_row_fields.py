@@ -2,8 +2,9 @@
 from __future__ import annotations
 
 import unittest
+from typing import List
 
-from jepmon.forms import mapping
+from jepmon.forms import Refused, mapping
 
 from .translated import Case, events, lines, made, mapped, operation
 
@@ -29,6 +30,29 @@ class EachField(Case):
         self.assertEqual(events(lines(operation(topic="x"))), events(lines(operation())))
         self.assertEqual(events(lines(operation(topic=None))), events(lines(operation())))
         self.assertEqual(events(lines(operation(pid=77)), mapping=mapping.Mapping().with_field("client=client"))[0], "invoke 0 write [0 1]")
+
+    def test_runs(self) -> None:
+        for name in ("run", "run_id", "test"):
+            text = lines(operation(**{name: 1}), {**OTHER, name: 2})
+            self.refused(text, f"{name}: 1, 2 (line 1)")
+            self.refused(text, f"If {name} tells runs apart, judge each by itself")
+            self.assertEqual(len(events(text, mapping=mapping.Mapping().with_ignored(name))), 4)
+            self.assertEqual(made(lines(operation(**{name: 1}), {**OTHER, name: 1})).account.fields, [f"{name} (2)"])
+
+    def test_a_session_beside_a_client(self) -> None:
+        self.refused(lines(operation(session="a")), 'client is 0 and session is "a", and each may be the client: say --ignore session')
+
+    def test_a_key_of_several_fields(self) -> None:
+        text = lines(operation(table="t"), {**OTHER, "table": "u"}, operation(op="read", value=..., result=1, table="t", start=5, end=6))
+        self.refused(text, "If table is a part of the key, say --map table=key --map key=key")
+        both = mapping.Mapping().with_field("table=key").with_field("key=key")
+        self.assertEqual([event.split(" ", 3)[3] for event in events(text, mapping=both)[::2]], ["[0 1]", "[1 2]", "[0 nil]"])
+        self.refused(text + lines(operation(start=7, end=8)), "line 4: its key is key, and that of rows before it is key and table", mapping=both)
+        self.assertEqual(made(text, mapping=mapping.Mapping().with_field("table=key")).account.fields, ["key (3)"])
+        self.refused(lines(operation(topic="a")), "--map key=key --map topic=key")
+        some = lines(operation(key=..., path="a"), operation(key=..., topic="a", start=3, end=4))
+        either = mapping.Mapping().with_field("path=key").with_field("topic=key")
+        self.assertEqual(events(some, mapping=either)[2], "invoke 0 write [0 1]")
 
     def test_a_member_and_a_column_twice(self) -> None:
         self.refused('{"op": "write", "op": "read"}', 'line 1: an object has the member "op" twice')
@@ -135,7 +159,52 @@ class Operations(Case):
         self.refused(lines(operation(op="incr", value=..., result=1)), "no object of jepmon has :incr")
 
 
+class Decimals(Case):
+    def test_beyond_a_double(self) -> None:
+        """Each is itself, however it is spelled; and times are as near as a double is."""
+        def parts(*numbers: str) -> List[str]:
+            rows = [lines(operation(value=0, start=place, end=place)).replace('"value": 0', f'"value": {number}') for place, number in enumerate(numbers)]
+            return [event.rsplit(" ", 1)[1] for event in events("".join(rows))[::2]]
+        for numbers, want in ((("9007199254740993.0", "9007199254740992.0", "9007199254740993.00"), "0 1 0"), (("1e400", "1e500", "10e399"), "0 1 0"),
+                              (("0.1", "0.10000000000000000001", "1e-1"), "0 1 0"), (("1.50", "1.5", "15e-1"), "0 0 0"),
+                              (("1e99999999999999999999", "1e400", "1.0"), "0 1 2")):
+            self.assertEqual([part.rstrip("]") for part in parts(*numbers)], want.split(), numbers)
+        text = lines(operation()).replace('"start": 1', '"start": 0.12345678901234567891').replace('"client": 0', '"client": "a"')
+        self.assertEqual(len(events(text)), 2)
+
+    def test_in_cells(self) -> None:
+        text = "op,key,value,start,end\n" + "".join(f"write,x,{number},{place},{place}\n" for place, number in
+                                                   enumerate(("9007199254740993.0", "9007199254740992.0", "9007199254740993.00")))
+        self.assertEqual([event.split("[")[1] for event in events(text)[::2]], ["0 0]", "0 1]", "0 0]"])
+
+
 class Cells(Case):
+    def test_lists_in_quotes(self) -> None:
+        """As logfmt has them: the two of a cas, and the members that a read found, as JSON and as Go print them."""
+        log = "time={} msg={} process=1 f={} key=0 value={}\n"
+        def found(name: str, value: str) -> str:
+            return events(log.format(1, "invoke", name, value) + log.format(2, "ok", name, value), mapping=mapping.Mapping().with_field("msg=type"))[-1]
+        for spelled in ('"[2, 4]"', '"[2 4]"', "[2,4]"):
+            self.assertEqual(found("cas", spelled), "ok 1 cas [0 [2 4]]")
+        for spelled in ('"[2, 4"', "2", '"2 4"', '"[2, 4, 6]"', "[2]"):
+            with self.assertRaisesRegex(Refused, "line 1: the value of this cas is .*, and no pair of the old and the new value"):
+                found("cas", spelled)
+        adds = "".join(log.format(2 * place + side, kind, "add", f"v{place}") for place in (0, 1) for side, kind in enumerate(("invoke", "ok")))
+        for spelled in (r'"[\"v0\", \"v1\"]"', '"[v0 v1]"'):
+            read = log.format(8, "invoke", "read", "").replace(" value=", "") + log.format(9, "ok", "read", spelled)
+            self.assertEqual(events(adds + read, mapping=mapping.Mapping().with_field("msg=type"))[-1], "ok 1 read [0 #0 1]")
+
+    def test_texts_as_json_has_them(self) -> None:
+        pattern = r"(?P<client>\d) (?P<type>\w+) (?P<op>\w+) (?P<value>.+)"
+        text = '0 invoke add "\\u00e9\\"1"\n0 ok add "\\u00e9\\"1"\n0 invoke read null\n0 ok read ["\u00e9\\"1"]\n'
+        self.assertEqual(events(text, **mapped(line=pattern))[-1], "ok 0 read [0 #0]")
+        self.refused(text.replace('["\u00e9', '[{"a": 1, "a": 2}, "'), 'line 4: an object has the member "a" twice', **mapped(line=pattern))
+        ones = '0 invoke write 1\n0 ok write 1\n0 invoke read null\n0 ok read "1"\n'
+        self.assertEqual(events(ones, **mapped(line=pattern))[-1], "ok 0 read [0 1]")
+
+    def test_numbers_of_many_digits_are_texts(self) -> None:
+        self.assertEqual(len(events(f"op,key,value,start,end\nwrite,x,{'1' * 5000},1,2\n")), 2)
+
     def test_blanks_in_quotes_belong_to_the_text(self) -> None:
         text = 'op,key,value,start,end\nwrite,x," a",1,2\nwrite,x,a,3,4\nread,x," a",5,6\n'
         self.assertEqual([line.split("[")[1] for line in events(text)[1::2]], ["0 0]", "0 1]", "0 0]"])

@@ -131,10 +131,16 @@ class Times(Case):
         self.assertIn("--order lines or --order times", self.guessed(lines(*rows)))
         self.assertEqual([line[:4] for line in events(lines(*rows), mapping=SAYS._replace(order="times"))], ["invo", "invo", "ok 0", "ok 1"])
 
-    def test_none_and_clients_that_stand_together_are_a_guess(self) -> None:
+    def test_none_and_clients_that_stand_together(self) -> None:
+        """What came first is not known; of few events it is a guess."""
         rows = [event(client, kind, None, op) for client in (0, 1) for op in ("acquire", "release") for kind in ("invoke", "ok")]
-        self.assertIn("--order lines", self.guessed(lines(*rows)))
-        self.assertNotIn("--order lines", self.guessed(lines(*rows[:6])))
+        self.refused(lines(*rows), "line 5: the events of each client stand together, as in files put one behind the other, and have no times: "
+                     "which came first? say --order lines if they stand in their order")
+        self.assertEqual(len(events(lines(*rows), mapping=SAYS._replace(order="lines"))), 8)
+        self.assertIn("--order lines", self.guessed(lines(*rows[:6])))
+        self.assertNotIn("--order lines", self.guessed(lines(*rows, *rows[:4])))
+        self.assertNotIn("--order lines", self.guessed(lines(*rows[:4])))
+        self.assertEqual(self.guessed(lines(*({**row, "index": place} for place, row in enumerate(rows)))), self.guessed(lines(*rows[:4])))
 
     def test_events_that_carry_the_begin_of_their_operation(self) -> None:
         rows = [{"client": 0, "type": kind, "op": "write", "key": 1, "value": 1, "start": 1, **({"end": 2} if kind == "ok" else {})}

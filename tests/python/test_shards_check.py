@@ -115,7 +115,7 @@ class BeyondLimits(unittest.TestCase):
 class Threads(unittest.TestCase):
     def fewest(self, text: str) -> Optional[int]:
         lives = Lives()
-        tell(lives, rows_of(text.encode()))
+        tell(lives, rows_of(text.encode())[0])
         return lives.fewest()
 
     def test_as_the_whole_history_has_it(self) -> None:

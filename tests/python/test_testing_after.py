@@ -5,7 +5,7 @@ import pathlib
 import subprocess
 import tempfile
 import unittest
-from typing import Any, Dict, List, Tuple
+from typing import Any, Dict, List, Sequence, Tuple
 
 from jepmon.fault_times import since, until
 from jepmon.history import Event
@@ -15,7 +15,7 @@ from jepmon.testing import ServerError
 from jepmon.testing.after import Reading, listed, lost_members, lost_messages, verdict_on, verdict_on_queue
 from jepmon.testing.crashes import LogWatch, finding
 from jepmon.testing.errors import Died
-from jepmon.testing.losses import Acknowledged, lines, many
+from jepmon.testing.losses import Acknowledged, known_from, lines, many
 from jepmon.testing.messages import Missing
 from jepmon.testing.node import Node
 from tests.python.test_testing_run import Runs
@@ -78,10 +78,10 @@ class Times(unittest.TestCase):
 class Verdicts(unittest.TestCase):
     WRITES = [event(0, "invoke", "write", 5, 1.0), event(1, "ok", "write", 5, 1.9)]
 
-    def on(self, answer: Any, **nodes: Any) -> str:
+    def on(self, answer: Any, events: Sequence[Event] = WRITES, **nodes: Any) -> str:
         readings = {name: value if isinstance(value, Reading) else Reading(value) for name, value in nodes.items()}
-        name = "read"
-        return verdict_on(event(9, "ok", name, answer, 3.5), readings, Acknowledged.of(self.WRITES, 9, [KILL]))
+        fatal = event(9, "ok", "read", answer, 3.5)
+        return verdict_on(fatal, readings, Acknowledged.of(events, 9, [KILL]), known_from([*events, fatal], 9, answer))
 
     def test_of_a_register(self) -> None:
         self.assertEqual(self.on(ABSENT, n1=None, n2=None), "A write is LOST: the wrong answer stays. The write of 5 was acknowledged at "
@@ -90,9 +90,20 @@ class Verdicts(unittest.TestCase):
         self.assertEqual(self.on(4, n1=5, n2=5), stale)
         self.assertEqual(self.on(4, n1=6, n2=6), "LOST or STALE, which can't be told: a write of 6, not acknowledged when the read began, took "
                          "place since.")
+        self.assertEqual(self.on(4, n1=4, n2=4), "The wrong answer stays.")  # of a write that was told as failed
         self.assertEqual(self.on(4, n1=5, n2=4), "Nodes DIVERGED: they still hold different values.")
         self.assertEqual(self.on(4, n1=Reading(None, "no answer (TimeoutError)"), n2=5), stale)
         self.assertIn("can't be told", self.on(4, n1=Reading(None, "no answer (TimeoutError)")))
+
+    def test_of_an_answer_that_is_the_last_write(self) -> None:
+        """Two writes overlap, and the one that is acknowledged first is the last. A stale read between makes its value impossible."""
+        events = [event(0, "invoke", "write", 60, 0.1), event(1, "invoke", "write", 62, 0.1, 1), event(2, "ok", "write", 62, 0.2, 1),
+                  event(3, "ok", "write", 60, 0.3), event(4, "invoke", "read", None, 0.4), event(5, "ok", "read", 60, 0.5)]
+        self.assertEqual(self.on(62, events, n1=62), "An EARLIER answer was wrong: 62 stays, and no write that began after it was there has "
+                         "been acknowledged.")
+        later = [event(6, "invoke", "write", 70, 0.6), event(7, "ok", "write", 70, 0.7)]
+        self.assertEqual(self.on(62, [*events, *later], n1=62), "A write is LOST: the wrong answer stays. The write of 70 was acknowledged at "
+                         '0.70 s, 1.30 s before "n1 is down, by kill -9" began.')
 
     def test_of_a_set(self) -> None:
         adds = [event(index, "ok", "add", index, 1.9 + index / 10) for index in range(3)]
@@ -100,9 +111,9 @@ class Verdicts(unittest.TestCase):
         fatal = event(9, "ok", "read", frozenset({1}), 3.5)
         readings = {"n1": Reading(frozenset({1}))}
         self.assertEqual([one.value for one in lost_members(readings, acknowledged)], [0, 2])
-        self.assertEqual(verdict_on(fatal, readings, acknowledged), "Members are LOST, 2 in all: acknowledged 0 (at 1.90 s), 2 (at 2.10 s); the "
+        self.assertEqual(verdict_on(fatal, readings, acknowledged, -1), "Members are LOST, 2 in all: acknowledged 0 (at 1.90 s), 2 (at 2.10 s); the "
                          'first one 0.10 s before "n1 is down, by kill -9" began, the last one 0.10 s after "n1 is down, by kill -9" began.')
-        self.assertIn("STALE", verdict_on(fatal, {"n1": Reading(frozenset({0, 1, 2}))}, acknowledged))
+        self.assertIn("STALE", verdict_on(fatal, {"n1": Reading(frozenset({0, 1, 2}))}, acknowledged, -1))
 
     def test_of_a_queue(self) -> None:
         events = [event(index, "ok", "enqueue", index, 1.9) for index in range(4)]
@@ -167,6 +178,8 @@ class Crashes(unittest.TestCase):
                                     "crashed n1: it has died by itself, by signal 6; its log says: panic: at raft.c:77"),
                                    ("", "has died by itself, with status 0", "crashed n1: it has died by itself, with status 0"),
                                    ("write: No space left on device\n", "has died by itself, with status 1", None),
+                                   ("error of before\n--- started again\nready\n", "has died by itself, with status 1",
+                                    "crashed n1: it has died by itself, with status 1; its log says: ready"),
                                    ("ready\n", "has died by itself, by signal 9", None)):
                 node.log.write_text(log)
                 self.assertEqual(finding(Died("n1", how, node.log)), said)

@@ -10,7 +10,9 @@ import sys
 import time
 import unittest
 from typing import Set
+from unittest import mock
 
+from jepmon.testing import links
 from jepmon.testing.errors import ServerError
 from jepmon.testing.guard import environment
 from jepmon.testing.links import AUTO, CLIENTS, CUT, DIRECT, NAMESPACES, PROXY, Effect, Switched, both_ways, network
@@ -211,6 +213,15 @@ class TheChoice(unittest.TestCase):
 
     def test_namespaces_where_there_are_some(self) -> None:
         self.assertEqual(network(AUTO, True), PROXY if why_not() else NAMESPACES)
+
+    def test_nodes_that_find_one_another_by_addresses_take_some(self) -> None:
+        with self.assertRaisesRegex(ServerError, "^--network proxy: the nodes of this server find one another by their addresses"):
+            network(PROXY, True, True)
+        with mock.patch.object(links, "why_not", return_value=None):
+            self.assertEqual(network(AUTO, False, True), NAMESPACES)
+        with mock.patch.object(links, "why_not", return_value="not permitted"):
+            with self.assertRaisesRegex(ServerError, "^--network namespaces: .*: not permitted; they take root, and one node takes none$"):
+                network(AUTO, False, True)
 
     def test_where_there_are_none_it_is_said(self) -> None:
         if why_not() is None:

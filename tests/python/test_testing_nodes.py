@@ -73,6 +73,17 @@ class Nodes(Room):
         node.start()
         node.wait_until(node.accepts, PATIENCE, "was not ready")
 
+    def test_none_of_its_family_stays_in_the_table_of_processes(self) -> None:
+        adopt()
+        node = self.node("sh", "-c", "sleep 600 & setsid sh -c 'sleep 600 & wait' & wait")
+        node.start()
+        pid = node.pid
+        assert pid is not None
+        self.assertTrue(wait_for(lambda: len(family(pid)) == 4))
+        members = family(pid)
+        node.kill()
+        self.assertEqual([one for one in members if parent_of(one) != -1], [])
+
     def test_one_that_ends_names_its_log(self) -> None:
         node = self.node("sh", "-c", "echo a port is taken; exit 7")
         node.start()

@@ -126,7 +126,7 @@ class TheTemplate(Runs):
         self.assertRegex((self.room / "runs" / "latest" / "n1.log").read_text(), r"--- power: lost [1-9]")
 
     def test_strikes_and_workloads_of_its_own(self) -> None:
-        ran = self.ran(self.mine(HAS_ITS_OWN), "--time", "2", "--least", "5", "--nemesis", "touch:n1:times=2@0.5+0.2,kill@0.6+0.4")
+        ran = self.ran(self.mine(HAS_ITS_OWN), "--time", "6", "--least", "1", "--nemesis", "touch:n1:times=2@0.5+0.2,kill@0.6+0.4")
         self.assertEqual((ran.returncode, ran.stderr), (0, ""), ran.stdout)
         self.assertRegex(ran.stdout, r"^Mine, writes: .*; kill, touch")
         self.assertIn("strikes: 1 kill, 1 touch", ran.stdout)

@@ -7,11 +7,12 @@ import threading
 import time
 import unittest
 from typing import Callable, List, Tuple
+from unittest import mock
 
 from jepmon.testing import Came, Failed
 from jepmon.testing.node import ADDRESS
 from jepmon.testing.servers.beanstalkd import Queue
-from jepmon.testing.wire.amqp import Amqp, method, short
+from jepmon.testing.wire.amqp import CLASSIC, QUORUM, Amqp, method, short
 from jepmon.testing.wire.postgres import Postgres, SqlError, values
 from jepmon.testing.wire.resp import Redis, RedisError, request
 from jepmon.testing.wire.streams import Stream
@@ -246,6 +247,15 @@ class OfAmqp(Scripted):
         with self.assertRaisesRegex(ConnectionError, "NOT_FOUND") as raised:
             self.amqp(closed).publish("q", b"12")
         self.assertNotIsInstance(raised.exception, ConnectionRefusedError)  # the message was sent
+
+    def test_a_queue_says_of_which_kind_it_is(self) -> None:
+        for kind in (CLASSIC, QUORUM):
+            sent: List[bytes] = []
+            amqp = Amqp((ADDRESS, 0), PATIENCE, kind)
+            with mock.patch.object(amqp.stream, "begin"), mock.patch.object(amqp, "_connect"), \
+                    mock.patch.object(amqp, "_ask", lambda payload, answer: sent.append(payload)):
+                amqp.declare("q")
+            self.assertTrue(sent[0].endswith(b"\x0cx-queue-typeS" + struct.pack("!I", len(kind)) + kind.encode()), sent)
 
     def test_what_comes_before_has_sent_no_message(self) -> None:
         ask: Callable[[], object] = lambda: Amqp(self.server(b"HTTP/1.1 400 Bad Request\r\n\r\n"), PATIENCE).publish("q", b"12")

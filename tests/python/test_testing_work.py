@@ -13,6 +13,7 @@ from jepmon.testing import Client, Node, Server
 from jepmon.testing import run as test_run
 from jepmon.testing.messages import Messages
 from jepmon.testing.run import Given, Outcome, Test
+from jepmon.testing.workloads import Queues
 from tests.python.monitored import Monitored
 
 SEED = 1
@@ -229,6 +230,18 @@ class Works(Monitored):
         self.assertTrue((outcome.part / "page.html").exists())
         kept = [path.name for path in outcome.folder.glob("part-*")]
         self.assertLessEqual(len(kept), 1 + 2)  # legal, and those that went on at the end
+
+
+class OneProducer(unittest.TestCase):
+    def test_it_consumes_mostly_where_many_messages_wait(self) -> None:
+        for waiting, most in ((0, 0), (Queues.BACKLOG[1], 90)):
+            work, draws = Queues(mock.Mock(), 2, 1), random.Random(SEED)
+            with mock.patch.object(work, "backlog", return_value=waiting), mock.patch.object(work, "_wait"), \
+                    mock.patch.object(work, "enqueue"), mock.patch.object(work, "dequeue") as dequeue:
+                for _ in range(100):
+                    work.step(0, None, draws, 0.5)
+            self.assertLessEqual(dequeue.call_count, most)
+            self.assertGreaterEqual(dequeue.call_count, most - 20)
 
 
 class Counted(Monitored):

@@ -49,10 +49,10 @@ module _ (marks : List Mark) (id : ℕ) (op : Op) (well : AreWellFormed (marks +
     not_in z h s = ⊎_elim
         (λ none. Contains-nil z (subst (λ l. Contains l z) none h))
         (λ k. ⊎_elim
-          (λ j. Pairwise-across (λ a b. ¬ Precedes longer b.id a.id) k.0 (k.1 ∷ []) (subst (Pairwise (λ a b. ¬ Precedes longer b.id a.id)) k.2 legal.in_time) z k.1 j (Contains-head k.1 [])
-            (subst (Precedes longer k.1.id) (sym s) (precedes_new k.1.id k.3)))
-          (λ q. new_open (subst (HasReturned longer) (ap (λ (w : Taken). w.id) q ∙ s) k.3))
-          (Contains-push_cases k.0 k.1 z (subst (λ l. Contains l z) k.2 h)))
+        (λ j. Pairwise-across (λ a b. ¬ Precedes longer b.id a.id) k.0 (k.1 ∷ []) (subst (Pairwise (λ a b. ¬ Precedes longer b.id a.id)) k.2 legal.in_time) z k.1 j (Contains-head k.1 [])
+        (subst (Precedes longer k.1.id) (sym s) (precedes_new k.1.id k.3)))
+        (λ q. new_open (subst (HasReturned longer) (ap (λ (w : Taken). w.id) q ∙ s) k.3))
+        (Contains-push_cases k.0 k.1 z (subst (λ l. Contains l z) k.2 h)))
         last
 
     before_it : IsLegalOrder register marks p u
@@ -67,9 +67,9 @@ module _ (marks : List Mark) (id : ℕ) (op : Op) (well : AreWellFormed (marks +
         by_rest (y ∷ ys) cut none = absurd (⊎_elim
             (λ empty. Contains-nil y (subst (λ l. Contains l y) (sym cut ∙ empty) (Contains-append_right f.0 (y ∷ ys) y (Contains-head y ys))))
             (λ k. ⊎_elim
-              (λ (q : y ∷ ys ≡ []). cc)
-              (λ c. none k.1 (subst (λ l. Contains l k.1) (sym c.1) (Contains-push c.0 k.1)) (precedes_new k.1.id k.3))
-              (snoc_cut f.0 (y ∷ ys) k.0 k.1 (sym cut ∙ k.2)))
+            (λ (q : y ∷ ys ≡ []). cc)
+            (λ c. none k.1 (subst (λ l. Contains l k.1) (sym c.1) (Contains-push c.0 k.1)) (precedes_new k.1.id k.3))
+            (snoc_cut f.0 (y ∷ ys) k.0 k.1 (sym cut ∙ k.2)))
             last)
 
     module _ (e f : LeanEnd) (state : f.state ≡ e.state) (needed : f.needed ≡ e.needed) (door : f.door ≡ e.door)
@@ -120,33 +120,33 @@ module _ (marks : List Mark) (id : ℕ) (op : Op) (well : AreWellFormed (marks +
       covers_begun = record {
         needed = λ i n. (let k = c.needed i (is_needed i n) in (k.0, (k.1.0, (k.1.1.0, kept _ k.1.1.1, k.1.1.2))));
         how = ⊎_elim
-          (λ s. inl (record {
-            state = s.state ∙ sym state;
-            placed = λ x v k o. in_door x (s.placed x v (extra_was x v k) (open_without_new marks id op fresh x (λ q. not_in k.is_in.0 k.is_in.1 (k.is_in.2 ∙ q)) o));
-            finds = λ r v h g. ⊎_elim
-              (λ q. as_new r v q h g (λ at m. inl (subst (λ n. IsTrue (f.finds n v)) (sym q) (new (reads m) v (sym s.state ∙ at)))))
-              (λ ne. ⊎_elim (λ i. inl (finds r v i)) (λ j. inr (j.0, extra_is j.0 v j.1, in_door j.0 j.2, in_door r j.3)) (s.finds r v (read_was r ne h) (find_was r v g)))
-              (cases_eq r id);
-          }))
-          (λ b. inr (record {
-            last = (b.last.0, b.last.1, extra_is b.last.0 b.last.1 b.last.2, b.last.3);
-            finds = λ r v h g. ⊎_elim
-              (λ q. as_new r v q h g (λ at m. (let same : Some b.last.1 ≡ Some v = sym b.last.3 ∙ at in let w : b.last.1 ≡ v = cc in
+            (λ s. inl (record {
+              state = s.state ∙ sym state;
+              placed = λ x v k o. in_door x (s.placed x v (extra_was x v k) (open_without_new marks id op fresh x (λ q. not_in k.is_in.0 k.is_in.1 (k.is_in.2 ∙ q)) o));
+              finds = λ r v h g. ⊎_elim
+                  (λ q. as_new r v q h g (λ at m. inl (subst (λ n. IsTrue (f.finds n v)) (sym q) (new (reads m) v (sym s.state ∙ at)))))
+                  (λ ne. ⊎_elim (λ i. inl (finds r v i)) (λ j. inr (j.0, extra_is j.0 v j.1, in_door j.0 j.2, in_door r j.3)) (s.finds r v (read_was r ne h) (find_was r v g)))
+                  (cases_eq r id);
+            }))
+            (λ b. inr (record {
+              last = (b.last.0, b.last.1, extra_is b.last.0 b.last.1 b.last.2, b.last.3);
+              finds = λ r v h g. ⊎_elim
+                  (λ q. as_new r v q h g (λ at m. (let same : Some b.last.1 ≡ Some v = sym b.last.3 ∙ at in let w : b.last.1 ≡ v = cc in
                   inr (b.last.0, subst (Extra longer f p b.last.0) w (extra_is b.last.0 b.last.1 b.last.2)))))
-              (λ ne. ⊎_elim (λ i. inl (finds r v i)) (λ j. inr (j.0, extra_is j.0 v j.1)) (b.finds r v (read_was r ne h) (find_was r v g)))
-              (cases_eq r id);
-          }))
-          c.how;
+                  (λ ne. ⊎_elim (λ i. inl (finds r v i)) (λ j. inr (j.0, extra_is j.0 v j.1)) (b.finds r v (read_was r ne h) (find_was r v g)))
+                  (cases_eq r id);
+            }))
+            c.how;
       }
 
     pub begun : (e : LeanEnd) → Covers marks e p u → (f : LeanEnd) × Becomes marks e (Invoked id op) f × Covers longer f p u
     begun e c = ⊎_elim
         (λ r.
-          let g = some_with_read e id in
-          (g.0, inl ((r.0, r.1), g.1), covers_begun e g.0 g.1.state g.1.needed g.1.door (λ r w h. (g.1.finds r w).1 (inl h)) (λ q w s. (g.1.finds id w).1 (inr (refl, s))) c))
+        let g = some_with_read e id in
+        (g.0, inl ((r.0, r.1), g.1), covers_begun e g.0 g.1.state g.1.needed g.1.door (λ r w h. (g.1.finds r w).1 (inl h)) (λ q w s. (g.1.finds id w).1 (inr (refl, s))) c))
         (λ n.
-          let no : ¬ Reads op = ⊎_elim (λ w r. no_read op w.0 (w.1, w.2) r) (λ o. o.0) n in
-          (e, inr (no, refl), covers_begun e e refl refl refl (λ r w h. h) (λ q. absurd (no q)) c))
+        let no : ¬ Reads op = ⊎_elim (λ w r. no_read op w.0 (w.1, w.2) r) (λ o. o.0) n in
+        (e, inr (no, refl), covers_begun e e refl refl refl (λ r w h. h) (λ q. absurd (no q)) c))
         (sort_of op)
 
   pub after_invoke : (L : LeanEnd → Type 0) → ((order : List Taken) (t : Option ℤ) → IsLegalOrder register marks order t → (e : LeanEnd) × L e × Covers marks e order t)

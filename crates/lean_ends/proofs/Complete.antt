@@ -36,14 +36,18 @@ module _ (marks : List Mark) (L : LeanEnd → Type 0) (complete : AreComplete ma
 
 -- at first
 pub at_first : AreComplete [] (λ e. e ≡ start)
-at_first [] t l = (start, refl, record {
-  needed = λ i n. absurd (true≢false (sym n));
-  how = inl (record {
-    state = sym l.run;
-    placed = λ x v k o. absurd (Contains-nil _ k.is_in.1);
-    finds = λ r v h f. absurd (Contains-nil _ h.0.1);
-  });
-})
+at_first [] t l = (
+  start,
+  refl,
+  record {
+    needed = λ i n. absurd (true≢false (sym n));
+    how = inl (record {
+      state = sym l.run;
+      placed = λ x v k o. absurd (Contains-nil _ k.is_in.1);
+      finds = λ r v h f. absurd (Contains-nil _ h.0.1);
+    });
+  },
+)
 at_first (x ∷ order) t l = absurd (Contains-nil _ (l.invoked x (Contains-head x order)))
 
 complete_by : (before more : List Mark) (L : LeanEnd → Type 0) → AreWellFormed (before ++ more) → AreComplete before L

@@ -61,17 +61,17 @@ module _ (marks : List Mark) (well : AreWellFormed marks) (e : LeanEnd) (p q : L
   find_cases : (r : ℕ) (v : ℤ) → MayFind marks (p ++ q) r v → MayFind marks p r v ⊎ ((y : Taken) × Contains q y × Writes y.op v)
   find_cases r v f = ⊎_elim
       (λ k.
-        -- the place is behind p
-        let c1 = Run-cut register None (Some v) p k.0 (subst (λ xs. Run register None xs (Some v)) k.1 f.3) in
-        let at_u : c1.0 ≡ u = run_same p None c1.0 u c1.1 run_p in
-        ⊎_elim
-        (λ reads. inl (p, [], sym (append-nil p), subst (λ s. Run register None p s) (sym (reads.1 ∙ at_u)) run_p, (λ y h. absurd (Contains-nil y h))))
-        (λ (w : LastWrite k.0 (Some v)).
-          let same : Some w.value ≡ Some v = sym w.left in
-          let is_v : w.value ≡ v = cc in
-          let in_m : Contains k.0 w.write = subst (λ ys. Contains ys w.write) (sym w.cut) (Contains-append_right w.before (w.write ∷ w.behind) w.write (Contains-head w.write w.behind)) in
-          inr (w.write, subst (λ ys. Contains ys w.write) (sym k.2) (Contains-append_left k.0 f.1 w.write in_m), subst (Writes w.write.op) is_v w.writes))
-        (run_view k.0 c1.0 (Some v) c1.2))
+      -- the place is behind p
+      let c1 = Run-cut register None (Some v) p k.0 (subst (λ xs. Run register None xs (Some v)) k.1 f.3) in
+      let at_u : c1.0 ≡ u = run_same p None c1.0 u c1.1 run_p in
+      ⊎_elim
+      (λ reads. inl (p, [], sym (append-nil p), subst (λ s. Run register None p s) (sym (reads.1 ∙ at_u)) run_p, (λ y h. absurd (Contains-nil y h))))
+      (λ (w : LastWrite k.0 (Some v)).
+      let same : Some w.value ≡ Some v = sym w.left in
+      let is_v : w.value ≡ v = cc in
+      let in_m : Contains k.0 w.write = subst (λ ys. Contains ys w.write) (sym w.cut) (Contains-append_right w.before (w.write ∷ w.behind) w.write (Contains-head w.write w.behind)) in
+      inr (w.write, subst (λ ys. Contains ys w.write) (sym k.2) (Contains-append_left k.0 f.1 w.write in_m), subst (Writes w.write.op) is_v w.writes))
+      (run_view k.0 c1.0 (Some v) c1.2))
       (λ k. inl (f.0, k.0, k.1, f.3, (λ y h. f.4 y (subst (λ ys. Contains ys y) (sym k.2) (Contains-append_left k.0 q y h)))))
       (two_cuts p q f.0 f.1 f.2)
 
@@ -85,27 +85,27 @@ module _ (marks : List Mark) (well : AreWellFormed marks) (e : LeanEnd) (p q : L
   covers_with_pending = record {
     needed = λ i n. (let k = c.needed i n in ((k.0.0, Contains-append_left p q k.0.0 k.0.1, k.0.2), k.1));
     how = ⊎_elim
-      (λ reads. ⊎_elim
+        (λ reads. ⊎_elim
         (λ s. inl (record {
           state = reads.1 ∙ s.state;
           placed = λ x v k o. s.placed x v (down reads.0 x v k) o;
           finds = λ r v m f. ⊎_elim
-            (λ g. ⊎_elim inl (λ j. inr (j.0, up j.0 v j.1, j.2, j.3)) (s.finds r v m g))
-            (λ w. absurd (no_read w.0.op v w.2 (reads.0 w.0 w.1)))
-            (find_cases r v f);
+              (λ g. ⊎_elim inl (λ j. inr (j.0, up j.0 v j.1, j.2, j.3)) (s.finds r v m g))
+              (λ w. absurd (no_read w.0.op v w.2 (reads.0 w.0 w.1)))
+              (find_cases r v f);
         }))
         (λ b. inr (record {
           last = (b.last.0, b.last.1, up b.last.0 b.last.1 b.last.2, reads.1 ∙ b.last.3);
           finds = λ r v m f. ⊎_elim (of_front r v m) (λ w. absurd (no_read w.0.op v w.2 (reads.0 w.0 w.1))) (find_cases r v f);
         }))
         c.how)
-      (λ w.
+        (λ w.
         let here : Contains q w.write = subst (λ ys. Contains ys w.write) (sym w.cut) (Contains-append_right w.before (w.write ∷ w.behind) w.write (Contains-head w.write w.behind)) in
         inr (record {
           last = (w.write.id, w.value, extra_behind w.write w.value here w.writes, w.left);
           finds = λ r v m f. ⊎_elim (of_front r v m) (λ k. inr (k.0.id, extra_behind k.0 v k.1 k.2)) (find_cases r v f);
         }))
-      (run_view q u t run_q);
+        (run_view q u t run_q);
   }
     where
       down : ((y : Taken) → Contains q y → Reads y.op) → (x : ℕ) (v : ℤ) → Extra marks e (p ++ q) x v → Extra marks e p x v

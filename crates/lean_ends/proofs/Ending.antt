@@ -63,24 +63,24 @@ module _ (marks : List Mark) (m : Mark) (c : IsCompletion m) where
     covers_without cov = record {
       needed = λ i n. (let k = cov.needed i ((without.needed i).0 n).0 in (k.0, (k.1.0, (k.1.1.0, kept _ k.1.1.1, k.1.1.2))));
       how = ⊎_elim
-        (λ s. inl (record {
-          state = s.state ∙ sym without.state;
-          placed = λ x v k o. (without.door x).1 (s.placed x v (extra_was x v k) (was_open marks m c x o).0, apart x v k.may);
-          finds = λ r v h g.
-            let w = read_was r h in
-            ⊎_elim
-            (λ i. inl ((without.finds r v).1 (i, w.1)))
-            (λ j. inr (j.0, extra_is j.0 v j.1, (without.door j.0).1 (j.2, other j.0 v j.1), (without.door r).1 (j.3, w.1)))
-            (s.finds r v w.0 (find_was order r v g));
-        }))
-        (λ b. inr (record {
-          last = (b.last.0, b.last.1, extra_is b.last.0 b.last.1 b.last.2, b.last.3);
-          finds = λ r v h g.
-            let w = read_was r h in
-            ⊎_elim
-            (λ i. inl ((without.finds r v).1 (i, w.1)))
-            (λ j. inr (j.0, extra_is j.0 v j.1))
-            (b.finds r v w.0 (find_was order r v g));
-        }))
-        cov.how;
+          (λ s. inl (record {
+            state = s.state ∙ sym without.state;
+            placed = λ x v k o. (without.door x).1 (s.placed x v (extra_was x v k) (was_open marks m c x o).0, apart x v k.may);
+            finds = λ r v h g.
+                let w = read_was r h in
+                ⊎_elim
+                (λ i. inl ((without.finds r v).1 (i, w.1)))
+                (λ j. inr (j.0, extra_is j.0 v j.1, (without.door j.0).1 (j.2, other j.0 v j.1), (without.door r).1 (j.3, w.1)))
+                (s.finds r v w.0 (find_was order r v g));
+          }))
+          (λ b. inr (record {
+            last = (b.last.0, b.last.1, extra_is b.last.0 b.last.1 b.last.2, b.last.3);
+            finds = λ r v h g.
+                let w = read_was r h in
+                ⊎_elim
+                (λ i. inl ((without.finds r v).1 (i, w.1)))
+                (λ j. inr (j.0, extra_is j.0 v j.1))
+                (b.finds r v w.0 (find_was order r v g));
+          }))
+          cov.how;
     }

@@ -66,29 +66,29 @@ module _ (marks : List Mark) (id : ℕ) (well : AreWellFormed (marks ++ Crashed 
   covers_still = record {
     needed = λ i n. (let k = c.needed i n in (k.0, (k.1.0, (k.1.1.0, Contains-append_left marks (Crashed id ∷ []) _ k.1.1.1, k.1.1.2))));
     how = ⊎_elim
-      (λ s. inl (record {
-        state = s.state;
-        placed = λ x v k o. s.placed x v (extra_was x v k) (was_open marks (Crashed id) tt x o).0;
-        finds = λ r v h g. ⊎_elim inl (λ j. inr (j.0, extra_stays j.0 v j.1, j.2, j.3)) (s.finds r v (read_was marks (Crashed id) tt r h).0 (find_was marks (Crashed id) tt order r v g));
-      }))
-      (λ b. inr (record {
-        last = (b.last.0, b.last.1, extra_stays b.last.0 b.last.1 b.last.2, b.last.3);
-        finds = λ r v h g. ⊎_elim inl (λ j. inr (j.0, extra_stays j.0 v j.1)) (b.finds r v (read_was marks (Crashed id) tt r h).0 (find_was marks (Crashed id) tt order r v g));
-      }))
-      c.how;
+        (λ s. inl (record {
+          state = s.state;
+          placed = λ x v k o. s.placed x v (extra_was x v k) (was_open marks (Crashed id) tt x o).0;
+          finds = λ r v h g. ⊎_elim inl (λ j. inr (j.0, extra_stays j.0 v j.1, j.2, j.3)) (s.finds r v (read_was marks (Crashed id) tt r h).0 (find_was marks (Crashed id) tt order r v g));
+        }))
+        (λ b. inr (record {
+          last = (b.last.0, b.last.1, extra_stays b.last.0 b.last.1 b.last.2, b.last.3);
+          finds = λ r v h g. ⊎_elim inl (λ j. inr (j.0, extra_stays j.0 v j.1)) (b.finds r v (read_was marks (Crashed id) tt r h).0 (find_was marks (Crashed id) tt order r v g));
+        }))
+        c.how;
   }
 
   pub after_crash : Leads marks (Crashed id) e order t
   after_crash = ⊎_elim
       (λ r.
-        let f = some_without e id in (
-          f.0,
-          inl (r, f.1),
-          covers_without marks (Crashed id) tt e f.0 order t f.1
-              (λ x v w s. read_no_write marks before id v r (subst (λ n. IsWriteOf marks n v) s (write_was marks (Crashed id) tt x v w).write))
-              (λ x v k s. read_no_write marks before id v r (subst (λ n. IsWriteOf marks n v) s k.may.write))
-              c,
-        ))
+      let f = some_without e id in (
+        f.0,
+        inl (r, f.1),
+        covers_without marks (Crashed id) tt e f.0 order t f.1
+            (λ x v w s. read_no_write marks before id v r (subst (λ n. IsWriteOf marks n v) s (write_was marks (Crashed id) tt x v w).write))
+            (λ x v k s. read_no_write marks before id v r (subst (λ n. IsWriteOf marks n v) s k.may.write))
+            c,
+      ))
       (λ n. (e, inr (n, refl), covers_still))
       (read_or_not marks before id)
 
@@ -119,20 +119,20 @@ module _ (marks : List Mark) (id : ℕ) (answer : Answer) (well : AreWellFormed 
   with_write : (v : ℤ) → IsWriteOf marks id v → Includes order id → Leads marks (Returned id answer) e order t
   with_write v w i = ⊎_elim
       (λ n.
-        let f = goes e c (λ x u k s. k.free (subst (λ j. IsTrue (e.needed j)) (sym s) n)) in
-        (f.0, inl (v, w, inl (n, f.1)), f.2))
+      let f = goes e c (λ x u k s. k.free (subst (λ j. IsTrue (e.needed j)) (sym s) n)) in
+      (f.0, inl (v, w, inl (n, f.1)), f.2))
       (λ n.
-        let k : Extra marks e order id v = record { is_in = i; may = record { write = w; not_returned = is_open.not_returned; not_failed = is_open.not_failed }; free = n } in
-        ⊎_elim
-        (λ s.
-          let g = some_before marks earlier e id v (s.placed id v k is_open) in
-          let f = goes g.0 (put_before marks earlier e g.0 order t id v k c.needed g.1 s) (λ x u j q. j.free ((g.1.needed x).1 (inl q))) in
-          (f.0, inl (v, w, inr (n, (g.0, inr g.1, f.1))), f.2))
-        (λ b.
-          let g = some_behind marks earlier e id v in
-          let f = goes g.0 (put_behind marks earlier e g.0 order t id v k c.needed g.1 b) (λ x u j q. j.free ((g.1.needed x).1 (inl q))) in
-          (f.0, inl (v, w, inr (n, (g.0, inl g.1, f.1))), f.2))
-        c.how)
+      let k : Extra marks e order id v = record { is_in = i; may = record { write = w; not_returned = is_open.not_returned; not_failed = is_open.not_failed }; free = n } in
+      ⊎_elim
+      (λ s.
+      let g = some_before marks earlier e id v (s.placed id v k is_open) in
+      let f = goes g.0 (put_before marks earlier e g.0 order t id v k c.needed g.1 s) (λ x u j q. j.free ((g.1.needed x).1 (inl q))) in
+      (f.0, inl (v, w, inr (n, (g.0, inr g.1, f.1))), f.2))
+      (λ b.
+      let g = some_behind marks earlier e id v in
+      let f = goes g.0 (put_behind marks earlier e g.0 order t id v k c.needed g.1 b) (λ x u j q. j.free ((g.1.needed x).1 (inl q))) in
+      (f.0, inl (v, w, inr (n, (g.0, inl g.1, f.1))), f.2))
+      c.how)
       (is_true (e.needed id))
 
   no_write : IsRead marks id → (g : LeanEnd) (x : ℕ) (v : ℤ) → Extra marks g order x v → x ≢ id
@@ -141,26 +141,26 @@ module _ (marks : List Mark) (id : ℕ) (answer : Answer) (well : AreWellFormed 
   with_value : (v : ℤ) → IsRead marks id → answer ≡ Number v → MayFind marks order id v → Leads marks (Returned id answer) e order t
   with_value v r a found = ⊎_elim
       (λ n.
-        let f = goes e c (no_write r e) in
-        (f.0, inr (inr (v, r, a, inl (n, f.1))), f.2))
+      let f = goes e c (no_write r e) in
+      (f.0, inr (inr (v, r, a, inl (n, f.1))), f.2))
       (λ n. ⊎_elim
-        (λ s. ⊎_elim
-          (λ h. absurd (n h))
-          (λ h.
-            let x : ℕ = h.0 in
-            let g = some_before marks earlier e x v h.2 in
-            let f = goes g.0 (put_before marks earlier e g.0 order t x v h.1 c.needed g.1 s) (no_write r g.0) in
-            (f.0, inr (inr (v, r, a, inr (n, (x, g.0, h.1.may, h.1.free, inr (h.3, g.1), f.1)))), f.2))
-          (s.finds id v (r, is_open) found))
-        (λ b. ⊎_elim
-          (λ h. absurd (n h))
-          (λ h.
-            let x : ℕ = h.0 in
-            let g = some_behind marks earlier e x v in
-            let f = goes g.0 (put_behind marks earlier e g.0 order t x v h.1 c.needed g.1 b) (no_write r g.0) in
-            (f.0, inr (inr (v, r, a, inr (n, (x, g.0, h.1.may, h.1.free, inl g.1, f.1)))), f.2))
-          (b.finds id v (r, is_open) found))
-        c.how)
+      (λ s. ⊎_elim
+      (λ h. absurd (n h))
+      (λ h.
+      let x : ℕ = h.0 in
+      let g = some_before marks earlier e x v h.2 in
+      let f = goes g.0 (put_before marks earlier e g.0 order t x v h.1 c.needed g.1 s) (no_write r g.0) in
+      (f.0, inr (inr (v, r, a, inr (n, (x, g.0, h.1.may, h.1.free, inr (h.3, g.1), f.1)))), f.2))
+      (s.finds id v (r, is_open) found))
+      (λ b. ⊎_elim
+      (λ h. absurd (n h))
+      (λ h.
+      let x : ℕ = h.0 in
+      let g = some_behind marks earlier e x v in
+      let f = goes g.0 (put_behind marks earlier e g.0 order t x v h.1 c.needed g.1 b) (no_write r g.0) in
+      (f.0, inr (inr (v, r, a, inr (n, (x, g.0, h.1.may, h.1.free, inl g.1, f.1)))), f.2))
+      (b.finds id v (r, is_open) found))
+      c.how)
       (is_true (e.finds id v))
 
   -- where the read stands it may stand
@@ -171,9 +171,9 @@ module _ (marks : List Mark) (id : ℕ) (answer : Answer) (well : AreWellFormed 
     cut,
     run,
     λ z h p. ⊎_elim
-      (λ q. is_open.not_returned (Precedes-returned marks id id (subst (λ n. Precedes marks n id) (ap (λ (w : Taken). w.id) (sym q) ∙ is) p)))
-      (λ k. (Pairwise-right (λ a b. ¬ Precedes marks b.id a.id) xs (y ∷ ys) (subst (Pairwise (λ a b. ¬ Precedes marks b.id a.id)) cut shorter.in_time)).0 z k (subst (Precedes marks z.id) (sym is) p))
-      (Contains-cons_cases y ys z h),
+        (λ q. is_open.not_returned (Precedes-returned marks id id (subst (λ n. Precedes marks n id) (ap (λ (w : Taken). w.id) (sym q) ∙ is) p)))
+        (λ k. (Pairwise-right (λ a b. ¬ Precedes marks b.id a.id) xs (y ∷ ys) (subst (Pairwise (λ a b. ¬ Precedes marks b.id a.id)) cut shorter.in_time)).0 z k (subst (Precedes marks z.id) (sym is) p))
+        (Contains-cons_cases y ys z h),
   )
 
   with_read : (xs ys : List Taken) (y : Taken) → order ≡ xs ++ y ∷ ys → y.id ≡ id → (s : Option ℤ) → Run register None xs s → (a : Answer) → answer ≡ a → Fits (Reg s) a → IsRead marks id → Leads marks (Returned id answer) e order t
@@ -191,7 +191,7 @@ module _ (marks : List Mark) (id : ℕ) (answer : Answer) (well : AreWellFormed 
       let invoked : Contains marks (Invoked id i.0.op) = subst (λ n. Contains marks (Invoked n i.0.op)) i.2 (shorter.invoked i.0 i.1) in
       ⊎_elim
       (λ r. with_read d.0 d.1 i.0 d.2 i.2 run.0 run.1 answer refl
-        (subst (λ f. Fits f answer) r.3 (l.fits i.0 answer i.1 (subst (λ n. Contains longer (Returned n answer)) (sym i.2) returned)))
-        (i.0.op, invoked, (r.0, r.1)))
+      (subst (λ f. Fits f answer) r.3 (l.fits i.0 answer i.1 (subst (λ n. Contains longer (Returned n answer)) (sym i.2) returned)))
+      (i.0.op, invoked, (r.0, r.1)))
       (λ w. with_write w.0 (i.0.op, invoked, (w.1, w.2)) i)
       (step_view i.0.op run.0 run.2.0 i.0.found run.2.1)

@@ -118,7 +118,6 @@ module _ (marks : List Mark) (id : ℕ) (answer : Answer) (e f : LeanEnd) (order
       (λ k. none y (subst (λ k. Contains k y) (sym q) k) (was y.id z p))
       (within_cases a b taken y h)
 
-
   shifted : (d : Door marks e order) → Door after f more
   shifted d = ⊎_elim
       -- the read comes before the last write
@@ -169,13 +168,13 @@ module _ (marks : List Mark) (id : ℕ) (answer : Answer) (e f : LeanEnd) (order
         each_late r g.1 g.4 k.0 ys k.2,
       ))
       (λ k.
-        let c = Run-cut register None (Some v) xs k.0 (subst (λ l. Run register None l (Some v)) k.1 g.3) in (
-          xs ++ taken ∷ k.0,
-          g.1,
-          ap (λ l. xs ++ taken ∷ l) k.2 ∙ sym (append_assoc xs (taken ∷ k.0) g.1),
-          Run-append register None u (Some v) xs (taken ∷ k.0) run (u, read_step op u reads, subst (λ w. Run register w k.0 (Some v)) (run_same xs None c.0 u c.1 run) c.2),
-          λ y h p. g.4 y h (was y.id r p),
-        ))
+      let c = Run-cut register None (Some v) xs k.0 (subst (λ l. Run register None l (Some v)) k.1 g.3) in (
+        xs ++ taken ∷ k.0,
+        g.1,
+        ap (λ l. xs ++ taken ∷ l) k.2 ∙ sym (append_assoc xs (taken ∷ k.0) g.1),
+        Run-append register None u (Some v) xs (taken ∷ k.0) run (u, read_step op u reads, subst (λ w. Run register w k.0 (Some v)) (run_same xs None c.0 u c.1 run) c.2),
+        λ y h p. g.4 y h (was y.id r p),
+      ))
       (two_cuts g.0 g.1 xs ys (sym g.2 ∙ cut))
 
   pub stands_read : Stands after f more t
@@ -183,11 +182,11 @@ module _ (marks : List Mark) (id : ℕ) (answer : Answer) (e f : LeanEnd) (order
     legal = legal_after;
     state = s.state ∙ sym without.state;
     only = λ x h n. ⊎_elim
-      (λ q. absurd (n (answer, subst (λ (w : Taken). Contains after (Returned w.id answer)) q (Contains-push marks (Returned id answer)))))
-      (λ k. (let j = subst (λ l. Contains l x) (sym cut) k in (without.needed x.id).1 (s.only x j (λ r. n (r.0, Contains-append_left marks (Returned id answer ∷ []) _ r.1)), (λ q. not_in (x, j, q)))))
-      (within_cases xs ys taken x h);
+        (λ q. absurd (n (answer, subst (λ (w : Taken). Contains after (Returned w.id answer)) q (Contains-push marks (Returned id answer)))))
+        (λ k. (let j = subst (λ l. Contains l x) (sym cut) k in (without.needed x.id).1 (s.only x j (λ r. n (r.0, Contains-append_left marks (Returned id answer ∷ []) _ r.1)), (λ q. not_in (x, j, q)))))
+        (within_cases xs ys taken x h);
     needed = λ i n. (let k = s.needed i ((without.needed i).0 n).0 in
-      ((k.0.0, within_others xs ys taken k.0.0 (subst (λ l. Contains l k.0.0) cut k.0.1), k.0.2), (k.1.0, (k.1.1.0, Contains-append_left marks (Returned id answer ∷ []) _ k.1.1.1, k.1.1.2))));
+        ((k.0.0, within_others xs ys taken k.0.0 (subst (λ l. Contains l k.0.0) cut k.0.1), k.0.2), (k.1.0, (k.1.1.0, Contains-append_left marks (Returned id answer ∷ []) _ k.1.1.1, k.1.1.2))));
     comes = λ z d. (let k = (without.door z).0 d in let w = s.comes z k.0 in (comes_still marks (Returned id answer) tt z k.1 w.0, (λ n. w.1 ((without.needed z).0 n).0)));
     door = ⊎_elim (λ none. inl (λ z d. none z ((without.door z).0 d).0)) (λ d. inr (shifted d)) s.door;
     finds = λ r v h. (let k = (without.finds r v).0 h in let w = s.finds r v k.0 in (read_is marks (Returned id answer) tt r k.1 w.0, found_in r v w.1));

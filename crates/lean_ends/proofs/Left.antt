@@ -26,16 +26,16 @@ module _ (marks : List Mark) (e f : LeanEnd) (order : List Taken) (t : Option �
   covers_at_most c = record {
     needed = λ i n. c.needed i (most.needed i n);
     how = ⊎_elim
-      (λ s. inl (record {
-        state = s.state ∙ most.state;
-        placed = λ x v k o. most.door x (s.placed x v (extra_open x v k o) o);
-        finds = λ r v m g. ⊎_elim (λ h. inl (most.finds r v h)) (λ j. inr (j.0, extra_more j.0 v j.1, most.door j.0 j.2, most.door r j.3)) (s.finds r v m g);
-      }))
-      (λ b. inr (record {
-        last = (b.last.0, b.last.1, extra_more b.last.0 b.last.1 b.last.2, b.last.3);
-        finds = λ r v m g. ⊎_elim (λ h. inl (most.finds r v h)) (λ j. inr (j.0, extra_more j.0 v j.1)) (b.finds r v m g);
-      }))
-      c.how;
+        (λ s. inl (record {
+          state = s.state ∙ most.state;
+          placed = λ x v k o. most.door x (s.placed x v (extra_open x v k o) o);
+          finds = λ r v m g. ⊎_elim (λ h. inl (most.finds r v h)) (λ j. inr (j.0, extra_more j.0 v j.1, most.door j.0 j.2, most.door r j.3)) (s.finds r v m g);
+        }))
+        (λ b. inr (record {
+          last = (b.last.0, b.last.1, extra_more b.last.0 b.last.1 b.last.2, b.last.3);
+          finds = λ r v m g. ⊎_elim (λ h. inl (most.finds r v h)) (λ j. inr (j.0, extra_more j.0 v j.1)) (b.finds r v m g);
+        }))
+        c.how;
   }
 
 module _ (marks : List Mark) (m : Mark) (ends left : List LeanEnd) (by : AreLeftBy marks m ends left) where
@@ -111,13 +111,13 @@ only_itself : (marks : List Mark) (left : List LeanEnd) → Pairwise (Apart mark
 only_itself marks [] p e f h k a = absurd (Contains-nil e h)
 only_itself marks (x ∷ left) p e f h k a = ⊎_elim
     (λ q. ⊎_elim
-      (λ r. sym q ∙ r)
-      (λ j. absurd ((p.0 f j).0 (subst (λ y. IsAtMost marks y f) (sym q) a)))
-      (Contains-cons_cases x left f k))
+    (λ r. sym q ∙ r)
+    (λ j. absurd ((p.0 f j).0 (subst (λ y. IsAtMost marks y f) (sym q) a)))
+    (Contains-cons_cases x left f k))
     (λ i. ⊎_elim
-      (λ r. absurd ((p.0 e i).1 (subst (IsAtMost marks e) (sym r) a)))
-      (λ j. only_itself marks left p.1 e f i j a)
-      (Contains-cons_cases x left f k))
+    (λ r. absurd ((p.0 e i).1 (subst (IsAtMost marks e) (sym r) a)))
+    (λ j. only_itself marks left p.1 e f i j a)
+    (Contains-cons_cases x left f k))
     (Contains-cons_cases x left e h)
 
 -- what a mark leaves does not depend on how the same ends are listed

@@ -50,9 +50,9 @@ module _ (marks : List Mark) (well : AreWellFormed marks) (e : LeanEnd) where
   some_behind id v =
       let n = choose (λ i. (i ≡ id) ⊎ IsTrue (e.needed i)) (λ i. either (cases_eq i id) (is_true (e.needed i))) in
       let d = choose (λ i. (MayRead marks i ⊎ ((w : ℤ) × MayWrite marks i w)) × (¬ IsTrue (n.0 i)))
-          (λ i. both (either (may_read_or_not marks well i) (may_write_or_not marks well i)) (neither (is_true (n.0 i)))) in
+      (λ i. both (either (may_read_or_not marks well i) (may_write_or_not marks well i)) (neither (is_true (n.0 i)))) in
       let s = choose2 (λ r w. IsTrue (e.finds r w) ⊎ (MayRead marks r × (w ≡ v)))
-          (λ r w. either (is_true (e.finds r w)) (both (may_read_or_not marks well r) (same_int w v))) in
+      (λ r w. either (is_true (e.finds r w)) (both (may_read_or_not marks well r) (same_int w v))) in
       (record { state = Some v; needed = n.0; door = d.0; finds = s.0 }, record { state = refl; needed = n.1; door = d.1; finds = s.1 })
 
   pub some_before : (id : ℕ) (v : ℤ) → IsTrue (e.door id) → (f : LeanEnd) × IsPutBefore marks e id v f
@@ -60,7 +60,7 @@ module _ (marks : List Mark) (well : AreWellFormed marks) (e : LeanEnd) where
       let n = choose (λ i. (i ≡ id) ⊎ IsTrue (e.needed i)) (λ i. either (cases_eq i id) (is_true (e.needed i))) in
       let d = choose (λ i. IsTrue (e.door i) × (¬ (i ≡ id))) (λ i. both (is_true (e.door i)) (neither (cases_eq i id))) in
       let s = choose2 (λ r w. IsTrue (e.finds r w) ⊎ (MayRead marks r × IsTrue (e.door r) × (w ≡ v)))
-          (λ r w. either (is_true (e.finds r w)) (three (may_read_or_not marks well r) (is_true (e.door r)) (same_int w v))) in
+      (λ r w. either (is_true (e.finds r w)) (three (may_read_or_not marks well r) (is_true (e.door r)) (same_int w v))) in
       (record { state = e.state; needed = n.0; door = d.0; finds = s.0 }, record { may = may; state = refl; needed = n.1; door = d.1; finds = s.1 })
 
 module _ (e : LeanEnd) (id : ℕ) where
@@ -74,5 +74,5 @@ module _ (e : LeanEnd) (id : ℕ) where
   pub some_with_read : (f : LeanEnd) × IsWithRead e id f
   some_with_read =
       let s = choose2 (λ r w. IsTrue (e.finds r w) ⊎ ((r ≡ id) × (e.state ≡ Some w)))
-          (λ r w. either (is_true (e.finds r w)) (both (cases_eq r id) (same_state e.state w))) in
+      (λ r w. either (is_true (e.finds r w)) (both (cases_eq r id) (same_state e.state w))) in
       (record { state = e.state; needed = e.needed; door = e.door; finds = s.0 }, record { state = refl; needed = refl; door = refl; finds = s.1 })

@@ -67,12 +67,12 @@ module _ (marks : List Mark) (well : AreWellFormed marks) where
   pub read_or_not : (id : ℕ) → IsRead marks id ⊎ (¬ IsRead marks id)
   read_or_not id = ⊎_elim
       (λ i. ⊎_elim
-        (λ r. inl (i.0, i.1, r))
-        (λ n. inr (λ r. ⊎_elim
-          (λ w. no_read i.0 w.0 (w.1, w.2) (subst Reads (one_op id r.0 i.0 r.1 i.1) r.2))
-          (λ o. o.0 (subst Reads (one_op id r.0 i.0 r.1 i.1) r.2))
-          n))
-        (sort_of i.0))
+      (λ r. inl (i.0, i.1, r))
+      (λ n. inr (λ r. ⊎_elim
+      (λ w. no_read i.0 w.0 (w.1, w.2) (subst Reads (one_op id r.0 i.0 r.1 i.1) r.2))
+      (λ o. o.0 (subst Reads (one_op id r.0 i.0 r.1 i.1) r.2))
+      n))
+      (sort_of i.0))
       (λ n. inr (λ r. n (r.0, r.1)))
       (invoked_or_not marks id)
 
@@ -88,17 +88,17 @@ module _ (marks : List Mark) (well : AreWellFormed marks) where
   pub may_write_or_not : (id : ℕ) → SomeWrite id ⊎ (¬ SomeWrite id)
   may_write_or_not id = ⊎_elim
       (λ i. ⊎_elim
-        (λ r. inr (λ w. read_no_write id w.0 (i.0, i.1, r) w.1.write))
-        (λ n. ⊎_elim
-          (λ w. ⊎_elim
-            (λ d. inr (λ h. h.1.not_returned d))
-            (λ nd. ⊎_elim
-              (λ f. inr (λ h. h.1.not_failed f))
-              (λ nf. inl (w.0, record { write = (i.0, i.1, (w.1, w.2)); not_returned = nd; not_failed = nf }))
-              (failed_or_not marks id))
-            (returned_or_not marks id))
-          (λ o. inr (λ h. (let q : Writes i.0 h.0 = subst (λ p. Writes p h.0) (one_op id h.1.write.0 i.0 h.1.write.1 i.1) h.1.write.2 in o.1 (h.0, q.0, q.1))))
-          n)
-        (sort_of i.0))
+      (λ r. inr (λ w. read_no_write id w.0 (i.0, i.1, r) w.1.write))
+      (λ n. ⊎_elim
+      (λ w. ⊎_elim
+      (λ d. inr (λ h. h.1.not_returned d))
+      (λ nd. ⊎_elim
+      (λ f. inr (λ h. h.1.not_failed f))
+      (λ nf. inl (w.0, record { write = (i.0, i.1, (w.1, w.2)); not_returned = nd; not_failed = nf }))
+      (failed_or_not marks id))
+      (returned_or_not marks id))
+      (λ o. inr (λ h. (let q : Writes i.0 h.0 = subst (λ p. Writes p h.0) (one_op id h.1.write.0 i.0 h.1.write.1 i.1) h.1.write.2 in o.1 (h.0, q.0, q.1))))
+      n)
+      (sort_of i.0))
       (λ n. inr (λ h. n (h.1.write.0, h.1.write.1)))
       (invoked_or_not marks id)

@@ -35,9 +35,9 @@ module _ (marks : List Mark) (well : AreWellFormed marks) (e g : LeanEnd) (order
         found r w m f = ⊎_elim
             (λ h. inl ((put.finds r w).1 (inl h)))
             (λ j. ⊎_elim
-              (λ s. inl ((put.finds r w).1 (inr (m, same_value marks well x w v (subst (λ n. IsWriteOf marks n w) s j.1.may.write) k.may.write))))
-              (λ ne. inr (j.0, other (λ i. (put.needed i).0) j.0 w ne j.1))
-              (cases_eq j.0 x))
+            (λ s. inl ((put.finds r w).1 (inr (m, same_value marks well x w v (subst (λ n. IsWriteOf marks n w) s j.1.may.write) k.may.write))))
+            (λ ne. inr (j.0, other (λ i. (put.needed i).0) j.0 w ne j.1))
+            (cases_eq j.0 x))
             (b.finds r w m f)
 
         another : b.last.0 ≢ x → CoversBehind marks g order t
@@ -61,11 +61,11 @@ module _ (marks : List Mark) (well : AreWellFormed marks) (e g : LeanEnd) (order
         state = s.state ∙ sym put.state;
         placed = λ y w j o. (let q = was (λ i. (put.needed i).1) y w j in (put.door y).1 (s.placed y w q.1 o, q.0));
         finds = λ r w m f. ⊎_elim
-          (λ h. inl ((put.finds r w).1 (inl h)))
-          (λ j. ⊎_elim
+            (λ h. inl ((put.finds r w).1 (inl h)))
+            (λ j. ⊎_elim
             (λ q. inl ((put.finds r w).1 (inr (m, j.3, same_value marks well x w v (subst (λ n. IsWriteOf marks n w) q j.1.may.write) k.may.write))))
             (λ ne. inr (j.0, other (λ i. (put.needed i).0) j.0 w ne j.1, (put.door j.0).1 (j.2, ne), (put.door r).1 (j.3, (λ q. no_read_needed r m (inl q)))))
             (cases_eq j.0 x))
-          (s.finds r w m f);
+            (s.finds r w m f);
       });
     }

@@ -46,9 +46,13 @@ module _ (marks : List Mark) (id : ℕ) (e f : LeanEnd) (s : IsLeft marks e) whe
     not_there x h q = free (subst (λ n. IsTrue (e.needed n)) q (s.2.only x h (λ r. open_then.not_returned (subst (HasReturned marks) q r))))
 
     pub left_by_fail : IsLeft (marks ++ Failed id ∷ []) f
-    left_by_fail = (order, t, stands_without marks (Failed id) tt e f order t s.2 without
-        (IsLegalOrder-more register marks (Failed id) order t legal (λ x o h q. cc) (λ x h q. not_there x h (let i : x.id ≡ id = cc in i)) (λ i a q. cc) (λ x a h q. cc))
-        (λ x h q. absurd (not_there x h q)))
+    left_by_fail = (
+      order,
+      t,
+      stands_without marks (Failed id) tt e f order t s.2 without
+          (IsLegalOrder-more register marks (Failed id) order t legal (λ x o h q. cc) (λ x h q. not_there x h (let i : x.id ≡ id = cc in i)) (λ i a q. cc) (λ x a h q. cc))
+          (λ x h q. absurd (not_there x h q)),
+    )
 
   module _ (well : AreWellFormed (marks ++ Crashed id ∷ [])) where
     legal_crashed : IsLegalOrder register (marks ++ Crashed id ∷ []) order t
@@ -58,9 +62,13 @@ module _ (marks : List Mark) (id : ℕ) (e f : LeanEnd) (s : IsLeft marks e) whe
     open_before = well marks [] (Crashed id) refl
 
     pub left_by_crash_of_read : IsRead marks id → IsWithout e id f → IsLeft (marks ++ Crashed id ∷ []) f
-    left_by_crash_of_read r without = (order, t, stands_without marks (Crashed id) tt e f order t s.2 without legal_crashed
-        (λ x h q. (let n : IsTrue (e.needed id) = subst (λ n. IsTrue (e.needed n)) q (s.2.only x h (λ d. open_before.not_returned (subst (HasReturned marks) q d))) in
-          let w = (s.2.needed id n).1 in absurd (read_no_write marks (front_well marks (Crashed id) well) id w.0 r w.1))))
+    left_by_crash_of_read r without = (
+      order,
+      t,
+      stands_without marks (Crashed id) tt e f order t s.2 without legal_crashed
+          (λ x h q. (let n : IsTrue (e.needed id) = subst (λ n. IsTrue (e.needed n)) q (s.2.only x h (λ d. open_before.not_returned (subst (HasReturned marks) q d))) in
+          let w = (s.2.needed id n).1 in absurd (read_no_write marks (front_well marks (Crashed id) well) id w.0 r w.1))),
+    )
 
     kept : (n : Mark) → Contains marks n → Contains (marks ++ Crashed id ∷ []) n
     kept n h = Contains-append_left marks (Crashed id ∷ []) n h
@@ -80,24 +88,28 @@ module _ (marks : List Mark) (id : ℕ) (e f : LeanEnd) (s : IsLeft marks e) whe
       comes_crashed z h = ⊎_elim (λ r. inl (read_is marks (Crashed id) tt z (other z r) r)) (λ w. inr (w.0, write_is z w.0 w.1)) h
 
       pub left_by_crash : IsLeft (marks ++ Crashed id ∷ []) e
-      left_by_crash = (order, t, record {
-        legal = legal_crashed;
-        state = s.2.state;
-        only = λ x h n. s.2.only x h (λ r. n (r.0, kept _ r.1));
-        needed = λ i n. (let k = s.2.needed i n in (k.0, (k.1.0, (k.1.1.0, kept _ k.1.1.1, k.1.1.2))));
-        comes = λ z d. (let w = s.2.comes z d in (comes_crashed z w.0, w.1));
-        door = ⊎_elim inl (λ d. inr (record {
-          before = d.before;
-          write = d.write;
-          behind = d.behind;
-          cut = d.cut;
-          value = d.value;
-          writes = d.writes;
-          reads = d.reads;
-          late = λ z h y i p. d.late z h y i (precedes_was marks (Crashed id) tt y.id z p);
-        })) s.2.door;
-        finds = λ r v h. (let w = s.2.finds r v h in (read_is marks (Crashed id) tt r (other r w.0) w.0, find_is marks (Crashed id) tt order r v w.1));
-      })
+      left_by_crash = (
+        order,
+        t,
+        record {
+          legal = legal_crashed;
+          state = s.2.state;
+          only = λ x h n. s.2.only x h (λ r. n (r.0, kept _ r.1));
+          needed = λ i n. (let k = s.2.needed i n in (k.0, (k.1.0, (k.1.1.0, kept _ k.1.1.1, k.1.1.2))));
+          comes = λ z d. (let w = s.2.comes z d in (comes_crashed z w.0, w.1));
+          door = ⊎_elim inl (λ d. inr (record {
+            before = d.before;
+            write = d.write;
+            behind = d.behind;
+            cut = d.cut;
+            value = d.value;
+            writes = d.writes;
+            reads = d.reads;
+            late = λ z h y i p. d.late z h y i (precedes_was marks (Crashed id) tt y.id z p);
+          })) s.2.door;
+          finds = λ r v h. (let w = s.2.finds r v h in (read_is marks (Crashed id) tt r (other r w.0) w.0, find_is marks (Crashed id) tt order r v w.1));
+        },
+      )
 
 module _ (marks : List Mark) (id : ℕ) (op : Op) (e f : LeanEnd) (s : IsLeft marks e) (well : AreWellFormed (marks ++ Invoked id op ∷ [])) where
   abbrev longer : List Mark
@@ -146,36 +158,40 @@ module _ (marks : List Mark) (id : ℕ) (op : Op) (e f : LeanEnd) (s : IsLeft ma
     was_needed z d = subst (λ g. IsTrue (g z)) needed d
 
     pub left_begun : IsLeft longer f
-    left_begun = (s.0, s.1, record {
-      legal = legal_more;
-      state = s.2.state ∙ sym state;
-      only = λ x h n. subst (λ g. IsTrue (g x.id)) (sym needed) (s.2.only x h (λ r. n (r.0, keeps _ r.1)));
-      needed = λ i n. (let k = s.2.needed i (was_needed i n) in (k.0, (k.1.0, (k.1.1.0, keeps _ k.1.1.1, k.1.1.2))));
-      comes = λ z d. (let w = s.2.comes z (in_door z d) in (⊎_elim (λ r. inl (read_begun z r)) (λ k. inr (k.0, write_begun z k.0 k.1)) w.0, (λ n. w.1 (was_needed z n))));
-      door = ⊎_elim (λ none. inl (λ z d. none z (in_door z d))) (λ d. inr (record {
-        before = d.before;
-        write = d.write;
-        behind = d.behind;
-        cut = d.cut;
-        value = d.value;
-        writes = d.writes;
-        reads = d.reads;
-        late = λ z h y i p. (let o = invoked_by z (s.2.comes z (in_door z h)).0 in d.late z (in_door z h) y i (older y.id z o.0 o.1 p));
-      })) s.2.door;
-      finds = λ r v h. ⊎_elim
-        (λ k. (let w = s.2.finds r v k in (read_begun r w.0, found_begun r v w.0 w.1)))
-        (λ k. (
-          subst (MayRead longer) (sym k.0) ((op, Contains-push marks (Invoked id op), k.2), new_is_open marks id op new),
-          (s.0, [], sym (append-nil s.0), subst (Run register None s.0) (s.2.state ∙ k.1) s.2.legal.run, (λ y i. absurd (Contains-nil y i))),
-        ))
-        (finds r v h);
-    })
+    left_begun = (
+      s.0,
+      s.1,
+      record {
+        legal = legal_more;
+        state = s.2.state ∙ sym state;
+        only = λ x h n. subst (λ g. IsTrue (g x.id)) (sym needed) (s.2.only x h (λ r. n (r.0, keeps _ r.1)));
+        needed = λ i n. (let k = s.2.needed i (was_needed i n) in (k.0, (k.1.0, (k.1.1.0, keeps _ k.1.1.1, k.1.1.2))));
+        comes = λ z d. (let w = s.2.comes z (in_door z d) in (⊎_elim (λ r. inl (read_begun z r)) (λ k. inr (k.0, write_begun z k.0 k.1)) w.0, (λ n. w.1 (was_needed z n))));
+        door = ⊎_elim (λ none. inl (λ z d. none z (in_door z d))) (λ d. inr (record {
+          before = d.before;
+          write = d.write;
+          behind = d.behind;
+          cut = d.cut;
+          value = d.value;
+          writes = d.writes;
+          reads = d.reads;
+          late = λ z h y i p. (let o = invoked_by z (s.2.comes z (in_door z h)).0 in d.late z (in_door z h) y i (older y.id z o.0 o.1 p));
+        })) s.2.door;
+        finds = λ r v h. ⊎_elim
+            (λ k. (let w = s.2.finds r v k in (read_begun r w.0, found_begun r v w.0 w.1)))
+            (λ k. (
+              subst (MayRead longer) (sym k.0) ((op, Contains-push marks (Invoked id op), k.2), new_is_open marks id op new),
+              (s.0, [], sym (append-nil s.0), subst (Run register None s.0) (s.2.state ∙ k.1) s.2.legal.run, (λ y i. absurd (Contains-nil y i))),
+            ))
+            (finds r v h);
+      },
+    )
 
   pub left_by_invoke : Begins e id op f → IsLeft longer f
   left_by_invoke b = ⊎_elim
       (λ r. left_begun r.1.state r.1.needed r.1.door (λ q w h. ⊎_elim inl (λ k. inr (k.0, k.1, r.0)) ((r.1.finds q w).0 h)))
       (λ n. left_begun (ap (λ (g : LeanEnd). g.state) n.1) (ap (λ (g : LeanEnd). g.needed) n.1) (ap (λ (g : LeanEnd). g.door) n.1)
-        (λ q w h. inl (subst (λ (g : LeanEnd). IsTrue (g.finds q w)) n.1 h)))
+      (λ q w h. inl (subst (λ (g : LeanEnd). IsTrue (g.finds q w)) n.1 h)))
       b
 
 module _ (marks : List Mark) (id : ℕ) (answer : Answer) (e f : LeanEnd) (s : IsLeft marks e) (well : AreWellFormed (marks ++ Returned id answer ∷ [])) where
@@ -190,11 +206,15 @@ module _ (marks : List Mark) (id : ℕ) (answer : Answer) (e f : LeanEnd) (s : I
 
   -- the write is in the order, and returns
   returns : (g : LeanEnd) (v : ℤ) → IsLeft marks g → IsWriteOf marks id v → IsTrue (g.needed id) → IsWithout g id f → IsLeft after f
-  returns g v k w n without = (k.0, k.1, stands_without marks (Returned id answer) tt g f k.0 k.1 k.2 without
-      (IsLegalOrder-more register marks (Returned id answer) k.0 k.1 k.2.legal (λ x o h q. cc) (λ x h q. cc)
+  returns g v k w n without = (
+    k.0,
+    k.1,
+    stands_without marks (Returned id answer) tt g f k.0 k.1 k.2 without
+        (IsLegalOrder-more register marks (Returned id answer) k.0 k.1 k.2.legal (λ x o h q. cc) (λ x h q. cc)
         (λ i a q. (let same : id ≡ i = cc in subst (Includes k.0) same (k.2.needed id n).0))
         (λ x a h q. fits_write x a h (let i : x.id ≡ id = cc in i)))
-      (λ x h q. (answer, subst (λ j. Contains after (Returned j answer)) (sym q) (Contains-push marks (Returned id answer)))))
+        (λ x h q. (answer, subst (λ j. Contains after (Returned j answer)) (sym q) (Contains-push marks (Returned id answer)))),
+  )
     where
       fits_write : (x : Taken) (a : Answer) → Contains k.0 x → x.id ≡ id → Fits x.found a
       fits_write x a h q =
@@ -210,10 +230,10 @@ module _ (marks : List Mark) (id : ℕ) (answer : Answer) (e f : LeanEnd) (s : I
   by_write v w = ⊎_elim
       (λ k. returns e v s w k.0 k.1)
       (λ k.
-        let g = k.1 in
-        let may : MayWrite marks id v = record { write = w; not_returned = is_open.not_returned; not_failed = is_open.not_failed } in
-        let put = stands_put marks e g.0 s.0 s.1 id v s.2 may k.0 g.1 in
-        returns g.0 v put w (⊎_elim (λ p. (p.needed id).1 (inl refl)) (λ p. (p.needed id).1 (inl refl)) g.1) g.2)
+      let g = k.1 in
+      let may : MayWrite marks id v = record { write = w; not_returned = is_open.not_returned; not_failed = is_open.not_failed } in
+      let put = stands_put marks e g.0 s.0 s.1 id v s.2 may k.0 g.1 in
+      returns g.0 v put w (⊎_elim (λ p. (p.needed id).1 (inl refl)) (λ p. (p.needed id).1 (inl refl)) g.1) g.2)
 
   module _ (r : IsRead marks id) where
     -- a read that is open is not in the order
@@ -225,23 +245,30 @@ module _ (marks : List Mark) (id : ℕ) (answer : Answer) (e f : LeanEnd) (s : I
 
     answers : (g : LeanEnd) (v : ℤ) → answer ≡ Number v → IsLeft marks g → IsTrue (g.finds id v) → IsWithout g id f → IsLeft after f
     answers g v a k h without =
-        let at = (k.2.finds id v h).1 in
-        (_, k.1, stands_read marks id answer g f k.0 k.1 k.2 without r.0 r.1 r.2 is_open (not_in g k) at.0 at.1 at.2 (Some v) at.3 at.4
-          (subst (Fits (Reg (Some v))) (sym a) refl))
+        let at = (k.2.finds id v h).1 in (
+          _,
+          k.1,
+          stands_read marks id answer g f k.0 k.1 k.2 without r.0 r.1 r.2 is_open (not_in g k) at.0 at.1 at.2 (Some v) at.3 at.4
+              (subst (Fits (Reg (Some v))) (sym a) refl),
+        )
 
     by_nothing : answer ≡ Nothing → IsWithout e id f → IsLeft after f
-    by_nothing a without = (_, s.1, stands_read marks id answer e f s.0 s.1 s.2 without r.0 r.1 r.2 is_open (not_in e s) s.0 [] (sym (append-nil s.0)) s.1 s.2.legal.run
-        (λ y h. absurd (Contains-nil y h)) (subst (Fits (Reg s.1)) (sym a) tt))
+    by_nothing a without = (
+      _,
+      s.1,
+      stands_read marks id answer e f s.0 s.1 s.2 without r.0 r.1 r.2 is_open (not_in e s) s.0 [] (sym (append-nil s.0)) s.1 s.2.legal.run
+          (λ y h. absurd (Contains-nil y h)) (subst (Fits (Reg s.1)) (sym a) tt),
+    )
 
     by_value : (v : ℤ) → answer ≡ Number v → EndsRead marks e id v f → IsLeft after f
     by_value v a = ⊎_elim
         (λ k. answers e v a s k.0 k.1)
         (λ k.
-          let x : ℕ = k.1.0 in
-          let g = k.1.1 in
-          let put : IsPutBehind marks e x v g ⊎ IsPutBefore marks e x v g = ⊎_elim inl (λ p. inr p.1) k.1.4 in
-          let left = stands_put marks e g s.0 s.1 x v s.2 k.1.2 k.1.3 put in
-          answers g v a left (⊎_elim (λ p. (p.finds id v).1 (inr ((r, is_open), refl))) (λ p. (p.1.finds id v).1 (inr ((r, is_open), p.0, refl))) k.1.4) k.1.5)
+        let x : ℕ = k.1.0 in
+        let g = k.1.1 in
+        let put : IsPutBehind marks e x v g ⊎ IsPutBefore marks e x v g = ⊎_elim inl (λ p. inr p.1) k.1.4 in
+        let left = stands_put marks e g s.0 s.1 x v s.2 k.1.2 k.1.3 put in
+        answers g v a left (⊎_elim (λ p. (p.finds id v).1 (inr ((r, is_open), refl))) (λ p. (p.1.finds id v).1 (inr ((r, is_open), p.0, refl))) k.1.4) k.1.5)
 
   pub left_by_ok : Answers marks e id answer f → IsLeft after f
   left_by_ok = ⊎_elim
@@ -266,23 +293,27 @@ left_by before (m ∷ more) e f well s b =
     subst (λ ms. IsLeft ms f) q (left_by (before ++ m ∷ []) more b.0 f well' (left_after before m e b.0 front s b.1) b.2)
 
 pub left_at_first : IsLeft [] start
-left_at_first = ([], None, record {
-  legal = record {
-    invoked = λ x h. absurd (Contains-nil x h);
-    once = tt;
-    none_failed = λ x h. absurd (Contains-nil x h);
-    all_done = λ id r. absurd (Contains-nil _ r.1);
-    in_time = tt;
-    run = refl;
-    fits = λ x a h. absurd (Contains-nil x h);
-  };
-  state = refl;
-  only = λ x h. absurd (Contains-nil x h);
-  needed = λ i n. absurd (true≢false (sym n));
-  comes = λ z d. absurd (true≢false (sym d));
-  door = inl (λ z d. true≢false (sym d));
-  finds = λ r v h. absurd (true≢false (sym h));
-})
+left_at_first = (
+  [],
+  None,
+  record {
+    legal = record {
+      invoked = λ x h. absurd (Contains-nil x h);
+      once = tt;
+      none_failed = λ x h. absurd (Contains-nil x h);
+      all_done = λ id r. absurd (Contains-nil _ r.1);
+      in_time = tt;
+      run = refl;
+      fits = λ x a h. absurd (Contains-nil x h);
+    };
+    state = refl;
+    only = λ x h. absurd (Contains-nil x h);
+    needed = λ i n. absurd (true≢false (sym n));
+    comes = λ z d. absurd (true≢false (sym d));
+    door = inl (λ z d. true≢false (sym d));
+    finds = λ r v h. absurd (true≢false (sym h));
+  },
+)
 
 pub lean_end_is_left : (marks : List Mark) → AreWellFormed marks → (e : LeanEnd) → IsLeanEnd marks e → IsLinearizable register marks
 lean_end_is_left marks well e is = let k = left_by [] marks start e well left_at_first is in (k.0, k.1, k.2.legal)

@@ -30,16 +30,16 @@ up_to_last {X} Q dec (x ∷ xs) =
     let r = up_to_last Q dec xs in
     ⊎_elim
     (λ (e : r.front ≡ []).
-      let all : xs ≡ r.rest = r.cut ∙ ap (λ l. l ++ r.rest) e in
-      ⊎_elim
-      (λ q. record { front = x ∷ []; rest = xs; cut = refl; none = subst (λ l. (y : X) → Contains l y → ¬ Q y) (sym all) r.none; last = inr ([], x, refl, q) })
-      (λ n. record {
-        front = [];
-        rest = x ∷ xs;
-        cut = refl;
-        none = λ y h q. ⊎_elim (λ s. n (subst Q (sym s) q)) (λ k. r.none y (subst (λ l. Contains l y) all k) q) (Contains-cons_cases x xs y h);
-        last = inl refl;
-      })
-      (dec x))
+    let all : xs ≡ r.rest = r.cut ∙ ap (λ l. l ++ r.rest) e in
+    ⊎_elim
+    (λ q. record { front = x ∷ []; rest = xs; cut = refl; none = subst (λ l. (y : X) → Contains l y → ¬ Q y) (sym all) r.none; last = inr ([], x, refl, q) })
+    (λ n. record {
+      front = [];
+      rest = x ∷ xs;
+      cut = refl;
+      none = λ y h q. ⊎_elim (λ s. n (subst Q (sym s) q)) (λ k. r.none y (subst (λ l. Contains l y) all k) q) (Contains-cons_cases x xs y h);
+      last = inl refl;
+    })
+    (dec x))
     (λ k. record { front = x ∷ r.front; rest = r.rest; cut = ap (λ l. x ∷ l) r.cut; none = r.none; last = inr (x ∷ k.0, k.1, ap (λ l. x ∷ l) k.2, k.3) })
     r.last

@@ -72,9 +72,9 @@ module _ (marks : List Mark) (e g : LeanEnd) (order : List Taken) (t : Option �
       state = sym put.state;
       only = λ y h n. (put.needed y.id).1 (⊎_elim (λ k. inr (s.only y k n)) (λ q. inl (ap (λ (z : Taken). z.id) (sym q))) (Contains-push_cases order taken y h));
       needed = λ i n. ⊎_elim
-        (λ q. ((taken, Contains-push order taken, sym q), (v, subst (λ j. IsWriteOf marks j v) (sym q) may.write)))
-        (λ k. (let j = s.needed i k in ((j.0.0, Contains-append_left order (taken ∷ []) j.0.0 j.0.1, j.0.2), j.1)))
-        ((put.needed i).0 n);
+          (λ q. ((taken, Contains-push order taken, sym q), (v, subst (λ j. IsWriteOf marks j v) (sym q) may.write)))
+          (λ k. (let j = s.needed i k in ((j.0.0, Contains-append_left order (taken ∷ []) j.0.0 j.0.1, j.0.2), j.1)))
+          ((put.needed i).0 n);
       comes = λ z d. (put.door z).0 d;
       door = inr (record {
         before = order;
@@ -87,9 +87,9 @@ module _ (marks : List Mark) (e g : LeanEnd) (order : List Taken) (t : Option �
         late = λ z d y h p. ⊎_elim (λ q. precedes_none z (subst (λ (w : Taken). Precedes marks w.id z) (sym q) p)) (λ k. Contains-nil y k) (Contains-cons_cases taken [] y h);
       });
       finds = λ r w h. ⊎_elim
-        (λ k. (let f = s.finds r w k in (f.0, found_behind r w f.1)))
-        (λ k. (k.0, (order ++ taken ∷ [], [], sym (append-nil (order ++ taken ∷ [])), subst (λ u. Run register None (order ++ taken ∷ []) (Some u)) (sym k.1) legal_behind.run, (λ y j. absurd (Contains-nil y j)))))
-        ((put.finds r w).0 h);
+          (λ k. (let f = s.finds r w k in (f.0, found_behind r w f.1)))
+          (λ k. (k.0, (order ++ taken ∷ [], [], sym (append-nil (order ++ taken ∷ [])), subst (λ u. Run register None (order ++ taken ∷ []) (Some u)) (sym k.1) legal_behind.run, (λ y j. absurd (Contains-nil y j)))))
+          ((put.finds r w).0 h);
     }
 
   module _ (put : IsPutBefore marks e x v g) (d : Door marks e order) where
@@ -128,9 +128,9 @@ module _ (marks : List Mark) (e g : LeanEnd) (order : List Taken) (t : Option �
           ap (λ l. l ++ taken ∷ d.write ∷ d.behind) k.1 ∙ append_assoc f.0 k.0 (taken ∷ d.write ∷ d.behind),
           f.3,
           λ y h. ⊎_elim
-            (λ q p. precedes_none r (subst (λ (z : Taken). Precedes marks z.id r) (sym q) p))
-            (λ j. f.4 y (subst (λ l. Contains l y) (sym k.2) j))
-            (within_cases k.0 (d.write ∷ d.behind) taken y h),
+              (λ q p. precedes_none r (subst (λ (z : Taken). Precedes marks z.id r) (sym q) p))
+              (λ j. f.4 y (subst (λ l. Contains l y) (sym k.2) j))
+              (within_cases k.0 (d.write ∷ d.behind) taken y h),
         ))
         (λ k. by_middle k.0 k.1 k.2)
         (two_cuts f.0 f.1 d.before (d.write ∷ d.behind) (sym f.2 ∙ d.cut))
@@ -142,9 +142,9 @@ module _ (marks : List Mark) (e g : LeanEnd) (order : List Taken) (t : Option �
           refl,
           subst (λ l. Run register None l (Some w)) (at ∙ append-nil d.before) f.3,
           λ y h. ⊎_elim
-            (λ q p. precedes_none r (subst (λ (z : Taken). Precedes marks z.id r) (sym q) p))
-            (λ j. f.4 y (subst (λ l. Contains l y) rest j))
-            (Contains-cons_cases taken (d.write ∷ d.behind) y h),
+              (λ q p. precedes_none r (subst (λ (z : Taken). Precedes marks z.id r) (sym q) p))
+              (λ j. f.4 y (subst (λ l. Contains l y) rest j))
+              (Contains-cons_cases taken (d.write ∷ d.behind) y h),
         )
         by_middle (z ∷ m) at rest =
             let is : d.write ≡ z = cc in
@@ -163,13 +163,13 @@ module _ (marks : List Mark) (e g : LeanEnd) (order : List Taken) (t : Option �
       legal = legal_before;
       state = s.state ∙ sym put.state;
       only = λ y h n. (put.needed y.id).1 (⊎_elim
-        (λ q. inl (ap (λ (z : Taken). z.id) (sym q)))
-        (λ k. inr (s.only y (subst (λ l. Contains l y) (sym d.cut) k) n))
-        (within_cases d.before (d.write ∷ d.behind) taken y h));
+          (λ q. inl (ap (λ (z : Taken). z.id) (sym q)))
+          (λ k. inr (s.only y (subst (λ l. Contains l y) (sym d.cut) k) n))
+          (within_cases d.before (d.write ∷ d.behind) taken y h));
       needed = λ i n. ⊎_elim
-        (λ q. ((taken, within_it d.before (d.write ∷ d.behind) taken, sym q), (v, subst (λ j. IsWriteOf marks j v) (sym q) may.write)))
-        (λ k. (let j = s.needed i k in ((j.0.0, within_others d.before (d.write ∷ d.behind) taken j.0.0 (subst (λ l. Contains l j.0.0) d.cut j.0.1), j.0.2), j.1)))
-        ((put.needed i).0 n);
+          (λ q. ((taken, within_it d.before (d.write ∷ d.behind) taken, sym q), (v, subst (λ j. IsWriteOf marks j v) (sym q) may.write)))
+          (λ k. (let j = s.needed i k in ((j.0.0, within_others d.before (d.write ∷ d.behind) taken j.0.0 (subst (λ l. Contains l j.0.0) d.cut j.0.1), j.0.2), j.1)))
+          ((put.needed i).0 n);
       comes = λ z h. (let k = (put.door z).0 h in let c = s.comes z k.0 in (c.0, (λ n. ⊎_elim k.1 c.1 ((put.needed z).0 n))));
       door = inr (record {
         before = d.before ++ taken ∷ [];
@@ -182,9 +182,9 @@ module _ (marks : List Mark) (e g : LeanEnd) (order : List Taken) (t : Option �
         late = λ z h y i. d.late z ((put.door z).0 h).0 y i;
       });
       finds = λ r w h. ⊎_elim
-        (λ k. (let f = s.finds r w k in (f.0, found_before r w f.1)))
-        (λ k. (k.0, (d.before ++ taken ∷ [], d.write ∷ d.behind, sym (assoc (d.write ∷ d.behind)), subst (λ u. Run register None (d.before ++ taken ∷ []) (Some u)) (sym k.2) run_new, (λ y j. d.late r k.1 y j))))
-        ((put.finds r w).0 h);
+          (λ k. (let f = s.finds r w k in (f.0, found_before r w f.1)))
+          (λ k. (k.0, (d.before ++ taken ∷ [], d.write ∷ d.behind, sym (assoc (d.write ∷ d.behind)), subst (λ u. Run register None (d.before ++ taken ∷ []) (Some u)) (sym k.2) run_new, (λ y j. d.late r k.1 y j))))
+          ((put.finds r w).0 h);
     }
 
   pub stands_put : IsPutBehind marks e x v g ⊎ IsPutBefore marks e x v g → (longer : List Taken) × (u : Option ℤ) × Stands marks g longer u

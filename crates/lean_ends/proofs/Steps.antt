@@ -66,12 +66,12 @@ pub run_view : (xs : List Taken) (s t : Option ℤ) → Run register s xs t → 
 run_view [] s t r = inl ((λ y h. absurd (Contains-nil y h)), sym r)
 run_view (x ∷ xs) s t r = ⊎_elim
     (λ k. ⊎_elim
-      (λ a. inl (
-        (λ y h. ⊎_elim (λ e. subst (λ (z : Taken). Reads z.op) e (a.0, a.1)) (k.0 y) (Contains-cons_cases x xs y h)),
-        k.1 ∙ sym a.2,
-      ))
-      (λ w. inr (record { before = []; write = x; behind = xs; cut = refl; value = w.0; writes = (w.1, w.2); left = k.1 ∙ w.3; reads = k.0 }))
-      (step_view x.op s r.0 x.found r.1))
+    (λ a. inl (
+      (λ y h. ⊎_elim (λ e. subst (λ (z : Taken). Reads z.op) e (a.0, a.1)) (k.0 y) (Contains-cons_cases x xs y h)),
+      k.1 ∙ sym a.2,
+    ))
+    (λ w. inr (record { before = []; write = x; behind = xs; cut = refl; value = w.0; writes = (w.1, w.2); left = k.1 ∙ w.3; reads = k.0 }))
+    (step_view x.op s r.0 x.found r.1))
     (λ l. inr (record { before = x ∷ l.before; write = l.write; behind = l.behind; cut = ap (λ ys. x ∷ ys) l.cut; value = l.value; writes = l.writes; left = l.left; reads = l.reads }))
     (run_view xs r.0 t r.2)
 
@@ -80,13 +80,13 @@ pub run_same : (xs : List Taken) (s t u : Option ℤ) → Run register s xs t �
 run_same [] s t u r q = sym r ∙ q
 run_same (x ∷ xs) s t u r q =
     let mid : r.0 ≡ q.0 = ⊎_elim
-      (λ a. ⊎_elim
-        (λ b. sym a.2 ∙ b.2)
-        (λ b. absurd (no_read x.op b.0 (b.1, b.2) (a.0, a.1)))
-        (step_view x.op s q.0 x.found q.1))
-      (λ a. ⊎_elim
-        (λ b. absurd (no_read x.op a.0 (a.1, a.2) (b.0, b.1)))
-        (λ b. a.3 ∙ ap Some (one_value x.op a.0 b.0 (a.1, a.2) (b.1, b.2)) ∙ sym b.3)
-        (step_view x.op s q.0 x.found q.1))
-      (step_view x.op s r.0 x.found r.1) in
+    (λ a. ⊎_elim
+    (λ b. sym a.2 ∙ b.2)
+    (λ b. absurd (no_read x.op b.0 (b.1, b.2) (a.0, a.1)))
+    (step_view x.op s q.0 x.found q.1))
+    (λ a. ⊎_elim
+    (λ b. absurd (no_read x.op a.0 (a.1, a.2) (b.0, b.1)))
+    (λ b. a.3 ∙ ap Some (one_value x.op a.0 b.0 (a.1, a.2) (b.1, b.2)) ∙ sym b.3)
+    (step_view x.op s q.0 x.found q.1))
+    (step_view x.op s r.0 x.found r.1) in
     run_same xs q.0 t u (subst (λ m. Run register m xs t) mid r.2) q.2

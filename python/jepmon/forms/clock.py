@@ -8,19 +8,20 @@ from __future__ import annotations
 
 import datetime
 import functools
-import json
 import math
 import re
 from typing import Any, Optional, Set, Union
 
 from . import Refused
 from .account import UNIT, Account
+from .cells import spelled
 from .vocabulary import UNITS
 
 Time = Union[int, float]
 INTEGER = re.compile(r"-?[0-9]{1,30}")
 DECIMAL = re.compile(r"-?[0-9]{1,20}\.[0-9]{1,20}")
 DATE = re.compile(r"(\d{4})-?(\d\d)-?(\d\d)[T ](\d\d):(\d\d):(\d\d)(?:[.,](\d{1,12}))?\s*(Z|[+-]\d\d:?(?:\d\d)?|UTC|GMT)?")
+PERIOD = re.compile(r"PT(?=[0-9])(?:([0-9]+)H)?(?:([0-9]+)M)?(?:([0-9]+(?:\.[0-9]+)?)S)?")  # of ISO 8601
 NEVER = {(1 << 63) - 1, (1 << 64) - 1}  # the times of returns that never came, as Go prints the largest integers
 # The unit of a number that counts from 1970 to the years 2001 to 2100, by its size.
 SIZES = (("s", 10**9, 41 * 10**8), ("ms", 10**12, 41 * 10**11), ("us", 10**15, 41 * 10**14), ("ns", 10**18, 41 * 10**17))
@@ -42,6 +43,8 @@ class Clock:
             return self._number(line, field, unit)
         if field is None or field == "":
             return None
+        if isinstance(field, bytes):  # a decimal that a double does not hold
+            return self._number(line, float(field), unit)
         if isinstance(field, str):
             text = field.strip()
             if INTEGER.fullmatch(text):
@@ -58,6 +61,10 @@ class Clock:
     def span(self, line: int, field: Any, unit: Optional[str]) -> Time:
         """The nanoseconds that a duration takes."""
         unit = unit or self._stated
+        field = float(field) if isinstance(field, bytes) else field
+        period = PERIOD.fullmatch(field) if isinstance(field, str) else None
+        if period is not None:
+            field, unit = sum(float(part or 0) * seconds for part, seconds in zip(period.groups(), (3600, 60, 1))), "s"
         if not isinstance(field, (int, float)) or isinstance(field, bool) or not math.isfinite(field) or field < 0:
             raise Refused(f"line {line}: {_shown(field)} is not a duration: a number from 0 on, whose field names its unit, as duration_ms")
         if unit is None:
@@ -66,6 +73,11 @@ class Clock:
         if not self._is_known:
             raise Refused(f"line {line}: the unit of the times is not known, and that of this duration is {unit}: say --time-unit")
         return field * UNITS[unit]
+
+    def factor(self, unit: Optional[str]) -> Optional[int]:
+        """By what a number is multiplied whose field names this unit, or none; None as long as it is not known whether numbers have one."""
+        unit = unit or self._stated
+        return None if self._is_known != (unit is not None) else 1 if unit is None else UNITS[unit]
 
     def coarsest(self) -> int:
         """How many nanoseconds a return may be later than it says, if times have several units."""
@@ -118,7 +130,7 @@ def nanoseconds(text: str) -> int:
 
 
 def _shown(field: Any) -> str:
-    return json.dumps(field)[:60]
+    return spelled(field)[:60]
 
 
 def _date_of(text: str, line: int) -> "tuple[int, bool]":

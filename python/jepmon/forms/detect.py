@@ -12,7 +12,9 @@ GAP = re.compile(r"(?:[\s,]+|;[^\n]*)*")
 OBJECT = re.compile(r'[\[{][\s\[{]*"(?:[^"\\]|\\.)*"\s*:[^A-Za-z]')
 EDN_BEHIND = re.compile(r"[\s,;]*[({\[#][\s{\[]*[:#;]")
 REPR = re.compile(r"[\[({][\s\[({]*'[^'\n]*'\s*:")
-COLUMNS = re.compile(r"[A-Za-z_ .\"'-]+([,;\t][A-Za-z_ .\"'-]+){2,}\s*$")
+COLUMNS = re.compile(r"(?:(?:\"\")?[,;\t])?[A-Za-z_ .\"'-][A-Za-z0-9_ .\"'()+-]*([,;\t][A-Za-z_ .\"'-][A-Za-z0-9_ .\"'()+-]*){2,}\s*$")
+TABLE = re.compile(r"[^\n]*\|[^\n]*\n[ |+-]*--[ |+-]*\n|\+--[+-]*\+\n")
+LABEL = re.compile(r"\[[A-Za-z0-9_ -]*[A-Za-z][A-Za-z0-9_ -]*\](?=[ ,\t]+[^\s\]}])")  # before a line of a log
 CELLS = re.compile(r"\"?-?[0-9][0-9.TZ:+ -]*\"?([,;\t][^,;\t\n]*){3,}$")  # CSV without the names of columns, whose first cell is a time
 EMPTY = re.compile(r"[\s,]*[\[(][\s,]*[\])][\s,]*")
 FRONT = 200_000  # characters within which a log's first event is looked for
@@ -28,7 +30,7 @@ def form_of(text: str) -> str:
         return NOTHING
     if REPR.match(text, begin):
         raise Refused("this is printed by Python's repr, as {'op': 'read'}: let the test print json.dumps of it")
-    if text[begin] in "{[":
+    if text[begin] in "{[" and not LABEL.match(text, begin):
         return JSON if OBJECT.match(text, begin) else EDN
     if text[begin] in "(#":
         return EDN
@@ -39,6 +41,8 @@ def form_of(text: str) -> str:
         return CSV
     if log_rows.LOGFMT.fullmatch(first):
         return LOGFMT
+    if TABLE.match(text, begin):
+        raise Refused("this is a table for people to read, as psql and mysql print it: let them print CSV with the names of the columns")
     shown = text[begin:begin + 60].split("\n", 1)[0]
     raise Refused(f"this is no form of a history that is known: it begins with {shown!r}; --mapping FILE reads the lines of a log by a "
                   "regular expression")

@@ -6,7 +6,9 @@ of which one check or shards are given what they take.
 from __future__ import annotations
 
 import array
+import contextlib
 import itertools
+import re
 from typing import Any, Dict, Iterable, Iterator, List, NamedTuple, Optional, Sequence, Set
 
 from .. import edn, history, kinds
@@ -14,6 +16,7 @@ from ..edn import Value
 from ..from_jepsen.asked import Asked
 from ..from_jepsen.events import History
 from ..from_jepsen.meant import EXACT, Meant, spelled
+from ..from_jepsen.order import Times
 from ..from_jepsen.refusal import NoKey
 from ..from_jepsen.source import Texts
 from ..from_jepsen.turn import Turned, collected, written
@@ -30,6 +33,7 @@ OWN, JEPSEN, KEYED, LOG = "jepmon's own form", "Jepsen's form", "EDN with a key 
 NO_KEYS = (KEY, "its values have no keys: all of it is one object, key 0", "--key K")
 FURTHER = ("time", "error")  # fields that are taken over from what the history was made from
 MOST_WHOLE = 250_000  # events that are judged by one check, if nobody asked for shards
+TIME = re.compile(r":time (-?[0-9]{1,19})(?=[,}\s])")
 LONGEST = 200  # lines that one event of it may take
 
 
@@ -65,8 +69,8 @@ class Options(NamedTuple):
 
     def asked(self, order: Optional[str]) -> Asked:
         """The same of events in Jepsen's form, which are taken in this order."""
-        skew = 0 if self.mapping.skew is None else nanoseconds(self.mapping.skew)
-        return Asked(self.key, self.missing_is_judged, order, self.mapping.contradictions, 0 if order == LINES else skew, meant=self.meant)
+        skew = None if self.mapping.skew is None or order == LINES else nanoseconds(self.mapping.skew)
+        return Asked(self.key, self.missing_is_judged, order, self.mapping.contradictions, skew, meant=self.meant, ignored=self.mapping.ignored)
 
 
 def form_of(source: Source, options: Options) -> str:
@@ -135,9 +139,21 @@ class Translation:
         said = dict(_beside(self._texts.texts(), {row[6] for row in rows.values()}))
         return {index: said.get(row[6], {}) for index, row in rows.items()}
 
+    def times(self, begun: int) -> List[Optional[int]]:
+        """The time of each event, if it says one."""
+        by_line = _times(self._texts.texts()) if self._texts is not None else {}
+        made: List[Optional[int]] = [None] * begun
+        for _, row in self._rows(begun):
+            made.append(None if len(row) <= 2 else row[7][0] if row[7] is not None else by_line.get(row[6]))
+        return made
+
     def lines(self, begun: int) -> "array.array[int]":
         """The line of each event; 0 if it has none."""
         return array.array("Q", itertools.chain(itertools.repeat(0, begun), (row[6] if len(row) > 2 else 0 for _, row in self._rows(begun))))
+
+    def moments(self) -> "Iterator[tuple[str, int, int]]":
+        """The type, the process and the line of each event."""
+        return ((row[0], row[1], row[6]) for _, row in self._rows(0) if len(row) > 2)
 
     def _rows(self, begun: int) -> "Iterator[tuple[int, tuple[Any, ...]]]":
         return enumerate(itertools.chain.from_iterable(self.history.events.batches()), begun)
@@ -154,8 +170,6 @@ def translated(source: Source, form: str, options: Options) -> Translation:
         log = logs.Log(source)
         read = _collected(log, options, account, source)
         read.is_of_rows = True
-        if not log.has_times:
-            log.blocks.close(account)
         return Translation(form, read, account, options.missing_is_judged, (), log, options.first)
     made = _of_rows(source, form, options, account)
     return Translation(form, made.history, account, options.missing_is_judged or made.nil_is_absent, made.notes, None, options.first)
@@ -207,7 +221,7 @@ def rows_of(form: str, texts: Iterable[str], mapping: Mapping, account: Account)
 def _collected(texts: Texts, options: Options, account: Account, source: Source) -> History:
     """The events of EDN; those whose values have no keys are of the one object that they are then."""
     clients = Clients(source, options.mapping.clients)
-    asked = options.asked(options.mapping.order)
+    asked = options.asked(options.mapping.order)._replace(is_own=source is texts and own_front.is_own(source.front))
     if isinstance(source, Several):
         asked = asked._replace(clients=clients.named, parts=tuple(zip(source.bases, source.parts)) if texts is source else ())
     try:
@@ -237,6 +251,24 @@ def _beside(pieces: Iterable[str], wanted: Set[int]) -> Iterator["tuple[int, dic
         number += len(lines) - 1
 
 
+def _times(pieces: Iterable[str]) -> Dict[int, int]:
+    """The times of the events that begin in these lines."""
+    times: Dict[int, int] = {}
+    number = 1
+    for piece in pieces:
+        lines = piece.split("\n")
+        for at, line in enumerate(lines):
+            found = TIME.findall(line)
+            if len(found) == 1 and '"' not in line and line.count("{") == line.count("}"):
+                times[number + at] = int(found[0])
+            elif "{" in line:
+                said = _fields(lines[at:at + LONGEST]).get("time")
+                if isinstance(said, int):
+                    times[number + at] = said
+        number += len(lines) - 1
+    return times
+
+
 def _fields(lines: List[str]) -> Dict[str, Any]:
     """The further fields of the event that begins in the first of these lines."""
     is_whole = lines[0].count("{") == lines[0].count("}")
@@ -245,5 +277,9 @@ def _fields(lines: List[str]) -> Dict[str, Any]:
         element = next(edn.Reader(text).elements(), None)
     except edn.Unreadable:
         return {}
-    fields = edn.fields_of(element.value) if element is not None else None
-    return {name: history.plain(fields[f":{name}"]) for name in FURTHER if f":{name}" in fields} if fields else {}
+    fields = (edn.fields_of(element.value) if element is not None else None) or {}
+    said = {name: history.plain(fields[f":{name}"]) for name in FURTHER if f":{name}" in fields}
+    if isinstance(said.get("time"), str):
+        with contextlib.suppress(Refused):
+            said["time"] = Times().of(0, fields[":time"])
+    return said

@@ -9,6 +9,7 @@ from __future__ import annotations
 from typing import Iterator
 
 from .. import edn, history
+from ..from_jepsen import apart
 from ..from_jepsen.asked import GAP, Counted
 from ..from_jepsen.clients import Clients
 from . import Refused, rows_told
@@ -29,9 +30,7 @@ def written(source: Source, account: Account, asked: rows_told.Asked) -> Written
         nonlocal is_porcupine
         pieces = Counted(source.texts())
         for element in edn.Reader(pieces).history():
-            fields = history.plain(element.value)
-            if not isinstance(fields, dict):
-                raise Refused(f"line {element.line}: this is no map, so no event: {edn.shown(element.value, 60)}")
+            fields = {history.unquoted(name): history.plain(field) for name, field in apart.fields_of(element).items()}
             account.skip_to(element.line, GAP)
             account.took(element.line, element.last_line)
             row = Row(element.line, fields)

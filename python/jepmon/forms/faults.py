@@ -1,7 +1,7 @@
 """The faults of a history: those of which Jepsen's nemesis tells, jepmon's own, and the notes of a live test."""
 from __future__ import annotations
 
-from typing import Dict, Iterable, Iterator, List, Sequence, Tuple
+from typing import Callable, Dict, Iterable, Iterator, List, Sequence, Tuple
 
 from .. import edn, history, notes
 from ..from_jepsen.events import Left
@@ -63,10 +63,12 @@ def of_notes(made: Sequence[_Note]) -> List[Fault]:
 
 def of_text(text: str) -> List[Fault]:
     """The faults that a history in jepmon's own form tells: by notes, and by events of its nemesis."""
-    if ":nemesis" not in text:
-        return []
-    lines = text.split("\n")
-    return sorted(notes.faults_of(lines) + of_notes(list(_own(lines))), key=lambda fault: fault.begin)
+    return of_lines(lambda: text.split("\n")) if ":nemesis" in text else []
+
+
+def of_lines(lines: Callable[[], Iterable[str]]) -> List[Fault]:
+    """The same of its lines, which are gone through twice."""
+    return sorted(notes.faults_of(lines()) + of_notes(list(_own(lines()))), key=lambda fault: fault.begin)
 
 
 def _own(lines: Iterable[str]) -> Iterator[_Note]:

@@ -10,7 +10,6 @@ from __future__ import annotations
 from bisect import bisect_right
 from typing import Any, Dict, Iterable, List, NamedTuple, Optional, Set, Tuple
 
-from ..from_jepsen.asked import Pair
 from . import Refused
 from .answers import UNANSWERED, answered, says_no
 from .clock import Time
@@ -42,7 +41,7 @@ class Fault(NamedTuple):
     time: Time
     line: int
     name: str
-    value: Pair
+    value: Any
 
 
 def of_told(told: Told, writer: Writer) -> Interval:
@@ -111,6 +110,10 @@ class Operations:
         """Whether several clients may have done them."""
         return self._count > 1 and (len(self._clients) > 1 or None in self._clients)
 
+    def are_apart(self) -> bool:
+        """Whether their clients may have clocks that differ."""
+        return self._timeline.are_apart()
+
     def test(self, names: str) -> None:
         """Refuses operations of which none has returned, and one that is there twice, in each field, also in its times. A read that is
         there twice changes nothing."""
@@ -137,21 +140,20 @@ class Operations:
     def write(self, faults: Iterable[Fault], skew: Time, coarse: int) -> None:
         """Writes the events: each operation is begun earlier and ended later by a clock error; a return in a coarse unit is at the end of
         that unit."""
-        waiting = sorted(faults, reverse=True)
+        waiting = sorted(faults, key=lambda fault: fault[:2], reverse=True)
         last: Dict[int, Tuple[Any, ...]] = {}  # what was given of the invocation of each process
         for kind, process, given in self._timeline.moments(skew, skew + coarse):
             line, name, key, value, time, error, _ = given if given is not None else last.pop(process)
             if kind == "invoke":
                 last[process] = given
             while waiting and given is not None and waiting[-1].time < time:
-                _write(self._writer, waiting.pop())
-            self._writer.event(line, kind, str(process), name, value_of(MISSING if key == () else key, MISSING if value == () else value),
+                self._fault(waiting.pop())
+            self._writer.event(line, kind, process, name, value_of(MISSING if key == () else key, MISSING if value == () else value),
                                time if given is not None else None, error)
         for fault in reversed(waiting):
-            _write(self._writer, fault)
+            self._fault(fault)
         if self._timeline.overlaps:
             self._writer.counts["operations that overlap or touch another one of their client, on threads of their own"] += self._timeline.overlaps
 
-
-def _write(writer: Writer, fault: Fault) -> None:
-    writer.event(fault.line, "info", ":nemesis", fault.name, fault.value, fault.time)
+    def _fault(self, fault: Fault) -> None:
+        self._writer.fault(fault.line, fault.name, fault.value, fault.time)

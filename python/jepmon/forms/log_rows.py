@@ -6,8 +6,9 @@ from typing import Any, Dict, Iterable, Iterator, Pattern
 
 from . import Refused
 from .account import Account
+from .cells import cell_value, quoted_value
 from .mapping import Mapping
-from .rows import BLANK, Lines, Row, cell_value
+from .rows import BLANK, Lines, Row
 
 PAIR = re.compile(r'([\w.@/\-]+)=(?:"((?:[^"\\]|\\.)*)"|([^\s"]*))(?:\s+|$)')
 LOGFMT = re.compile(r'\s*(?:[\w.@/\-]+=(?:"(?:[^"\\\n]|\\.)*"|[^\s"]*)(?:[ \t]+|\r?$)){2,}', re.M)
@@ -31,7 +32,7 @@ def of_logfmt(texts: Iterable[str], mapping: Mapping, account: Account) -> Itera
             name, quoted, bare = found.groups()
             if name in fields:
                 raise Refused(f"line {number}: {name} stands there twice")
-            fields[name] = cell_value(bare, mapping) if quoted is None else _unescaped(quoted)
+            fields[name] = cell_value(number, bare, mapping) if quoted is None else quoted_value(number, _unescaped(quoted), mapping)
             place = found.end()
         account.took(number, number)
         yield Row(number, fields)
@@ -47,7 +48,7 @@ def of_pattern(texts: Iterable[str], mapping: Mapping, pattern: Pattern[str], ac
             continue
         count += 1
         account.took(number, number)
-        yield Row(number, {name: cell_value(field, mapping) for name, field in found.groupdict().items() if field is not None})
+        yield Row(number, {name: cell_value(number, field, mapping) for name, field in found.groupdict().items() if field is not None})
     if not count:
         raise Refused('"line" of the mapping matches no line of it')
 

@@ -14,7 +14,6 @@ from . import Refused
 from .account import Account
 from .clock import Clock
 from .files import Source
-from .order import Blocks
 
 LINE = re.compile(
     r"^(?:(\d{4}-\d\d-\d\d[T ]\d\d:\d\d:\d\d(?:[.,]\d+)?)?[^\n]*\bjepsen\.util[^\t\n]*[-:] )?"  # what a logger writes before it
@@ -28,17 +27,14 @@ class Log:
 
     def __init__(self, source: Source) -> None:
         self._source = source
-        self.blocks, self.has_times = Blocks(), False
 
     def texts(self) -> Iterator[str]:
-        self.blocks, clock = Blocks(), Clock(Account())
+        clock = Clock(Account())
         for piece in self._source.texts():
             lines, place = [], 0
             for found in LINE.finditer(piece):
                 stamp, process, kind, name, value, error = found.groups()
-                self.blocks.take(process)
                 time = clock.time(0, stamp, None)
-                self.has_times = self.has_times or time is not None
                 further = ("" if time is None else f", :time {time}") + (f", :error {json.dumps(error)}" if error else "")
                 lines.append("\n" * piece.count("\n", place, found.start()))
                 lines.append(f"{{:process {process}, :type :{kind}, :f {name}, :value {value or 'nil'}{further}}}")

@@ -18,7 +18,6 @@ def add(parser: argparse.ArgumentParser) -> None:
     group = parser.add_argument_group("rows of JSON, CSV and logs")
     group.add_argument("--map", metavar="FIELD=NAME", action="append", default=[],
                        help="take a field for the one of this accepted name, as --map path=key; a path into objects has dots")
-    group.add_argument("--ignore", metavar="FIELD", action="append", default=[], help="a field that says nothing of the history")
     group.add_argument("--mapping", metavar="FILE", help="a mapping file (JSON): fields, words, lines of a log, columns")
     group.add_argument("--time-unit", choices=tuple(UNITS), help="the unit of times that are numbers and do not name one")
     group.add_argument("--unfinished", choices=("info",), help="an operation that is open when its client invokes the next one never returned")
@@ -28,11 +27,12 @@ def add(parser: argparse.ArgumentParser) -> None:
 def add_order(parser: argparse.ArgumentParser) -> None:
     """Adds the options of any form whose events have times."""
     group = parser.add_argument_group("events of any form")
+    group.add_argument("--ignore", metavar="FIELD", action="append", default=[], help="a field that says nothing of the history")
     group.add_argument("--order", choices=ORDERS, help="take events in the order of their lines, of their :index, or of their times")
     group.add_argument("--skew", metavar="TIME", help="each clock may be wrong by so much, as 5ms: orders within it are not taken as certain")
     group.add_argument("--clients", choices=CLIENTS, help="of several files: clients of one name are apart, a client for each file, or one")
-    group.add_argument("--outcome", metavar="WORD=KIND", action="append", default=[], type=_contradiction, help="false=fail: an :ok of EDN that is "
-                       "answered by false is a :fail; error=info: an :ok with an :error is an :info; KIND is ok, fail or info")
+    group.add_argument("--outcome", metavar="WORD=KIND", action="append", default=[], type=_contradiction, help="false=fail: an :ok of EDN, or of a dequeue, "
+                       "that is answered by false is a :fail; error=info: an :ok with an :error is an :info; KIND is ok, fail or info")
 
 
 def _contradiction(words: str) -> Tuple[str, str]:
@@ -46,7 +46,10 @@ def of_order(given: argparse.Namespace) -> Mapping:
     """What the options of any form say."""
     if given.skew is not None:
         nanoseconds(given.skew)  # which refuses what is none
-    return Mapping(order=given.order, skew=given.skew, clients=given.clients, contradictions=dict(given.outcome))
+    made = Mapping(order=given.order, skew=given.skew, clients=given.clients, contradictions=dict(given.outcome))
+    for field in given.ignore:
+        made = made.with_ignored(field)
+    return made
 
 
 def of(given: argparse.Namespace) -> Mapping:
@@ -54,8 +57,7 @@ def of(given: argparse.Namespace) -> Mapping:
     made = mapping.read(given.mapping) if given.mapping else Mapping()
     for words in given.map:
         made = made.with_field(words)
-    for field in given.ignore:
-        made = made.with_ignored(field)
     any_form = of_order(given)
-    return made._replace(time_unit=given.time_unit or made.time_unit, order=any_form.order, skew=any_form.skew, clients=any_form.clients,
-                         contradictions=any_form.contradictions, unfinished=given.unfinished is not None)
+    return made._replace(ignored=made.ignored | any_form.ignored, time_unit=given.time_unit or made.time_unit, order=any_form.order,
+                         skew=any_form.skew, clients=any_form.clients, contradictions=any_form.contradictions,
+                         unfinished=given.unfinished is not None)

@@ -5,7 +5,7 @@ from typing import Any, Dict, List, NamedTuple, Optional, Sequence, Tuple
 
 from . import Refused
 from .account import Account
-from .clock import Clock, Time
+from .clock import Clock, Time, nanoseconds
 from .mapping import Mapping
 from .outcomes import Outcomes, Said, error_of, truth
 from .rows import Row
@@ -42,13 +42,14 @@ class Reader:
     def __init__(self, mapping: Mapping, account: Account, has_model: bool) -> None:
         self.shapes = Shapes(mapping)
         self.clock = Clock(account, mapping.time_unit)
-        self.clock.needs_unit = mapping.skew is not None
+        self.clock.needs_unit = mapping.skew is not None and nanoseconds(mapping.skew) > 0
         self.of_operations: Optional[bool] = None
         self._mapping, self._account = mapping, account
         self._outcomes = Outcomes(mapping.outcomes, account)
         self._operations = {**mapping.operations, **OF_STACKS} if has_model else mapping.operations
         self._words: Dict[Any, str] = {}  # the operations by their words
-        self._last_index = -1
+        self._key_parts: Optional[List[str]] = None  # the fields that are the key, if the user names them
+        self.last_index = -1  # that an event states
         self._by_duration: Optional[bool] = None  # whether returns are calls and durations
 
     def told(self, row: Row) -> Optional[Told]:
@@ -56,12 +57,12 @@ class Reader:
         line = row.line
         shape, fields = self.shapes.of(line, row.fields)
         uses = shape.uses
-        if shape.is_bare and self._kind(self._one(line, "type", uses, fields)[1]) is None:
+        if shape.is_bare and self.kind(self._one(line, "type", uses, fields)[1]) is None:
             return None
         call = self._one(line, "call", uses, fields)
         word, said = self._one(line, "type", uses, fields), self._one(line, "f", uses, fields)[1]
         if self.of_operations is None:
-            self.of_operations = (call[1] not in (None, MISSING) and self._kind(word[1]) != "invoke"
+            self.of_operations = (call[1] not in (None, MISSING) and self.kind(word[1]) != "invoke"
                                   or "return" in uses and ("duration" in uses or not {"type", "time"} & set(uses)))
             if not self.of_operations and word[0] is None and "duration" in uses and "time" in uses:
                 self._refuse_time_alone(line, uses["time"][0].name, list(fields))
@@ -78,7 +79,8 @@ class Reader:
         error = error_of(shape, fields) if "error" in uses else None
         if name == "delete":
             name, value = "write", None
-        return Told(line, kind, self._one(line, "client", uses, fields)[1], name, self._one(line, "key", uses, fields)[1], value, answer, outcome,
+        return Told(line, kind, self._one(line, "client", uses, fields)[1], name,
+                    self._key(line, shape.key_parts, fields) if shape.key_parts else self._one(line, "key", uses, fields)[1], value, answer, outcome,
                     at, end_at, time, None if error is None else error[1] if isinstance(error[1], str) else element(error[1]),
                     self._one(line, "id", uses, fields)[1] if "id" in uses else MISSING, fields)
 
@@ -100,9 +102,20 @@ class Reader:
         for use in said[1:]:
             other = fields[use.name]
             if (other != first or type(other) is not type(first)) and meaning != "id":
+                both = f", or that both are, as --map {shown(said[0].name)}=key --map {shown(use.name)}=key" if meaning == "key" else ""
                 raise Refused(f"line {line}: {shown(said[0].name)} is {short(first)} and {shown(use.name)} is {short(other)}, and each may be the "
-                              f"{meaning}: say --ignore {shown(use.name)}, or what it is, as --map {shown(use.name)}=NAME")
+                              f"{meaning}: say --ignore {shown(use.name)}, or what it is, as --map {shown(use.name)}=NAME{both}")
         return said[0], first
+
+    def _key(self, line: int, parts: List[str], fields: Fields) -> Any:
+        """The key that the user names: several fields are it together."""
+        if self._key_parts is None:
+            self._key_parts = parts
+        if len(parts) != len(self._key_parts):
+            raise Refused(f"line {line}: its key is {' and '.join(map(shown, parts))}, and that of rows before it is "
+                          f"{' and '.join(map(shown, self._key_parts))}")
+        said = [fields[name] for name in parts]
+        return said[0] if len(said) == 1 else said if any(part is not None for part in said) else None
 
     def _value(self, line: int, name: Optional[str], uses: Dict[str, List[Use]], fields: Fields) -> Any:
         value = self._one(line, "value", uses, fields)[1]
@@ -115,7 +128,7 @@ class Reader:
                     self.shapes.unused(line, use.name, fields[use.name])
         return value
 
-    def _kind(self, word: Any) -> Optional[str]:
+    def kind(self, word: Any) -> Optional[str]:
         """The type that a word says."""
         if isinstance(word, bool):  # Porcupine's events: a return is true
             return "ok" if word else "invoke"
@@ -129,14 +142,14 @@ class Reader:
 
     def _kind_and_name(self, line: int, word: "Tuple[Optional[Use], Any]", said: Any) -> Tuple[Optional[str], Optional[str], Optional[Said]]:
         """The type of an event, the operation, and the outcome of an operation whose type says it."""
-        kind, use = self._kind(word[1]), word[0]
+        kind, use = self.kind(word[1]), word[0]
         if said is MISSING or said is None:
             both = both_of(word[1]) if isinstance(word[1], str) and plain(word[1]) not in self._mapping.outcomes else None
             if both is not None:
                 return (None if self.of_operations else both[1]), both[0], None
             if isinstance(word[1], str) and (self.of_operations or kind is None):
                 said, kind, use = word[1], None, None
-        operation = None if said is MISSING or said is None else self._operation(line, said)
+        operation = None if said is MISSING or said is None else self.operation(line, said)
         if use is None or word[1] is None:
             return None, operation, None
         if kind is None:
@@ -151,7 +164,7 @@ class Reader:
             raise Refused(f"line {line}: {shown(use.name)} is {short(word[1])}, as of an event, and the rows before it are operations with times")
         return None, operation, (use.name, word[1], kind)
 
-    def _operation(self, line: int, said: Any) -> str:
+    def operation(self, line: int, said: Any) -> str:
         """The operation that a word names. What no object has keeps its name, and is refused by it later."""
         found = self._words.get(said) if isinstance(said, (str, int)) else None
         if found is not None:
@@ -169,10 +182,10 @@ class Reader:
     def _test_index(self, line: int, use: Use, fields: Fields) -> None:
         index = fields[use.name]
         if isinstance(index, int) and not self.of_operations:
-            if index <= self._last_index:
-                raise Refused(f"line {line}: {shown(use.name)} goes from {self._last_index} to {index}: the events are out of order, or of two "
+            if index <= self.last_index:
+                raise Refused(f"line {line}: {shown(use.name)} goes from {self.last_index} to {index}: the events are out of order, or of two "
                               f"histories; say --ignore {shown(use.name)} if it does not number them")
-            self._last_index = index
+            self.last_index = index
 
     # --- Times ---
 
@@ -217,7 +230,7 @@ class Reader:
     def refuse_no_kind(self, told: Told) -> None:
         """Refuses an event without a type."""
         raise Refused(f"line {told.line}: this event has no type (invoke, ok, fail or info), and no times of a call and a return; "
-                      f"{_listed(list(told.fields))}")
+                      f"it says {', '.join(f'{shown(name)}: {short(field)}' for name, field in told.fields.items())}; {_listed(list(told.fields))}")
 
 
 def _listed(names: List[str]) -> str:

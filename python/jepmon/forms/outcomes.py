@@ -10,6 +10,7 @@ from .shapes import Fields, Shape, short, shown
 from .vocabulary import FALSE, NO_ERROR, TRUE, plain
 
 DEFINITE = ("cas", "acquire", "read", "dequeue")  # that the store refused them is an answer: they did not take place
+BY_MAPPING = 'a mapping file with "outcomes"'  # settles what statuses of HTTP say
 HTTP = range(100, 600)
 Said = Tuple[str, Any, str]  # the name of a field, what it says, and the outcome by it
 
@@ -79,7 +80,7 @@ class Outcomes:
             number = int(field) if str(field).isdigit() and len(str(field)) == 3 else 0
             if number in HTTP:
                 self._account.guess(OUTCOME, "statuses from 100 to 599 are those of HTTP: 2xx is ok, and what has another one may have taken place",
-                                    'a mapping file with "outcomes"')
+                                    BY_MAPPING)
                 return "ok" if number // 100 == 2 else "info"
         return None
 

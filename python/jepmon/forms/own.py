@@ -11,6 +11,7 @@ import re
 from typing import Counter, Dict, List, NamedTuple, Optional, Set, Tuple
 
 from .. import kinds
+from .account import Account
 
 INTEGER = r"[+-]?(?:0|[1-9][0-9]{0,18})"
 ATOM = rf'(?:nil|true|false|{INTEGER}|:[A-Za-z][A-Za-z0-9_?!*.-]*|"(?:[^"\\\n]|\\[trn\\"])*")'
@@ -24,7 +25,8 @@ NOTE = re.compile(r'#_\{(?:[^{}"\\]|"(?:[^"\\\n]|\\.)*")*\}[ \t\r]*')
 COMMAND = re.compile(r"\[:(?:(model) ([0-9]{1,5}) :([a-z-]+)|(budget) ([0-9]{1,5}) ([0-9]{1,6})|(rewind) ([0-9]{1,7})|verdict)\]\r?")
 COMMAND_LINE = re.compile(rf"^{COMMAND.pattern}$", re.M)
 INDEX = re.compile(r",? :index ([0-9]{1,10})(?![0-9])")
-TIME = re.compile(r",? :time ([0-9]{1,19})(?![0-9])")
+GAP, OF_COMMANDS, TAKEN_BACK = "blank or comment", "commands", "events that were taken back"  # lines without an event
+TIME = re.compile(r",? :time (?:([0-9]{1,19})(?![0-9]))?")
 FAULTS = frozenset({"partition", "heal", "pause", "resume", "crash", "restart", "lose-replies"})  # jepmon's own
 
 NIL, NUMBER, PAIR, SET = "n", "0", "[", "#"  # the parts of events, by how they begin
@@ -79,15 +81,19 @@ class Own(NamedTuple):
     models: Dict[int, str]  # of keys that the history itself gives a model
     budgets: Dict[int, int]
     has_commands: bool
+    account: Account
 
 
 def read(text: str) -> Optional[Own]:
     """The history, where the text is one in this form, an event a line."""
     scan = _Scan()
-    for number, line in enumerate(text.split("\n"), 1):
+    lines = text.split("\n")
+    if not lines[-1]:
+        lines.pop()
+    for number, line in enumerate(lines, 1):
         if not scan.take(number, line):
             return None
-    return scan.own(text)
+    return scan.own(text, len(lines))
 
 
 class _Scan:
@@ -99,6 +105,7 @@ class _Scan:
         self._models: Dict[int, str] = {}
         self._budgets: Dict[int, int] = {}
         self._has_commands = False
+        self._account = Account()
 
     def take(self, number: int, line: str) -> bool:
         if line.startswith("{"):
@@ -106,7 +113,9 @@ class _Scan:
             self._numbers.append(number)
             return True
         if line.startswith("["):
+            self._account.skip(OF_COMMANDS)
             return self._command(line)
+        self._account.skip(GAP)
         return not line.strip(" \t\r,") or line.startswith(";") or NOTE.fullmatch(line) is not None
 
     def _command(self, line: str) -> bool:
@@ -119,16 +128,19 @@ class _Scan:
         elif found.group(4):
             self._budgets[int(found.group(5))] = int(found.group(6))
         elif found.group(7):
+            self._account.skip(TAKEN_BACK, max(0, len(self._events) - int(found.group(8))))
             del self._events[int(found.group(8)):], self._numbers[int(found.group(8)):]
         return found.group(3) in (None, *kinds.MODELS)
 
-    def own(self, text: str) -> Optional[Own]:
+    def own(self, text: str, lines: int) -> Optional[Own]:
         facts = facts_of(self._events, self._numbers)
         if facts is None:
             return None
         if self._has_commands:
             text = "".join(line.rstrip("\r") + "\n" for line in self._events)
-        return Own(text, facts, self._models, self._budgets, self._has_commands)
+        self._account.taken = len(self._events)
+        self._account.close(lines)
+        return Own(text, facts, self._models, self._budgets, self._has_commands, self._account)
 
 
 def facts_of(events: List[str], numbers: List[int]) -> Optional[Facts]:
@@ -147,8 +159,8 @@ def facts_of(events: List[str], numbers: List[int]) -> Optional[Facts]:
         elif ":time" in further:
             time = TIME.search(further)
             if time is not None:
-                if int(time.group(1)) < latest:
-                    return None  # its lines are not in the order of its events
+                if time.group(1) is None or int(time.group(1)) < latest:
+                    return None  # its lines may not be in the order of its events
                 latest = int(time.group(1))
         facts.lines.append(number)
         if process == ":nemesis":

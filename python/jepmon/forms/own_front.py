@@ -9,16 +9,19 @@ from typing import Iterable
 EVENT = re.compile(r"\{(?::index [0-9]+,? )?:type :[a-z]+,? :process [0-9:]")
 
 
-TIME = re.compile(r", :time ([0-9]{1,19})(?![0-9])")
+TIME = re.compile(r", :time (?:([0-9]{1,19})(?![0-9]))?")
 
 
 def is_in_order(front: str, texts: Iterable[str]) -> bool:
-    """Whether no :time goes back. It is asked where the first events have a time and no :index, which would be the order."""
+    """Whether no :time goes back, and each is an integer. It is asked if the first events have a time and no :index, which would be the order."""
     if ":time" not in front or ":index" in front:
         return True
     latest = 0
     for text in texts:
-        times = [latest, *map(int, TIME.findall(text))]
+        found = TIME.findall(text)
+        if "" in found:
+            return False
+        times = [latest, *map(int, found)]
         if not all(map(operator.le, times, itertools.islice(times, 1, None))):
             return False
         latest = times[-1]
@@ -33,7 +36,7 @@ def is_own(front: str) -> bool:
     for line in front.split("\n"):
         if line.startswith("{"):
             try:
-                return EVENT.match(line) is not None and all(HEAD.fullmatch(head) or not key for _, head, key, _, _ in rows_of(line.encode()))
+                return EVENT.match(line) is not None and all(HEAD.fullmatch(head) or not key for _, head, key, _, _ in rows_of(line.encode())[0])
             except Doubt:
                 return False
     return not front.lstrip().startswith(("[", "(", "#jepsen"))

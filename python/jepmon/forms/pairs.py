@@ -16,7 +16,7 @@ from .mapping import TIMES, Mapping
 from .meaning import ANSWERED, MISSING, Reader, Told
 from .row_events import is_nemesis, kind_of
 from .unfinished import Unfinished
-from .written import Writer, element, value_of, word
+from .written import Writer, element, word
 
 
 class Pairs:
@@ -61,8 +61,7 @@ class Pairs:
         if told.time is None:
             self._writer.counts["faults without a time, which are left out, as events are ordered by their times"] += 1
         else:
-            self.faults.append(intervals.Fault(told.time, told.line, word(told.line, told.name or "fault"),
-                                               value_of(MISSING, told.value)))
+            self.faults.append(intervals.Fault(told.time, told.line, word(told.line, told.name or "fault"), told.value))
 
     def _timed(self, told: Told) -> Told:
         """The event, which has a time and a client."""

@@ -54,7 +54,7 @@ def of_own(source: Source) -> Optional[Recorded]:
     if found is None or not found.facts.events or own.concurrency_of(found.facts) is None:
         return None
     names = Names.read(source.text) if "; " in source.text else Names()
-    return Recorded(door.OWN, found.text, found.facts, Account(), {}, found.models, found.budgets, names.keys, names.values,
+    return Recorded(door.OWN, found.text, found.facts, found.account, {}, found.models, found.budgets, names.keys, names.values,
                     faults=faults.of_text(found.text), lines=found.facts.lines, is_own=True, has_commands=found.has_commands)
 
 

@@ -1,7 +1,7 @@
 """Rows that are events, in the order in which they stand: an invocation, and later its completion, of a client."""
 from __future__ import annotations
 
-from typing import Any, Dict, List, Optional, Tuple
+from typing import Any, Dict, Iterator, List, Optional, Tuple, Union
 
 from . import Refused
 from .account import ORDER, Account
@@ -10,6 +10,8 @@ from .clock import Time
 from .mapping import LINES, Mapping
 from .meaning import ANSWERED, MISSING, Reader, Told
 from .order import EITHER, Blocks
+from .plain_rows import Plans, plain_key, plain_part
+from .rows import Row
 from .unfinished import Unfinished
 from .written import Writer, element, value_of, word
 
@@ -32,10 +34,11 @@ class Events:
         self._unfinished = Unfinished(account, mapping.unfinished)
         self._are_numbers: Optional[bool] = None  # whether clients are numbers, as the first one says
         self._clients: Dict[Any, int] = {}
-        self._opened: Dict[str, Told] = {}  # the invocation of each process
+        self._opened: Dict[int, Union[Told, Row]] = {}  # the invocation of each process; the row of one that was read by its plan
+        self._plans = Plans(reader)
         self._latest: Optional[Time] = None
         self._latest_client: Any = None
-        self._ties = self._timeless = 0  # events with the time of the one before, of another client; events without a time
+        self._ties = 0  # events with the time of the one before, of another client
         self._first_tie = 0
         self._blocks = Blocks()
 
@@ -43,12 +46,13 @@ class Events:
         """Writes the event that a row tells."""
         self._test_time(told)
         if is_nemesis(told):
-            self._writer.event(told.line, "info", ":nemesis", word(told.line, told.name or "fault"), value_of(MISSING, told.value), told.time)
+            self._writer.fault(told.line, told.name or "", told.value, told.time)
             return
         kind = kind_of(told, self._reader)
         process = self._process(told)
-        self._blocks.take(process)
-        invoked = self._opened.pop(process, None)
+        self._blocks.take(process, told.line)
+        opened = self._opened.pop(process, None)
+        invoked = self._plans.told(opened) if isinstance(opened, Row) else opened
         kind = completed(told, kind, told.name or (invoked.name if invoked else None), self._writer.counts)
         if kind == "invoke":
             if invoked is not None:
@@ -62,19 +66,90 @@ class Events:
         error = told.error if kind != "invoke" else None
         self._writer.event(told.line, kind, process, word(told.line, name), value_of(key, value), told.time, error)
 
+    def learn(self, row: Row) -> None:
+        """Learns how rows as this one are read, which was taken."""
+        if self._writer.collector.meant.says_nothing:
+            self._plans.learn(row)
+
+    def take_run(self, rows: Iterator[Row]) -> Optional[Row]:
+        """Takes rows that are plainly events by their plans, with what take() would do. Gives the first row that is none."""
+        plans, words, opened, clients = self._plans.by_names, self._plans.words, self._opened, self._clients
+        collector, reader, are_numbers = self._writer.collector, self._reader, self._are_numbers
+        history = collector.history
+        for row in rows:
+            line, fields = row
+            plan = plans.get(tuple(fields))
+            if plan is None or self._unfinished.clients:
+                return row
+            shape, pick, has_key, has_value, has_time, factor, numbered, others = plan
+            client, word, said, key, value, time = pick(fields)
+            found = words.get((word, said)) if type(word) is str and type(said) is str else None
+            process = client if are_numbers else clients.get(client) if type(client) is str else None
+            if found is None or type(process) is not int or process < 0:
+                return row
+            kind, name = found
+            key = plain_key(key) if has_key else collector.lone_key
+            part = plain_part(name, value) if has_value else "nil"
+            if kind == "invoke":
+                if process in opened:
+                    return row
+            elif type(opened.get(process)) is not Row:
+                return row
+            else:
+                invoked = collector.open[process]
+                key = key if has_key else invoked[3]
+                part = part if part != "nil" or name in ANSWERED else invoked[4]
+            beside = None
+            if has_time:
+                if type(time) is not int and (type(time) is not float or time - time != 0) or self._latest is None:
+                    return row
+                time *= factor
+                if time < self._latest:
+                    return row
+                beside = int(time), None
+            if numbered is not None and not (type(fields[numbered]) is int and fields[numbered] > reader.last_index):
+                return row
+            if part is None or type(key) is not str or others and any(type(fields[other]) is dict for other in others):
+                return row
+            if not collector.takes((f":{kind}", process, f":{name}", key, part, collector.count, line, beside)):
+                return row
+            # The row is taken. The rest is for the tests of the next rows, and for the notes at the end.
+            collector.count += 1
+            if kind == "invoke":
+                opened[process] = row
+            else:
+                del opened[process]
+            if has_value and type(value) is str:
+                history.is_plain = False
+            if has_time:
+                if time == self._latest:
+                    self._tie(line, client)
+                self._latest, self._latest_client = time, client
+            else:
+                self._blocks.take(process, line)
+            if numbered is not None:
+                reader.last_index = fields[numbered]
+            shape.count += 1
+            for name in shape.unknown:
+                reader.shapes.unused(line, name, fields[name])
+        return None
+
     def _test_time(self, told: Told) -> None:
         if told.time is None:
-            self._timeless += 1
             return
         if self._latest is not None and told.time <= self._latest and self._order != LINES:
             if told.time < self._latest:
                 raise TimesGoBack(told.line)
-            if told.client != self._latest_client:
-                self._ties += 1
-                self._first_tie = self._first_tie or told.line
+            self._tie(told.line, told.client)
         self._latest, self._latest_client = told.time, told.client
 
-    def _process(self, told: Told) -> str:
+    def _tie(self, line: int, client: Any) -> None:
+        """Notes an event with the time of the one before."""
+        if client != self._latest_client and self._order != LINES:
+            self._ties += 1
+            self._first_tie = self._first_tie or line
+
+    def _process(self, told: Told) -> int:
         """The process of the event's client."""
         client = told.client
         is_number = isinstance(client, int) and not isinstance(client, bool)
@@ -87,10 +162,10 @@ class Events:
         if self._are_numbers is None:
             self._are_numbers = is_number
         if not self._are_numbers:
-            return str(self._clients.setdefault(client, len(self._clients)))
+            return self._clients.setdefault(client, len(self._clients))
         if not is_number or client < 0:
             raise Refused(f"line {told.line}: its process is {element(client)[:60]}, and those before it are numbers from 0 on")
-        return str(client)
+        return int(client)
 
     def notes(self) -> List[str]:
         """What is to be told: the clients that got numbers, and what is guessed of the order."""
@@ -98,7 +173,7 @@ class Events:
         if self._order is None and self._ties:
             self._account.guess(ORDER, f"events of several clients have one time, {self._ties} times, first in line {self._first_tie}: they are taken "
                                 "in the order in which they stand, not as open at once", EITHER)
-        if self._order is None and self._latest is None:
+        if self._order is None and self._latest is None and self._reader.last_index < 0:
             self._blocks.close(self._account)
         return [f"client {number} is {element(name)}" for name, number in self._clients.items()]
 

@@ -1,8 +1,7 @@
 """Rows of JSON and CSV: objects with fields, each with its line in the file.
 
 JSON: one object a line, objects over several lines, one array of objects, one object whose only list of objects is the history, or spans
-as OTLP has them. CSV: a line of column names, then a row a line; without names the columns are 1, 2, 3, ... A cell that is a number,
-true, false, null or a JSON list is that, an empty one is null, and any other is text.
+as OTLP has them. CSV: a line of column names, then a row a line; without names the columns are 1, 2, 3, ... cells.py has what a cell says.
 """
 from __future__ import annotations
 
@@ -13,14 +12,14 @@ from typing import Any, Dict, Iterable, Iterator, List, NamedTuple, Optional, Tu
 
 from . import Refused, spans
 from .account import Account
+from .cells import DECODER, Twice, cell_value, spelled
 from .mapping import Mapping
 from .vocabulary import plain
 
 SPACE = re.compile(r"(?:[\s,]+|(?:#|//)[^\n]*)*")  # also comments
 COMMENT = re.compile(r"\n[ \t]*(?:#|//)")
-CELL = re.compile(r"-?[0-9]+(\.[0-9]+)?([eE][+-]?[0-9]+)?|true|false|null|[\[{].*[\]}]", re.S)
 DATA = re.compile(r"-?[0-9]+([.:T ,-][0-9TZ:. ,-]*)?")  # a cell that is no name of a column
-COMMENTS = re.compile(r"(?:\s*#[ #!][^\n]*\n)+")  # before the first row
+COMMENTS = re.compile(r"(?:\s*#(?:[ #!]|TYPE )[^\n]*\n)+")  # before the first row
 BLANK, BRACKETS, HEADING = "blank", "brackets alone", "the heading"
 OF_A_ROW = {"f", "op", "process", "client", "clientid"}  # an object with a field of these is a row
 
@@ -38,7 +37,6 @@ class Row(NamedTuple):
 def of_json(texts: Iterable[str], mapping: Mapping, account: Account) -> Iterator[Row]:
     """The objects of a JSON text, which comes in pieces of whole lines."""
     text = _Pieces(texts)
-    decoder = json.JSONDecoder(object_pairs_hook=_object)
     text.pass_gap()
     in_array = text.begins("[")
     gap = BRACKETS if in_array else BLANK
@@ -48,12 +46,13 @@ def of_json(texts: Iterable[str], mapping: Mapping, account: Account) -> Iterato
     while text.more() and not (in_array and text.begins("]")):
         line, begin = text.line(), text.at
         account.skip_to(line, gap, text.comments())
-        value, begin = _decoded(decoder, text)
+        value, begin = _decoded(text)
         account.took(line, text.line())
         if mapping.rows is None and _is_plain(value):
             yield Row(line, value)
+            yield from text.rows_a_line(account)
         else:
-            yield from _rows(decoder, value, line, (text.text, begin, text.at), mapping, account)
+            yield from _rows(value, line, (text.text, begin, text.at), mapping, account)
         gap = BLANK
         text.pass_gap()
     if in_array and not text.more():
@@ -76,6 +75,21 @@ class _Pieces:
         self._line, self._counted = 1, 0  # the line of a place in the text
         self._last = ""
         self._comments = 0  # lines
+
+    def rows_a_line(self, account: Account) -> Iterator[Row]:
+        """The rows that follow in the text that is held, as long as each is an object in a line of its own."""
+        text, at, line, scan = self.text, self.at, self.line(), DECODER.scan_once  # type: ignore[attr-defined]
+        while text.startswith("\n{", at):
+            try:
+                value, end = scan(text, at + 1)
+            except (ValueError, StopIteration, RecursionError, Twice):  # _decoded() reports it
+                break
+            if text.find("\n", at + 1, end) >= 0 or type(value) is not dict or text.find("[", at, end) >= 0 and not _is_plain(value):
+                break
+            at, line = end, line + 1
+            account.took(line, line)
+            yield Row(line, value)
+        self.at, self._counted, self._line = at, at, line
 
     def add(self) -> bool:
         """Adds the next piece; whether there is one."""
@@ -121,25 +135,12 @@ class _Pieces:
         return self.line() - (self._last == "\n" or self._last == "")
 
 
-def _object(pairs: "List[Tuple[str, Any]]") -> Dict[str, Any]:
-    """An object, of which no member stands there twice."""
-    made = dict(pairs)
-    if len(made) < len(pairs):
-        names = [name for name, _ in pairs]
-        raise _Twice(next(name for name in names if names.count(name) > 1))
-    return made
-
-
-class _Twice(Exception):
-    """An object has a member twice."""
-
-
-def _decoded(decoder: json.JSONDecoder, text: _Pieces) -> "Tuple[Any, int]":
+def _decoded(text: _Pieces) -> "Tuple[Any, int]":
     """The value here, and where it begins in the text that is held."""
     while True:
         begin = text.at
         try:
-            value, text.at = decoder.raw_decode(text.text, begin)
+            value, text.at = DECODER.raw_decode(text.text, begin)
             return value, begin
         except json.JSONDecodeError as fault:
             is_cut = fault.pos >= len(text.text.rstrip()) or fault.msg.startswith("Unterminated")
@@ -150,8 +151,8 @@ def _decoded(decoder: json.JSONDecoder, text: _Pieces) -> "Tuple[Any, int]":
                 raise Refused(f"line {line}: the text ends within the object that begins here: was the file cut off?") from fault
             line += text.text.count("\n", begin, fault.pos)
             raise Refused(f"line {line}: this is no JSON: {fault.msg}: {text.text[fault.pos:fault.pos + 40]!r}") from fault
-        except _Twice as fault:
-            raise Refused(f"line {text.line()}: an object has the member {json.dumps(fault.args[0])} twice") from fault
+        except Twice as fault:
+            raise Refused(f"line {text.line()}: {fault}") from fault
         except RecursionError as fault:
             raise Refused(f"line {text.line()}: too many lists or objects stand in one another") from fault
         except ValueError as fault:  # a number of thousands of digits
@@ -168,10 +169,12 @@ def _is_plain(value: Any) -> bool:
     return True
 
 
-def _rows(decoder: json.JSONDecoder, value: Any, line: int, place: Tuple[str, int, int], mapping: Mapping, account: Account) -> Iterator[Row]:
+def _rows(value: Any, line: int, place: Tuple[str, int, int], mapping: Mapping, account: Account) -> Iterator[Row]:
     """The rows of a value at the top: one, or those of the lists in it that have the history."""
     if not isinstance(value, dict):
-        raise Refused(f"line {line}: this is no object, so no event: {json.dumps(value)[:60]}")
+        raise Refused(f"line {line}: this is no object, so no event: {spelled(value)[:60]}")
+    if mapping.rows is None and "traceEvents" in value:
+        raise Refused(f"line {line}: these are Chrome's traceEvents, of which some tell of no operation: let those that do be rows")
     path = mapping.rows or (spans.PATH if spans.PATH.split("[")[0] in value else None)
     if path is not None:
         yield from (Row(line, spans.row(member)) for member in spans.members(line, value, path))
@@ -184,14 +187,14 @@ def _rows(decoder: json.JSONDecoder, value: Any, line: int, place: Tuple[str, in
         if name != lists[0]:
             account.field(name)
     members = value[lists[0]]
-    yield from map(Row, _lines_of_members(decoder, lists[0], members, line, place), members)
+    yield from map(Row, _lines_of_members(lists[0], members, line, place), members)
 
 
 def _is_history(field: Any) -> bool:
     return isinstance(field, list) and bool(field) and all(isinstance(member, dict) for member in field)
 
 
-def _lines_of_members(decoder: json.JSONDecoder, name: str, members: List[Any], line: int, place: Tuple[str, int, int]) -> List[int]:
+def _lines_of_members(name: str, members: List[Any], line: int, place: Tuple[str, int, int]) -> List[int]:
     """The line of each member of a list of this name in an object."""
     text, begin, end = place
     for found in re.compile(rf"{re.escape(json.dumps(name))}\s*:\s*\[\s*").finditer(text, begin, end):
@@ -200,7 +203,7 @@ def _lines_of_members(decoder: json.JSONDecoder, name: str, members: List[Any], 
             for member in members:
                 now, last = now + text.count("\n", last, at), at
                 lines.append(now)
-                value, at = decoder.raw_decode(text, at)
+                value, at = DECODER.raw_decode(text, at)
                 if value != member:
                     break
                 at = SPACE.match(text, at).end()  # type: ignore[union-attr]
@@ -235,7 +238,7 @@ def of_csv(texts: Iterable[str], mapping: Mapping, account: Account) -> Iterator
             if len(cells) != len(columns):
                 raise Refused(f"line {line}: it has {len(cells)} cells for {len(columns)} columns: was the file cut off?")
             account.took(line, reader.line_num)
-            yield Row(line, {column: cell_value(cell, mapping) for column, cell in zip(columns, cells)})
+            yield Row(line, {column: cell_value(line, cell, mapping) for column, cell in zip(columns, cells)})
     except csv.Error as fault:
         raise Refused(f"line {reader.line_num}: this is no CSV: {fault}") from fault
 
@@ -292,22 +295,9 @@ def _columns(line: int, cells: List[str]) -> List[str]:
     if not has_heading(cells):
         return [str(number + 1) for number in range(len(cells))]
     names = [cell.strip() for cell in cells]
+    if not names[0] and "index" not in map(plain, names):
+        names[0] = "index"  # the rows' numbers or names, as pandas and R write them
     twice = next((name for name in names if [plain(other) for other in names].count(plain(name)) > 1), None)
     if twice is not None:
         raise Refused(f"line {line}: two columns are called {twice!r}")
     return names
-
-
-def cell_value(cell: str, mapping: Mapping) -> Any:
-    """What a cell says. Blanks within quotes belong to a text."""
-    if cell.isdigit() and cell.isascii() and (cell[0] != "0" or cell == "0"):
-        return int(cell)
-    stripped = cell.strip()
-    if stripped in mapping.absent:
-        return None
-    if CELL.fullmatch(stripped):
-        try:
-            return json.loads(stripped)
-        except (ValueError, RecursionError):
-            return cell
-    return cell

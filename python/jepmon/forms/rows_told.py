@@ -14,6 +14,7 @@ from .files import Source
 from .log_rows import OTHERS
 from .mapping import LINES, TIMES, Mapping
 from .meaning import MISSING, Reader, Told
+from .order import APART, BY_TIMES, ONE_CLOCK, SKEW
 from .pairs import Pairs
 from .row_events import Events, TimesGoBack, is_nemesis
 from .rows import Row
@@ -41,7 +42,7 @@ def written(rows: Rows, account: Account, asked: Asked = Asked()) -> Written:
         part = Account()
         if asked.mapping.order is None:
             part.guess(ORDER, f"times go back, first in line {back.line}: the events are taken in the order of their times, which have to be of one "
-                       "clock", "--order times")
+                       "clock", BY_TIMES)
         made = _Turning(rows, part, asked).by_times(back.line)
     account.add(part)
     return made
@@ -60,7 +61,8 @@ class _Turning:
         self._clients = Clients(asked.source, asked.mapping.clients)
 
     def written(self) -> Written:
-        told = self._told()
+        rows = iter(self._rows(self._account))
+        told = self._all_told(rows)
         first = next(told, None)
         if first is None:
             if self._account.skipped[OTHERS]:
@@ -72,14 +74,20 @@ class _Turning:
         if self._mapping.order == TIMES or self._mapping.skew is not None or self._clients.are_of_several_files:
             return self._of_events_by_times(told, 0)
         events = Events(self._writer, self._reader, self._account, self._mapping)
-        for each in told:
-            events.take(each)
+        events.take(first)
+        row = events.take_run(rows)
+        while row is not None:
+            taken = self._told(row)
+            if taken is not None:
+                events.take(taken)
+                events.learn(row)
+            row = events.take_run(rows)
         self._close()
         return self._writer.written(events.notes())
 
     def by_times(self, first_back: int) -> Written:
         """The events in the order of their times, which go back in this line."""
-        return self._of_events_by_times(self._told(), first_back)
+        return self._of_events_by_times(self._all_told(self._rows(self._account)), first_back)
 
     def _of_events_by_times(self, told: Iterable[Told], first_back: int) -> Written:
         pairs = Pairs(self._writer, self._reader, self._account, self._mapping, first_back)
@@ -97,7 +105,7 @@ class _Turning:
             notes.append(f"each clock may be wrong by {skew}: {operations.lost(error)} orders of two operations of a key are not certain, and "
                          "what is illegal by these alone is not seen")
         elif operations.are_of_several():
-            self._account.guess(ORDER, "the times of all clients are of one clock, or of clocks that agree", "--skew 0ms")
+            self._account.guess(ORDER, APART if operations.are_apart() else ONE_CLOCK, SKEW)
         operations.write(faults, error, self._reader.clock.coarsest())
         return self._writer.written(notes, self._is_etcd)
 
@@ -106,19 +114,21 @@ class _Turning:
         for name in self._reader.close():
             self._account.field(name)
 
-    def _told(self) -> Iterator[Told]:
-        """What the rows tell."""
-        for row in self._rows(self._account):
-            if etcd.is_one(row):
-                self._is_etcd = True
-                turned = etcd.turned(row, self._writer)
-                if turned is None:
-                    continue
-                row = turned
-            told = self._reader.told(row)
-            if told is None:
-                self._account.drop(OTHERS)
-            elif told.client is MISSING or is_nemesis(told):
-                yield told
-            else:
-                yield told._replace(client=self._clients.named(told.client, told.line)) if self._clients.are_of_several_files else told
+    def _all_told(self, rows: Iterable[Row]) -> Iterator[Told]:
+        """What these rows tell, of those that tell of an operation."""
+        return (told for told in map(self._told, rows) if told is not None)
+
+    def _told(self, row: Row) -> Optional[Told]:
+        """What a row tells; None if it tells of no operation."""
+        if etcd.is_one(row):
+            self._is_etcd = True
+            turned = etcd.turned(row, self._writer)
+            if turned is None:
+                return None
+            row = turned
+        told = self._reader.told(row)
+        if told is None:
+            self._account.drop(OTHERS)
+        elif self._clients.are_of_several_files and told.client is not MISSING and not is_nemesis(told):
+            return told._replace(client=self._clients.named(told.client, told.line))
+        return told

@@ -5,12 +5,12 @@ dots, as Input.Key, and mean what their last part says.
 """
 from __future__ import annotations
 
-import json
 from typing import Any, Dict, List, NamedTuple, Optional, Sequence, Tuple
 
 from . import Refused
+from .cells import spelled
 from .mapping import Mapping
-from .vocabulary import ARGUMENTS, CONTAINERS, HARMLESS, MEANINGS, Slot, plain, slot_of
+from .vocabulary import ARGUMENTS, CONTAINERS, HARMLESS, MEANINGS, PARTS, RUNS, Slot, plain, slot_of
 
 Fields = Dict[str, Any]
 SAYS = {"client", "f", "key", "value", "answer", "call", "return", "id"}  # a row without one of these is of no operation
@@ -35,14 +35,16 @@ class Shape:
         self.count = 0  # rows that have it
         self.uses: Dict[str, List[Use]] = {}
         self.unknown: List[str] = []
+        self.passed: List[str] = []  # known names of a meaning for which the user names other fields
         mapped = {mapping.fields[plain(name)].meaning for name in names if plain(name) in mapping.fields}
         for name in names:
             slot = slot_in(name, mapping)
             if slot is not None and (slot.meaning not in mapped or plain(name) in mapping.fields):
                 self.uses.setdefault(slot.meaning, []).append(Use(name, slot))
-            elif plain(name) not in mapping.ignored and (slot is None or slot.meaning not in mapped):
-                self.unknown.append(name)
+            elif plain(name) not in mapping.ignored:
+                (self.unknown if slot is None else self.passed).append(name)
         self.is_bare = not SAYS & set(self.uses)
+        self.key_parts = sorted(use.name for use in self.uses.get("key", ())) if "key" in mapped else []  # if the user names them
         for uses in self.uses.values():
             uses.sort(key=lambda use: use.slot.rank)
         # Fields that may hold an object to be laid open.
@@ -86,10 +88,7 @@ class Shapes:
 
     def of(self, line: int, fields: Fields) -> "Tuple[Shape, Fields]":
         """The shape of a row, and its fields, of which objects are laid open."""
-        names = tuple(fields)
-        shape = self._shapes.get(names)
-        if shape is None:
-            shape = self._shapes[names] = Shape(names, self._mapping)
+        shape = self.of_names(tuple(fields))
         for name in shape.objects:
             if type(fields[name]) is dict:
                 opened = self._opened(line, fields)
@@ -102,6 +101,13 @@ class Shapes:
         for name in shape.unknown:
             self.unused(line, name, fields[name])
         return shape, fields
+
+    def of_names(self, names: Tuple[str, ...]) -> Shape:
+        """The shape of rows with these names."""
+        shape = self._shapes.get(names)
+        if shape is None:
+            shape = self._shapes[names] = Shape(names, self._mapping)
+        return shape
 
     def unused(self, line: int, name: str, field: Any) -> None:
         """Records that a field says nothing."""
@@ -157,7 +163,8 @@ class Shapes:
     def close(self) -> List[str]:
         """The fields that were not looked at. Refused if one may say something of the history."""
         total = sum(shape.count for shape in self._shapes.values())
-        counts = {name: sum(shape.count for shape in self._shapes.values() if name in shape.names) for name in self._said}
+        passed = dict.fromkeys(name for shape in self._shapes.values() for name in shape.passed if not shape.is_bare)
+        counts = {name: sum(shape.count for shape in self._shapes.values() if name in shape.names) for name in [*self._said, *passed]}
         doubtful = [name for name, said in self._said.items() if not is_harmless(name) and (len(said) > 1 or counts[name] < total)
                     and not (counts[name] < total and said == [None])]
         if doubtful:
@@ -165,17 +172,31 @@ class Shapes:
             more = f"; and {len(doubtful) - SHOWN} more" if len(doubtful) > SHOWN else ""
             first = shown(doubtful[0])
             raise Refused(f"fields that are not known, and may say something of the history: {listed}{more}. Say what each one is, as --map "
-                          f"{first}=key, or that it is nothing, as --ignore {first}. {allowed()}")
-        return [f"{shown(name)} ({counts[name]})" for name in self._said]
+                          f"{first}=key, or that it is nothing, as --ignore {first}. {self._guessed(doubtful)}{allowed()}")
+        return [f"{shown(name)} ({counts[name]})" for name in counts]
+
+    def _guessed(self, doubtful: List[str]) -> str:
+        """Guesses what the first of these fields is that may tell runs or objects apart."""
+        key = next((shown(shape.uses["key"][0].name) for shape in self._shapes.values() if "key" in shape.uses), None)
+        for name in doubtful:
+            if _last(name) in RUNS:
+                return f"If {shown(name)} tells runs apart, judge each by itself. "
+            if _last(name) in PARTS and key is not None:
+                return f"If {shown(name)} is a part of the key, say --map {shown(name)}=key --map {key}=key. "
+        return ""
 
 
 def is_harmless(name: str) -> bool:
-    return plain(name.rpartition("\0")[2]) in HARMLESS
+    return _last(name) in HARMLESS
+
+
+def _last(name: str) -> str:
+    return plain(name.rpartition("\0")[2])
 
 
 def shown(name: str) -> str:
     """A field's name as a user writes it."""
-    return name.replace("\0", ".")
+    return name.replace("\0", ".") or "''"
 
 
 def allowed() -> str:
@@ -183,5 +204,5 @@ def allowed() -> str:
 
 
 def short(field: Any) -> str:
-    text = json.dumps(field, ensure_ascii=False, default=str)
+    text = spelled(field)
     return text if len(text) <= 24 else text[:21] + "..."

@@ -15,6 +15,7 @@ from ..kinds import THREADS
 from ..sorted_rows import SortedRows
 
 Time = Union[int, float]
+FAR, FAR_ALONE = 4, 100  # times as long as clients worked are clocks apart that may differ; if each client did one operation
 
 
 class Moment(NamedTuple):
@@ -31,6 +32,7 @@ class Timeline:
     def __init__(self) -> None:
         self._begins, self._ends = SortedRows(), SortedRows()
         self._homes: Dict[Any, int] = {}  # the seat of each client
+        self._spans: Dict[Any, List[Time]] = {}  # of each client: when its first operation was called, and its last one returned
         self._count = 0
         self.overlaps = 0  # operations that are invoked while another one of their client is open
 
@@ -39,9 +41,23 @@ class Timeline:
         "info"; and what is given of its two events, as marshal takes it."""
         home = -1 if client is None else self._homes.setdefault(client, len(self._homes))
         number, self._count = self._count, self._count + 1
+        span = self._spans.setdefault(client, [call, call])
+        span[0], span[1] = min(span[0], call), max(span[1], call if ends is None else ends)
         self._begins.put((call, number, home, "" if ends is not None else outcome, begun))
         if ends is not None:
             self._ends.put((ends, number, outcome, ended))
+
+    def are_apart(self) -> bool:
+        """Whether by their times some clients had long ended when others began, as by clocks that differ."""
+        groups: List[List[Time]] = []
+        for first, last in sorted(self._spans.values()):
+            if groups and first <= groups[-1][1]:
+                groups[-1][1] = max(groups[-1][1], last)
+            else:
+                groups.append([first, last])
+        longest = max((last - first for first, last in groups), default=0)
+        gaps = (after[0] - before[1] for before, after in zip(groups, groups[1:]))
+        return len(groups) > 1 and min(gaps) > (FAR if self._count > len(groups) else FAR_ALONE) * max(longest, 1)
 
     def begun(self) -> Iterator[Tuple[Time, Any]]:
         """When each operation was called, and what is given of that, in the order of the calls."""

@@ -17,20 +17,20 @@ class Unfinished:
 
     def __init__(self, account: Account, is_stated: bool) -> None:
         self._account, self._is_stated = account, is_stated
-        self._clients: Set[Any] = set()
+        self.clients: Set[Any] = set()  # that have left one open
         self._count = self._first = 0
 
     def leave(self, begun: Told, told: Told) -> None:
         """Leaves an operation open, as its client invokes another one."""
         if begun.fields == told.fields:
             raise Refused(f"line {told.line}: this row is that of line {begun.line} in each field: does the file have some lines twice?")
-        self._clients.add(told.client)
+        self.clients.add(told.client)
         self._count += 1
         self._first = self._first or begun.line
 
     def test(self, begun: Told, end: Told) -> None:
         """Tests that a completion fits the last invocation of its client, if that has left an operation open."""
-        if end.client not in self._clients:
+        if end.client not in self.clients:
             return
         fits = ((end.name, begun.name, None), (end.key, begun.key, MISSING),
                 (MISSING if begun.name in ANSWERED or end.value is None else end.value, begun.value, MISSING))

@@ -45,7 +45,10 @@ MEANINGS = (*FIELDS, *TIMES)
 HARMLESS = frozenset((
     "node", "host", "hostname", "server", "address", "addr", "port", "level", "severity", "logger", "caller", "source", "file", "linenumber",
     "traceid", "spanid", "parentspanid", "parentid", "requestid", "tracestate", "flags", "attempt", "attempts", "retries", "retry", "seq",
-    "sequence", "comment", "note", "test", "run", "runid", "service", "servicename", "version", "droppedattributescount"))
+    "sequence", "comment", "note", "service", "servicename", "version", "droppedattributescount"))
+# Fields that may tell several runs apart, and that may be a part of the key: if they vary, a refusal asks which.
+RUNS = frozenset(("run", "runid", "test", "testid", "testname", "trial"))
+PARTS = frozenset(("db", "database", "table", "namespace", "schema", "keyspace", "bucket", "collection", "partition", "shard"))
 # Fields with an object, whose members are read as if they were fields of the row.
 CONTAINERS = frozenset(("input", "request", "req", "args", "params", "attributes", "attrs", "tags", "labels", "fields", "properties"))
 ARGUMENTS = ("input", "request", "args")  # fields that are the value if they hold no object
@@ -123,7 +126,8 @@ def tables() -> List[str]:
     """The tables of docs/FORMATS.md."""
     lines = ["| Meaning | Names of the field |", "|---|---|"]
     lines += [f"| {meaning} | {_listed(names)} |" for meaning, names in {**FIELDS, **TIMES}.items()]
-    lines += [f"| none: not looked at | {_listed(sorted(HARMLESS))} |", "", "| Operation | Words |", "|---|---|"]
+    lines += [f"| none: not looked at | {_listed(sorted(HARMLESS))} |", f"| none: of several runs, if they vary | {_listed(sorted(RUNS))} |",
+              f"| none: a part of the key, if they vary | {_listed(sorted(PARTS))} |", "", "| Operation | Words |", "|---|---|"]
     lines += _by_meaning({**OPERATIONS, **{word: f"{name}, if --model is given" for word, name in OF_STACKS.items()}})
     return [*lines, "", "| Type of an event, outcome of an operation | Words |", "|---|---|", *_by_meaning(TYPES)]
 

@@ -4,12 +4,12 @@ from __future__ import annotations
 import collections
 import json
 import json.encoder
-from typing import Any, Callable, Counter, List, NamedTuple, Optional
+from typing import Any, Callable, Counter, List, NamedTuple, Optional, Tuple
 
-from ..edn import Many, Value, canonical
+from ..edn import Many, Value, canonical, shown
 from ..from_jepsen.asked import Pair
 from ..from_jepsen.collect import Collector
-from ..from_jepsen.events import History
+from ..from_jepsen.events import History, is_pair
 from . import Refused, others
 from .clock import Time
 
@@ -29,25 +29,34 @@ class Writer:
     """Writes events one by one, as Jepsen has them."""
 
     def __init__(self, collector: Collector) -> None:
-        self._collector = collector
+        self.collector = collector
         self.counts: Counter[str] = collections.Counter()  # of what is to be told
 
-    def event(self, line: int, kind: str, process: str, name: str, value: Pair, time: Optional[Time] = None, error: Optional[str] = None) -> None:
-        beside = None if time is None and not error else (None if time is None else int(time), error or None)
-        if process == ":nemesis":
-            self._collector.take_fault(line, name, value[1], 0 if time is None else int(time))
-            return
+    def event(self, line: int, kind: str, process: int, name: str, value: Pair, time: Optional[Time] = None, error: Optional[str] = None) -> None:
+        if name == "cas" and kind == "invoke" and value[0] is not None and not is_pair(value[1]):
+            raise Refused(f"line {line}: the value of this cas is {shown(value[1], 60)}, and no pair of the old and the new value")
         if name in others.OTHERS:
             raise Refused(others.reason(line, name))
-        self._collector.take_told(line, f":{kind}", int(process), f":{name}", value, beside)
+        self.collector.take_told(line, f":{kind}", process, f":{name}", value, beside(time, error))
+
+    def fault(self, line: int, name: str, value: Any, time: Optional[Time]) -> None:
+        """Writes what a nemesis did."""
+        self.collector.take_fault(line, word(line, name or "fault"), edn_of(None if value is MISSING else value), int(time or 0))
 
     def written(self, notes: List[str], nil_is_absent: bool = False) -> Written:
         counted = [f"{note}: {count}" for note, count in self.counts.items()]
-        return Written(self._collector.finished(), notes + counted, nil_is_absent)
+        return Written(self.collector.finished(), notes + counted, nil_is_absent)
+
+
+def beside(time: Optional[Time], error: Optional[str]) -> Optional[Tuple[Optional[int], Optional[str]]]:
+    """The time and the error of an event; None if it has neither."""
+    return None if time is None and not error else (None if time is None else int(time), error or None)
 
 
 def element(value: Any) -> str:
     """A value of JSON as an element of EDN."""
+    if isinstance(value, bytes):
+        return value.decode()
     if value is None or isinstance(value, (bool, int, float, str)):
         return "nil" if value is None else json.dumps(value, ensure_ascii=False)
     if isinstance(value, list):
@@ -70,6 +79,8 @@ def edn_of(value: Any) -> Value:
         return "nil"
     if isinstance(value, list):
         return Many("[", tuple(map(edn_of, value)))
+    if isinstance(value, bytes):
+        return value.decode()
     if isinstance(value, dict):
         return canonical(Many("{", tuple(edn_of(one) for pair in value.items() for one in pair)))
     return json.dumps(value)

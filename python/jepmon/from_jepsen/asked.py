@@ -1,7 +1,7 @@
 """What is said of a history beside its text, and the pieces of the text, whose lines are counted."""
 from __future__ import annotations
 
-from typing import Callable, Iterable, Iterator, Mapping, NamedTuple, Optional, Sequence, Tuple
+from typing import Callable, FrozenSet, Iterable, Iterator, Mapping, NamedTuple, Optional, Sequence, Tuple
 
 from ..edn import Value
 from .meant import Meant
@@ -40,7 +40,9 @@ class Asked(NamedTuple):
     nil_is_absent: bool = False  # nil is what a missing key answers, and no read that says nothing
     order: Optional[str] = None  # by which events are taken: "lines", "index" or "times"; None: as they stand, or by what they say
     outcomes: Mapping[str, str] = {}  # the type of what is an :ok and says that it is none, by "false" and "error"
-    skew: int = 0  # nanoseconds by which each clock may be wrong
+    skew: Optional[int] = None  # nanoseconds by which each clock may be wrong, if that is said
     clients: Optional[Callable[[str, int], str]] = None  # of several files: the name of a client by the line of its event
     parts: Sequence[Tuple[int, Texts]] = ()  # the same files, each with how many lines come before its own
     meant: Meant = Meant()  # which values are one, and which are none
+    ignored: FrozenSet[str] = frozenset()  # fields that say nothing, by their plain names
+    is_own: bool = False  # whether it is in jepmon's own form, whose lines are in the order of the events

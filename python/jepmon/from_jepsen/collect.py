@@ -1,25 +1,4 @@
-"""Goes through the elements of a Jepsen history, and keeps the events of clients, each with its key and its part.
-
-A drain of a queue, `:drain`, whose :ok tells a list of what came out, is taken apart into dequeues. Each of these took place at
-some moment between the drain's invocation and its :ok; which moment is not known, and the list is in no order that means much
-(a test may have put each value to its front, or into a set). They are written one after the other, each invoked and completed,
-in the place of the :ok. For a queue without an order that is exact, the history is linearizable with them if and only if it is
-with dequeues that are open from the drain's invocation to its :ok:
-
-- What is linearizable with the later invocations is so with the earlier ones, which allow more.
-- Let there be an order that shows the history linearizable with dequeues that are open all the time. Take the drain's dequeues
-  out of it, and put them in again just after the last of them and of the operations that had completed before the :ok. Nothing
-  that was invoked after the :ok stands before that place, since each of those operations precedes it. Up to the place the queue
-  now holds all that it held before, and more, so that each dequeue there finds its value as before. At the place it holds what it
-  held there and the drain's values, so that their dequeues take place, in any order, and leave what it held before. So the order
-  shows the history linearizable with dequeues that are invoked and completed one by one at the :ok.
-
-For a queue with an order it is not so: a dequeue that is put off keeps those behind it waiting. So a key with a drain is judged as
-a queue without an order, which is what Jepsen's checkers of such tests, total-queue and the like, look at.
-
-A drain that failed took nothing. One that timed out may have taken whatever it liked; it is left out, which changes no verdict: it
-may have taken nothing, and whatever was linearizable with something taken is so with more left in the queue.
-"""
+"""Goes through the elements of a Jepsen history, and keeps the events of clients, each with its key and its part."""
 from __future__ import annotations
 
 import itertools
@@ -29,10 +8,13 @@ from typing import Any, Dict, Iterable, List, Optional, Tuple
 from .. import edn, faults
 from ..edn import Many, Value, canonical, integer, shown, spelling
 from ..forms.account import Account
+from ..forms.order import Blocks
+from . import drains
+from .apart import Apart, fields_of
 from .asked import GAP, Asked, Counted, Pair
 from .clients import NEMESIS, Clients, is_name
 from .events import Event, Fault, History, Left, Row, is_pair, is_plain, tuple_of
-from .order import Order, number_of
+from .order import Order
 from .outcomes import Outcomes
 from .plain import Plain, plain_of
 from .refusal import NoKey, Refusal, Unpaired, refuse
@@ -42,6 +24,7 @@ from .taken import ANSWERED, DRAIN, TAKEN, TYPES, WITHOUT_PART, refuse_operation
 NATURAL = range(0, 1 << 63)  # processes, and indices
 MOST_KNOWN = 10_000  # values of events that are remembered
 MOST_ROWS = 1_000  # events that are held
+EMPTY = ("nil", "false")  # what a dequeue answers that found nothing; false also says a value, if it was put in
 OK_WITH_ERROR = re.compile(r"^(?=[^\n]*:type :ok\b)[^\n]*:error (?!nil\b|false\b)", re.M)
 
 
@@ -53,12 +36,13 @@ class Collector:
         self.nil_is_absent, self.meant = asked.nil_is_absent, asked.meant
         self.account = account
         self.names = asked.clients
-        self.order: Optional[Order] = None if asked.order else Order()
-        self.clients, self.outcomes = Clients(), Outcomes(asked.outcomes)
+        self.order: Optional[Order] = None if asked.order else Order(Blocks(asked.is_own))
+        self.clients, self.outcomes, self.apart = Clients(), Outcomes(asked.outcomes), Apart(asked.ignored)
         self.open: Dict[int, Row] = {}
         self.history = History(Spool())
         self.known: Dict[Tuple[str, str, Value], Tuple[Value, Value]] = {}  # the key and part of values that came, by :type and :f
         self.nil_fault: Optional[Refusal] = None  # the first write of nil
+        self.has_false = False  # whether false was put into a queue
         self.rows: List[Row] = []  # events that were told, and not kept yet
         self.count = 0  # of events
         self.beside: Any = None  # what the event said beside its value
@@ -103,7 +87,9 @@ class Collector:
         return self.history
 
     def close(self, lines: int) -> None:
-        """Accounts for the lines of the text between its events."""
+        """Accounts for the lines of the text between its events, and for their order."""
+        if self.order is not None:
+            self.order.close(self.account)
         self.account.skip(GAP, lines - self.account.taken - sum(self.account.skipped.values()))
         self.account.close(lines)
 
@@ -113,42 +99,50 @@ class Collector:
             for count, element in enumerate(run.each(), count):
                 self.take(element, count)
             return count + 1
-        opened, tell, rows = self.open, self.history.count, []
         for row in plain.events(run, self.lone_key, count):
-            kind, process, name, key, part, _, line, _ = row
-            invoked = opened.get(process)
-            if kind == ":invoke":
-                fits = invoked is None and (part == "nil") == (name in WITHOUT_PART) and (type(part) is tuple) == (name == ":cas")
-            elif invoked is None or invoked[2] != name or invoked[3] != key:
-                fits = False
-            elif kind == ":ok" and name in ANSWERED:
-                fits = type(part) is str and (part != "nil" or name == ":read")
-            else:
-                fits = part == invoked[4]
-            if fits:
-                if kind == ":invoke":
-                    opened[process] = row
-                else:
-                    del opened[process]
-                tell(row)
-                rows.append(row)
+            if self.takes(row):
                 continue
-            self.history.events.extend(rows)
-            rows = []
+            self.keep_rows()
             try:
                 self.take_odd(row)
             except NoKey:
-                refuse_others(itertools.islice(run.each(), line - run.line + 1, None))
+                refuse_others(itertools.islice(run.each(), row[6] - run.line + 1, None))
                 raise
-        self.history.events.extend(rows)
-        return count + line - run.line + 1
+        self.keep_rows()
+        return count + len(run.rows)
+
+    def takes(self, row: Row) -> bool:
+        """Takes an event, if there is no more to be said of it. Whether it did."""
+        kind, process, name, key, part, _, _, _ = row
+        invoked = self.open.get(process)
+        if kind == ":invoke":
+            if invoked is not None or part == "false" or (part == "nil") != (name in WITHOUT_PART) or (type(part) is tuple) != (name == ":cas"):
+                return False
+            self.open[process] = row
+        else:
+            if invoked is None or invoked[2] != name or invoked[3] != key:
+                return False
+            if kind == ":ok" and name in ANSWERED:
+                if type(part) is not str or part in EMPTY and name != ":read":
+                    return False
+            elif part != invoked[4]:
+                return False
+            del self.open[process]
+        self.history.count(row)
+        self.rows.append(row)
+        if len(self.rows) >= MOST_ROWS:
+            self.keep_rows()
+        return True
 
     def is_odd(self, run: edn.Element, plain: Plain) -> bool:
         """Whether there is more to be said of events of a run than of which is told there: of their order, or of how they ended."""
         if self.clients.are_named or ":error" in run.text and OK_WITH_ERROR.search(run.text):
             return True
-        if self.order is not None and not self.order.take_run(*plain.order(run)):
-            return True
+        if self.order is not None:
+            if not self.order.take_run(run.line, *plain.order(run)):
+                return True
+            if not self.order.blocks.is_decided:
+                self.order.blocks.take_run(plain.processes(run), run.line)
         self.account.took(run.line, run.line + len(run.rows) - 1)
         self.clients.has_numbers()
         return False
@@ -160,31 +154,11 @@ class Collector:
             key, part = key if key is None else self.meant.alike(key), self.meant.part(name, part)
         if key is None and self.lone_key is not None:
             key = self.lone_key
-        is_pair = name == ":cas" and type(part) is Many and len(part.members) == 2
-        flat: Any = ("[", part.members) if is_pair else part  # type: ignore[union-attr]
-        invoked = self.open.get(process)
-        if type(key) is not str or type(part) is not str and not (is_pair and all(type(one) is str and one != "nil" for one in flat[1])):
-            fits = False
-        elif kind == ":invoke":
-            fits = invoked is None and name in TAKEN and (part == "nil") == (name in WITHOUT_PART) and is_pair == (name == ":cas") and name != DRAIN
-        elif invoked is None or invoked[2] != name or invoked[3] != key:
-            fits = False
-        elif kind == ":ok" and name in ANSWERED:
-            fits = part != "nil" or name == ":read"
-        else:
-            fits = flat == invoked[4]
-        if fits:
-            row = kind, process, name, key, flat, self.count, line, beside
-            if kind == ":invoke":
-                self.open[process] = row
-            else:
-                del self.open[process]
-            if self.history.is_plain and not (all(map(is_plain, flat[1])) if is_pair else is_plain(flat)):
+        flat = flat_part(name, part)
+        row = kind, process, name, key, flat, self.count, line, beside
+        if type(key) is str and flat is not None and name in TAKEN and name != DRAIN and self.takes(row):
+            if self.history.is_plain and not all(map(is_plain, (flat,) if type(flat) is str else flat[1])):
                 self.history.is_plain = False
-            self.history.count(row)
-            self.rows.append(row)
-            if len(self.rows) >= MOST_ROWS:
-                self.keep_rows()
         else:
             self.keep_rows()
             self.beside = beside
@@ -221,16 +195,16 @@ class Collector:
             self.complete(line, kind, process, name, value, index)
 
     def take(self, element: edn.Element, count: int) -> None:
-        fields = edn.fields_of(element.value)
-        if fields is None:
-            text = shown(element.value, 60)
-            refuse(element.line, f"this is no map, so no event: {text} (is this Jepsen's history.edn?)")
+        fields = fields_of(element)
         stated, kind = integer(fields.get(":index")), fields.get(":type")
-        index = stated if stated is not None and stated in NATURAL else count
+        stated = stated if stated is not None and stated in NATURAL else None  # None would be looked for from 0 on
+        index = count if stated is None else stated
         process = self.clients.number_of(self.named(fields.get(":process"), element.line), kind == ":invoke")
         if process is not None and not (kind == ":info" and process in self.clients.names and process not in self.open):
+            self.apart.take(element.line, fields)
             if self.order is not None:
-                self.order.take(element.line, stated, number_of(fields.get(":time")))
+                self.order.take(element.line, stated, self.order.times.of(element.line, fields.get(":time")))
+                self.order.blocks.take(process, element.line)
             self.account.took(element.line, element.last_line)
             self.take_event(element.line, process, fields, index)
         elif faults.is_fault(fields):
@@ -280,6 +254,7 @@ class Collector:
         key, part = self.key_and_part(line, ":invoke", name, value)
         if name in WITHOUT_PART and part != "nil":
             self.history.notes[f":invoke of {name} with a value, which is left out"] += 1
+        self.has_false = self.has_false or part == "false" and name == ":enqueue"
         event = Event(":invoke", process, name, key, "nil" if name in WITHOUT_PART else part, index, line, self.beside)
         self.open[process] = row_of(event)
         if name == DRAIN:
@@ -316,8 +291,8 @@ class Collector:
         part = invoked.part
         if kind == ":ok" and name in ANSWERED:
             part = self.answer(line, invoked, value)
-            kind = self.answered(kind, name, part)
-            part = invoked.part if kind == ":fail" else part
+            kind = self.answered(line, name, part)
+            part = part if kind == ":ok" else invoked.part
         elif kind == ":ok" and self.part_of(value) == "false" != part:
             kind = self.outcomes.of_false(line, name)
         elif name in WITHOUT_PART and kind == ":ok" and self.part_of(value) not in ("nil", "true"):
@@ -338,30 +313,28 @@ class Collector:
             refuse(line, f"the answer is of key {shown(key)}, and the invocation of key {shown(invoked.key)}")
         return part
 
-    def answered(self, kind: str, name: str, part: Value) -> str:
-        """A dequeue that answers nil took nothing: it did not take place."""
-        if name == ":dequeue" and part == "nil":
-            self.history.notes["dequeues answered by nil (written as :fail; that the queue was empty is not judged)"] += 1
-            return ":fail"
-        return kind
+    def answered(self, line: int, name: str, part: Value) -> str:
+        """Finds the type of an :ok by its answer. A dequeue that answers nil took nothing, nor does one that answers false, unless false was
+        put in."""
+        if name != ":dequeue" or part not in EMPTY:
+            return ":ok"
+        if part == "false":
+            return ":ok" if self.has_false else self.outcomes.of_false(line, name)
+        self.history.notes["dequeues answered by nil (written as :fail; that the queue was empty is not judged)"] += 1
+        return ":fail"
 
     def drain(self, line: int, kind: str, invoked: Event, value: Value, index: int) -> None:
         """Takes the values of a drain out one by one. Of one that failed or timed out nothing is written."""
         if kind != ":ok":
-            what = {":fail": "nothing came out", ":info": "what came out is not known, which changes no verdict"}[kind]
-            self.history.notes[f"{kind} of :drain, left out: {what}"] += 1
+            self.history.notes[f"{kind} of :drain, left out: {drains.LEFT_OUT[kind]}"] += 1
             return
-        drained = self.answer(line, invoked, value)
-        if drained != "nil" and not (isinstance(drained, Many) and drained.opened in ("[", "#{")):
-            refuse(line, f"this :drain is answered by {shown(drained)}, which is no list of what came out")
-        for taken in drained.members if isinstance(drained, Many) else ():
+        for taken in drains.values_of(line, self.answer(line, invoked, value)):
             dequeue = Event(":invoke", invoked.process, ":dequeue", invoked.key, "nil", index, line)
-            ended = self.answered(":ok", ":dequeue", taken)
-            part = taken if ended == ":ok" else "nil"
+            ended = self.answered(line, ":dequeue", taken)
             if ended == ":ok":
                 self.history.notes["values that came out by :drain, each written as a dequeue at its :ok"] += 1
             self.history.add(dequeue)
-            self.history.add(dequeue._replace(kind=ended, part=part))
+            self.history.add(dequeue._replace(kind=ended, part=taken if ended == ":ok" else "nil"))
 
     def repeats(self, invoked: Event, value: Value) -> bool:
         known = self.known.get((":invoke", invoked.name, value))
@@ -397,3 +370,12 @@ class Collector:
             if not is_register:
                 raise fault
             self.nil_fault = self.nil_fault or fault
+
+
+def flat_part(name: str, part: Value) -> Any:
+    """A part as rows have it: an atom, or the two atoms of a cas, of which none is nil; None if it is neither."""
+    if type(part) is str:
+        return part
+    members = part.members  # type: ignore[union-attr]
+    is_cas = name == ":cas" and len(members) == 2 and all(type(one) is str and one != "nil" for one in members)
+    return ("[", members) if is_cas else None

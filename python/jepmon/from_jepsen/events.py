@@ -135,7 +135,9 @@ def tuple_of(value: Value) -> Optional[Tuple[Value, Value]]:
     if is_pair(value):
         return value.members[0], value.members[1]  # type: ignore[union-attr]
     fields = fields_of(value)
-    return (fields[":key"], fields[":value"]) if fields is not None and set(fields) == {":key", ":value"} else None
+    if fields is None or set(fields) != {":key", ":value"} or len(value.members) > 2 * len(fields):  # type: ignore[union-attr]
+        return None
+    return fields[":key"], fields[":value"]
 
 
 def is_pair(value: Value) -> bool:

@@ -5,17 +5,19 @@ import json
 import re
 from typing import FrozenSet, NamedTuple
 
-from ..edn import Many, Value, integer, string
+from ..edn import Many, Value, integer, spelling, string
 from .numbering import NUMBER
 
 EXACT, TEXT, NUMBERS = "exact", "text", "number"
 WAYS = (EXACT, TEXT, NUMBERS)
+WORD = re.compile(r"[\w.+-]+")  # of a list, however its text has quotes, commas and blanks
 TRUTH = {"true": "1", "false": "0"}
 
 
 class Meant(NamedTuple):
-    """`exact`: 1, 1.0 and "1" are three values. `text`: those of one text are one, without spaces around it: 1 and " 1". `number`: those of
-    one number too: 1, 1.0, "1" and true. The same holds of keys. A value whose text is among `absent` is nil."""
+    """`exact`: 1, 1.0 and "1" are three values. `text`: those of one text are one, without spaces around it: 1 and " 1", and ["a" 1] and
+    "['a', 1]". `number`: those of one number too: 1, 1.0, "1" and true. The same holds of keys. A value whose text is among `absent` is nil.
+    """
 
     values: str = EXACT
     absent: FrozenSet[str] = frozenset()
@@ -40,10 +42,14 @@ class Meant(NamedTuple):
         return self.alike(value)
 
     def alike(self, value: Value) -> Value:
-        """The value that stands for all which are one with it."""
-        if self.values == EXACT or not isinstance(value, str) or value == "nil" or value.startswith(":"):
+        """The value that stands for all which are one with it: of a list its text."""
+        if self.values == EXACT or value == "nil" or isinstance(value, str) and value.startswith(":"):
             return value
-        text = text_of(value).strip()
+        text = (text_of(value) if isinstance(value, str) else spelling(value)).strip()
+        if text.startswith(("[", "(")):
+            return json.dumps(" ".join(WORD.findall(text)), ensure_ascii=False)
+        if not isinstance(value, str):
+            return value
         if self.values == NUMBERS:
             text = number_of(text)
         return text if integer(text) is not None and text == str(integer(text)) else json.dumps(text, ensure_ascii=False)

@@ -1,19 +1,24 @@
 """Whether the events of a file stand in the order in which they took place, by their :index and their :time.
 
-An :index that never falls is the recorder's own order, whatever the times say: Jepsen takes the time of an event a moment
-before it writes the event down. Without such an :index, a time that goes back says that the lines are in another order.
+An :index that rises is the recorder's own order, whatever the times say: Jepsen takes the time of an event a moment before it writes
+the event down. Without such an :index, a time that goes back says that the lines are in another order. A history with neither, in which
+the events of each client stand together, has no order that is known.
 """
 from __future__ import annotations
 
 import itertools
 import operator
 import re
-from typing import Optional, Sequence, Union
+from typing import Optional, Sequence
 
-from ..edn import Value, integer
-from .refusal import OutOfOrder
+from ..edn import Value, integer, shown, string
+from ..forms.account import Account
+from ..forms.clock import Clock, Time
+from ..forms.order import Blocks
+from .refusal import OutOfOrder, Refusal, refuse
 
-Time = Union[int, float]
+__all__ = ["Order", "Time", "Times"]
+LINES = "--order lines takes the events as they stand"
 NUMBER = re.compile(r"[+-]?[0-9]{1,20}(\.[0-9]{0,20})?([eE][+-]?[0-9]{1,2})?M?")
 
 
@@ -25,10 +30,35 @@ def number_of(value: Optional[Value]) -> Optional[Time]:
     return float(value.rstrip("M"))
 
 
+class Times:
+    """Reads each :time: numbers, or instants as #inst "2026-11-30T09:00:00.001Z", all of one kind."""
+
+    def __init__(self) -> None:
+        self._clock = Clock(Account())
+        self._are_numbers = False
+
+    def of(self, line: int, value: Optional[Value]) -> Optional[Time]:
+        """The time that a field says; None if there is none."""
+        if value is None or value == "nil":
+            return None
+        number = number_of(value)
+        if number is not None and self._are_numbers:
+            return number
+        self._are_numbers = number is not None
+        if number is None and not (isinstance(value, str) and value[0] == '"'):
+            refuse(line, f"the :time {shown(value, 60)} is none: a number, or an instant as #inst \"2026-11-30T09:00:00.001Z\"; {LINES}")
+        try:
+            return self._clock.time(line, string(value) if number is None else number, None)  # type: ignore[arg-type]
+        except Refusal as fault:
+            raise Refusal(f"{fault}; {LINES}") from fault
+
+
 class Order:
     """Follows the events of clients as they stand."""
 
-    def __init__(self) -> None:
+    def __init__(self, blocks: Blocks) -> None:
+        self.times = Times()
+        self.blocks = blocks
         self.back = 0  # how often the time went back while the :index rose
         self.most: Time = 0  # by how much at most
         self.first = 0  # the line of the first one
@@ -40,7 +70,7 @@ class Order:
         """Takes the next event. OutOfOrder if it does not come after those before it."""
         if index is None:
             self._is_indexed = False
-        elif index < self._index:
+        elif index <= self._index:
             raise OutOfOrder(f"line {line}: the :index goes from {self._index} to {index}")
         else:
             self._index = index
@@ -51,17 +81,22 @@ class Order:
         if self.back and not self._is_indexed:
             raise OutOfOrder(f"line {self.first}: the :time goes back, and not each event has an :index")
 
-    def take_run(self, indices: Sequence[int], times: Sequence[int]) -> bool:
-        """Takes as many events at once. Whether both rise; if not, none was taken."""
-        if not rise(indices, self._index) or not rise(times, self._time):
+    def take_run(self, line: int, indices: Sequence[int], times: Sequence[int]) -> bool:
+        """Takes as many events at once, from this line on. Whether both rise; if not, none was taken."""
+        if not (all(map(operator.lt, indices, indices[1:])) and self._index < indices[0] if indices else True) or not rise(times, self._time):
             return False
         if indices:
             self._index = indices[-1]
         else:
             self._is_indexed = False
         if times:
-            self._time = times[-1]
+            self._time = self.times.of(line, str(times[-1]))
         return not self.back or self._is_indexed
+
+    def close(self, account: Account) -> None:
+        """Tests that there is an order, or tells the account which one is guessed."""
+        if self._time is None and not self._is_indexed:
+            self.blocks.close(account)
 
 
 def rise(numbers: Sequence[int], before: Optional[Time]) -> bool:

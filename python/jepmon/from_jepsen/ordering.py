@@ -14,13 +14,15 @@ from .. import edn
 from ..edn import Value, integer, spelling
 from ..forms.account import ORDER, Account
 from ..forms.mapping import INDEX, LINES, TIMES
+from ..forms.order import APART, BY_TIMES, ONE_CLOCK, SKEW
 from ..forms.timeline import Timeline
 from ..sorted_rows import SortedRows
+from .apart import Apart, fields_of
 from .asked import GAP, Asked, Counted
 from .clients import Clients
 from .collect import Collector
 from .events import History
-from .order import Time, number_of
+from .order import Time, Times
 from .refusal import OutOfOrder, Refusal, refuse
 
 Texts = Callable[[], Iterator[str]]
@@ -31,7 +33,8 @@ SETTLES = "--order lines|index|times"
 class Facts:
     """What the events of clients say of their order, as they stand."""
 
-    def __init__(self) -> None:
+    def __init__(self, has_times: bool = True) -> None:
+        self._reader = Times() if has_times else None
         self.lines: List[int] = []
         self.processes: List[str] = []
         self.indices: List[Optional[int]] = []
@@ -48,7 +51,7 @@ class Facts:
         self.lines.append(line)
         self.processes.append(process)
         self.indices.append(index)
-        self.times.append(number_of(fields.get(":time")))
+        self.times.append(None if self._reader is None else self._reader.of(line, fields.get(":time")))
 
     def close(self) -> None:
         """Forgets each :index if these are numbers of operations, which say nothing of the order of events."""
@@ -67,6 +70,14 @@ class Facts:
                 if index < last:
                     return place
                 last = index
+        return None
+
+    def twice(self) -> Optional[str]:
+        """The :index that stands twice, with its lines."""
+        first: Dict[int, int] = {}
+        for line, index in zip(self.lines, self.indices):
+            if index is not None and first.setdefault(index, line) != line:
+                return f"line {line}: the :index {index} is that of line {first[index]} too"
         return None
 
     def goes_back(self) -> Optional[int]:
@@ -99,12 +110,12 @@ class Facts:
 def ordered(texts: Texts, asked: Asked, account: Account, fault: Optional[Refusal]) -> History:
     """The history, with its events in their order. The fault of the order in which they stand is raised if no other one is known."""
     facts = read(texts(), asked, account)
-    order = asked.order or (TIMES if asked.skew else of_files(facts, account) if asked.clients is not None else found(facts, account, fault))
+    order = asked.order or (TIMES if asked.skew is not None else of_files(facts, account) if asked.clients is not None else found(facts, account, fault))
     collector = Collector(asked._replace(order=order), scratch := Account())
     if order == LINES:
         history = collector.collect(texts())
     else:
-        collector.count = by_index(texts(), asked, facts, collector) if order == INDEX else by_time(texts(), asked, collector)
+        collector.count = by_index(texts(), asked, facts, collector) if order == INDEX else by_time(texts(), asked, collector, account)
         history = collector.finished()
     for guess in scratch.guesses:
         account.guess(*guess)
@@ -114,7 +125,7 @@ def ordered(texts: Texts, asked: Asked, account: Account, fault: Optional[Refusa
 def of_files(facts: Facts, account: Account) -> str:
     """By what the events of several files are in order."""
     if None not in facts.times:
-        account.guess(ORDER, "the times of all files are of one clock, or of clocks that agree", "--skew 0ms")
+        account.guess(ORDER, ONE_CLOCK, SKEW)
         return TIMES
     if facts.is_indexed():
         return INDEX
@@ -123,7 +134,7 @@ def of_files(facts: Facts, account: Account) -> str:
 
 def read(texts: Iterable[str], asked: Asked, account: Account) -> Facts:
     """What the events say of their order; their lines are accounted for."""
-    facts, parts = Facts(), parts_of(texts, asked)
+    facts, parts = Facts(asked.order != INDEX), parts_of(texts, asked)
     for element, process, fields in elements(parts, asked):
         if process is None:
             account.took_none(f"of {spelling(fields.get(':process', 'nil'))}", element.line, element.last_line)
@@ -144,14 +155,14 @@ def parts_of(texts: Iterable[str], asked: Asked) -> List[Tuple[int, Counted]]:
 
 def elements(parts: Sequence[Tuple[int, Counted]], asked: Asked) -> Iterator[Tuple[edn.Element, Optional[str], Fields]]:
     """The events, each with its client, if it is of one."""
-    clients = Clients()
+    clients, apart = Clients(), Apart(asked.ignored)
     try:
         for element in itertools.chain.from_iterable(edn.Reader(pieces, line=base + 1).history() for base, pieces in parts):
-            fields = edn.fields_of(element.value)
-            if fields is None:
-                refuse(element.line, f"this is no map, so no event: {edn.shown(element.value, 60)} (is this Jepsen's history.edn?)")
+            fields = fields_of(element)
             is_client = clients.number_of(fields.get(":process"), fields.get(":type") == ":invoke") is not None
             process = spelling(fields[":process"]) if is_client else None
+            if is_client:
+                apart.take(element.line, fields)
             yield element, process if process is None or asked.clients is None else asked.clients(process, element.line), fields
     except edn.Unreadable as unreadable:
         raise Refusal(str(unreadable)) from unreadable
@@ -160,6 +171,9 @@ def elements(parts: Sequence[Tuple[int, Counted]], asked: Asked) -> Iterator[Tup
 def found(facts: Facts, account: Account, fault: Optional[Refusal]) -> str:
     """By what the events are in order; refused if nothing says so."""
     again, back = facts.begins_again(), facts.goes_back()
+    twice = facts.twice() if again is None else None
+    if twice is not None:
+        raise OutOfOrder(f"{twice}: are there two runs in one file? {SETTLES}")
     if again is None and back is None:
         if fault is None or not isinstance(fault, OutOfOrder):
             raise fault or OutOfOrder("there is no order")
@@ -182,7 +196,7 @@ def found(facts: Facts, account: Account, fault: Optional[Refusal]) -> str:
                       "as they stand", "--order lines")
         return LINES
     account.guess(ORDER, f"the :time goes back in line {facts.lines[back]}; operations are taken in the order of the :time, which has to be of "
-                  "one clock", "--order times")
+                  "one clock", BY_TIMES)
     return TIMES
 
 
@@ -201,11 +215,14 @@ def by_index(texts: Iterable[str], asked: Asked, facts: Facts, collector: Collec
     return count
 
 
-def by_time(texts: Iterable[str], asked: Asked, collector: Collector) -> int:
+def by_time(texts: Iterable[str], asked: Asked, collector: Collector, account: Account) -> int:
     """Takes the operations in the order of their times, each wider by a clock error."""
     timeline, faults = timeline_of(texts, asked)
     count = 0
-    for moment in timeline.moments(asked.skew, asked.skew):
+    if asked.skew is None and timeline.are_apart():
+        account.guess(ORDER, APART, SKEW)
+    skew = asked.skew or 0
+    for moment in timeline.moments(skew, skew):
         while faults and moment.given is not None and faults[-1][0] <= moment.given[2]:
             collector.take(again(*faults.pop()[2:]), count)
         if moment.given is None:
@@ -224,11 +241,11 @@ def by_time(texts: Iterable[str], asked: Asked, collector: Collector) -> int:
 
 def timeline_of(texts: Iterable[str], asked: Asked) -> Tuple[Timeline, List[Tuple[Time, int, int, str]]]:
     """The operations of clients, and what the nemesis did, by its time, the latest first."""
-    timeline, faults = Timeline(), []  # type: Timeline, List[Tuple[Time, int, int, str]]
+    times, timeline, faults = Times(), Timeline(), []  # type: Times, Timeline, List[Tuple[Time, int, int, str]]
     opened: Dict[str, Tuple[Time, int, str]] = {}
     latest: Dict[str, Time] = {}
     for element, process, fields in elements(parts_of(texts, asked), asked):
-        time, line = number_of(fields.get(":time")), element.line
+        time, line = times.of(element.line, fields.get(":time")), element.line
         if process is None:
             faults.append((0 if time is None else time, -line, line, element.text))
             continue

@@ -1,4 +1,4 @@
-"""What an :ok is that says of itself that it is none: a lock, a cas or a write that is answered by false, or an :ok with an :error.
+"""What an :ok is that says of itself that it is none: a lock, a cas, a write or a dequeue that is answered by false, or an :ok with an :error.
 
 Its :type is what the test wrote, and its answer or error is what the store said; one of them is wrong. By default a false answer counts,
 and an error does not; both are told, and --outcome settles them.
@@ -10,7 +10,7 @@ from typing import Dict, Mapping, Tuple
 from ..forms.account import OUTCOME, Account
 
 FALSE, ERROR = "false", "error"
-DEFINITE = (":cas", ":acquire")  # of which false says that they did not take place; any other may have
+DEFINITE = (":cas", ":acquire", ":dequeue")  # of which false says that they did not take place; any other may have
 
 
 class Outcomes:

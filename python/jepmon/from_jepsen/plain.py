@@ -8,6 +8,7 @@ from sys import intern
 from typing import Any, Dict, Iterable, Iterator, List, NamedTuple, Optional, Pattern, Tuple
 
 from ..edn import Element, Rows, Value
+from ..forms.vocabulary import PARTS, RUNS
 from .events import Row
 
 NUMBER = "(?:0|[1-9][0-9]{0,17})"  # as it is spelled where it is written in one way only
@@ -20,7 +21,8 @@ PART = rf"(?:(?P<part>nil|{INTEGER})|\[(?P<pair>{INTEGER} {INTEGER})\])"
 WITH_KEY = rf"\[(?P<key>{NUMBER}|:[a-z][a-z0-9]*) {PART}\]"
 NEEDED = {":type", ":f", ":process", ":value"}
 ATOM = rf'(?:{INTEGER}|nil|true|false|:[A-Za-z][A-Za-z0-9/._-]*|"[^"\\\n]*")'
-OTHERS = rf"(?:, (?!(?:{'|'.join(FIELDS)}|:value) ):[a-z][a-z0-9./-]* (?:{ATOM}|\[{ATOM}(?: {ATOM})*\]))*"  # fields, as :error :timeout
+APART = "|".join(sorted(RUNS | PARTS)) + "|run-id|test-id|test-name"  # fields of which there may be more to be said
+OTHERS = rf"(?:, (?!(?:{'|'.join(FIELDS)}|:value|:(?:{APART})) ):[a-z][a-z0-9./-]* (?:{ATOM}|\[{ATOM}(?: {ATOM})*\]))*"  # fields, as :error :timeout
 LINE = re.compile(r"[ \[(]*(\#[a-z.]+\.Op)?(\{[^\n]*\})[ \])\r]*$", re.M)  # with a map, or a record
 KEY = re.compile(r"(?:\{|, )(:[a-z]+) ")
 PROCESS = re.compile(r":process [0-9]")
@@ -44,6 +46,10 @@ class Plain(NamedTuple):
         """Each :index and each :time of a run; none if its events have none."""
         groups = self.line.groupindex
         return tuple([int(row[groups[name] - 1]) for row in run.rows] if name in groups else [] for name in ("index", "time"))  # type: ignore[return-value]
+
+    def processes(self, run: Element) -> Iterator[int]:
+        """The process of each event of a run."""
+        return (int(row[self.line.groupindex["process"] - 1]) for row in run.rows)
 
     def events(self, run: Element, lone_key: Optional[Value], count: int) -> Iterator[Row]:
         """The events of a run, before which so many came."""

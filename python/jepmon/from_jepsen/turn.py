@@ -46,7 +46,7 @@ class Turned:
 
 
 def turn(source: Source, key: Optional[str] = None, nil_is_absent: bool = False, limits: Limits = Limits(), account: Optional[Account] = None,
-         order: Optional[str] = None, outcomes: Mapping[str, str] = {}, skew: int = 0) -> Turned:
+         order: Optional[str] = None, outcomes: Mapping[str, str] = {}, skew: Optional[int] = None) -> Turned:
     """Turns a Jepsen history: its text, its bytes, a file that is open for reading bytes, or what gives its text in pieces.
 
     key            for a history without independent keys: every value v becomes [key v]
@@ -55,7 +55,7 @@ def turn(source: Source, key: Optional[str] = None, nil_is_absent: bool = False,
     account        where lines and guesses are recorded
     order          by which events are taken: "lines", "index" or "times"; None: as they stand, or by what they say if these can't be so
     outcomes       the type of an :ok that is answered by false ("false"), and of one with an :error ("error")
-    skew           by how much each clock may be wrong, in the unit of the times
+    skew           by how much each clock may be wrong, in the unit of the times, if that is said
     """
     asked = Asked(key, nil_is_absent, order, outcomes, skew)
     return written(collected(source, asked, Account() if account is None else account), nil_is_absent, limits)
@@ -65,7 +65,7 @@ def collected(source: Source, asked: Asked, account: Account) -> History:
     """The events of a history, in their order."""
     texts, lines = texts_of(source), Account()
     try:
-        if asked.order in (INDEX, TIMES) or asked.order is None and asked.skew or asked.clients is not None:
+        if asked.order in (INDEX, TIMES) or asked.order is None and asked.skew is not None or asked.clients is not None:
             history = ordered(texts, asked, lines, None)
         else:
             history = Collector(asked, lines).collect(texts())

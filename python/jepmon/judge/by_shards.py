@@ -3,15 +3,16 @@ from __future__ import annotations
 
 import contextlib
 import functools
+import itertools
 import os
 import sys
-from typing import Dict, Iterator, List, NamedTuple, Optional, Sequence, Tuple
+from typing import Dict, Iterable, Iterator, List, NamedTuple, Optional, Sequence, Tuple
 
 from .. import command, kinds, shards
 from ..errors import ProgramError
 from ..explain.event import Options as Explained
 from ..explain.said import said as explained
-from ..forms import Refused, door
+from ..forms import Refused, door, faults
 from ..forms.account import Account
 from ..forms.jepsen import notes_of
 from ..forms.own import Facts
@@ -28,11 +29,11 @@ from ..shards.source import History
 from ..shards.splitting import judged_elsewhere
 from ..shards.tally import Tally
 from ..shrinking.part import as_asked, text_of
-from . import as_json, bad_keys, causes, doubts, large_key, least, results, terminal, turned, wide
-from .hints import MOST_EVENTS, counted, is_legal_as
+from . import as_json, bad_keys, causes, doubts, large_key, least, rates, readings, results, terminal, turned, wide
+from .hints import MOST_EVENTS, counted, of_nil_reads, of_order, outcomes
 from .judging import Task
 from .large import Large
-from .models import ALIKE, Choice, account_for, by_operations
+from .models import Choice, account_for, by_operations
 from .outputs import Folder, Page
 from .words import NAME, Given
 
@@ -123,6 +124,8 @@ def _judge_asked(given: Given, found: Large, page: Optional[Page], folder: Optio
 
 def _judge(given: Given, found: Large, history: Asked, session: shards.Session, page: Optional[Page], folder: Optional[Folder]) -> int:
     choice = chosen(session.tally, given.model, history.made)
+    if history.made is None:
+        history.account.add(session.account())
     account_for(choice, history.account)
     if history.made is not None:
         doubts.account_for_types(history.made.names.keys, history.made.names.values, given, history.account)
@@ -137,13 +140,14 @@ def _judge(given: Given, found: Large, history: Asked, session: shards.Session, 
         history.account.test_strict()
     say(judged_by(found, history, task))
     path, verdict, decided = anew(given, session, path, verdict)
+    _test_readings(given, found, history, session, path, choice, verdict)
     report = report_of(path, verdict)
     task = task._replace(choice=of_bad_key(choice, report), wide_seconds=given.wide_seconds if decided else None, least=given.least)
     tally = session.tally
     few = least.reason(given, report.word, least.telling(tally.outcomes(), tally.number_of("read", "ok") - tally.reads_of_nil()))
     if not given.json and not few:
         command.write_output(texts_of(path))
-    recorded = _recorded(found, history)
+    recorded = _recorded(found, history, page is not None or folder is not None)
     of_report = bad_keys.found(filter(None, map(wide.key_line, lines_of(path))))
     keys = bad_keys.shown(recorded, task, report, of_report.bad, functools.partial(events_of, session, found, history), given.cause, decided)
     beside = [*nil_hints(tally, choice), *said_of_bad(report, task, keys, given.cause)]
@@ -153,18 +157,42 @@ def _judge(given: Given, found: Large, history: Asked, session: shards.Session, 
         raise Refused(f"{found.name}: {few}")
     copies = {results.HISTORY: session.file.path, results.REPORT: path} if folder is not None else {}
     done = results.Results(found.name, recorded, task, report, keys, terminal.told(recorded, keys), copies)
-    beside += doubts.told(recorded, keys, given)
     results.write(page, folder, done)
+    if page is not None or folder is not None:
+        not_alive = {line.key: line for line in map(wide.key_line, lines_of(path)) if line is not None and line.index is not None}
+        rates.write(given, folder, rates.Given(found.name, form_of(found), tally.events, recorded, task, report, not_alive,
+                                               functools.partial(timed, found, history)))
     if given.json:
         counted_up = as_json.Counted(session.tally.events, verdict.keys, None, form_of(found), session.tally.outcomes(), of_report)
         as_json.write(as_json.of_results(done, found.source, counted_up, beside, given))
     return verdict.status
 
 
-def _recorded(found: Large, history: Asked) -> Recorded:
+def _test_readings(given: Given, found: Large, history: Asked, session: shards.Session, path: str, choice: Choice, verdict: Verdict) -> None:
+    """Refuses a verdict that rests on a guess."""
+    dead = [line for line in map(wide.key_line, lines_of(path)) if line is not None and line.status in bad_keys.DEAD]
+    judged_so = readings.Judged(_recorded(found, history, False), choice, verdict.word, dead, session.options.concurrency,
+                                functools.partial(events_of, session, found, history))
+    try:
+        readings.test(given, judged_so, functools.partial(_word_of, found, session.options._replace(model=choice.common or EACH)))
+    except Refused as refusal:
+        raise Refused(f"{found.name}: {refusal}") from refusal
+
+
+def _word_of(found: Large, options: Options, given: Given) -> str:
+    """The verdict of the history, read as these words say."""
+    assert found.made is not None
+    made = door.translated(found.source, found.made.form, given.said).turned(in_shards=True)
+    options = options._replace(concurrency=made.concurrency, model=given.model or options.model)
+    with open(os.devnull, "wb") as nothing:
+        return shards.check(made.texts(), options, given.jobs, temporary=given.temporary, out=nothing).word
+
+
+def _recorded(found: Large, history: Asked, with_faults: bool) -> Recorded:
     """What the history is beside its events."""
     if found.made is None or history.made is None:
-        return Recorded("", "", Facts(), history.account, is_own=True)
+        told = faults.of_lines(lambda: lines_in(found.texts())) if with_faults else []
+        return Recorded("", "", Facts(), history.account, faults=told, is_own=True)
     return turned.recorded(found.made, history.made)
 
 
@@ -186,11 +214,22 @@ def anew(given: Given, session: shards.Session, path: str, verdict: Verdict) -> 
     return marked, Verdict(found.line, found.word, found.found, found.status, verdict.keys), decided
 
 
+def timed(found: Large, history: Asked) -> Iterator[rates.Told]:
+    """The events of clients with their times."""
+    if history.made is None or found.made is None:
+        return rates.events_of(lines_in(found.texts()), None)
+    return rates.events_of(lines_in(history.made.texts()), found.made.times(history.made.begun))
+
+
+def lines_in(texts: Iterable[str]) -> Iterator[str]:
+    return itertools.chain.from_iterable(text.split("\n") for text in texts)
+
+
 def events_of(session: shards.Session, found: Large, history: Asked, keys: List[int]) -> Dict[int, List[Event]]:
     """The events of each of these keys, as far as they are judged, with their lines in the file that was given."""
     if found.made is None or history.made is None:
-        return large_key.events_of(session, keys, found.path)
-    return turned.with_lines(found.made, history.made, large_key.events_of(session, keys, None))
+        return large_key.events_of(session, keys, found.texts())
+    return turned.with_lines(found.made, history.made, large_key.events_of(session, keys, ()))
 
 
 def judged(given: Given, session: shards.Session, options: Options) -> List[Judged]:
@@ -209,7 +248,7 @@ def said_of_bad(report: Report, task: Task, keys: Sequence[causes.Shown], with_c
     if line.status in CUT:
         yield CUT[line.status].format(line.key, line.index)
     elif report.word == "illegal" and with_cause:
-        yield from hints_of_order(keys[0].events, task.options, line)
+        yield from of_order(line.key, line.model, keys[0].events, task.options)
 
 
 # --- The report ---
@@ -277,12 +316,8 @@ def said(found: Large, history: Asked, tally: Tally, verdict: Verdict, task: Tas
     """What the history was found to be."""
     yield (f"{found.name}: {form_of(found)}, {counted(tally.events, 'event')}, concurrency {task.options.concurrency:,}, "
            f"{counted(verdict.keys, 'key')}")
-    outcomes = tally.outcomes()
-    for name in tally.names():
-        yield f"{name}: " + ", ".join(f"{outcomes[f'{name} {kind}']} {kind}" for kind in ("ok", "fail", "info"))
-    if not any(outcome.endswith(" ok") for outcome in outcomes):
-        yield "no operation is ok: nothing was judged"
-    yield from history.account.told()
+    yield from outcomes(tally.outcomes())
+    yield from history.account.told(history.made is not None)
     if not task.choice.is_guess:
         yield f"model {task.choice.common}, {task.choice.reason}"
 
@@ -297,13 +332,8 @@ def judged_by(found: Large, history: Asked, task: Task) -> str:
 def nil_hints(tally: Tally, choice: Choice) -> Iterator[str]:
     """Reads of a register that are answered by nil say nothing, unless nil is what a missing key answers."""
     reads, of_nil = tally.number_of("read", "ok"), tally.reads_of_nil()
-    if choice.common not in kinds.REGISTERS or of_nil == 0:
-        return
-    if of_nil == reads:
-        yield f"NOTHING IS SAID OF WHAT A REGISTER HOLDS: each read is answered by nil, which fits whatever it holds: {of_nil}"
-    else:
-        yield f"reads answered by nil, which fits whatever a register holds: {of_nil} of {reads}"
-    yield "where nil is what a missing key answers, say --nil-is-absent, and they are judged"
+    if choice.common in kinds.REGISTERS and of_nil:
+        yield from of_nil_reads(reads, of_nil, None)
 
 
 def hints_of_refusal(found: Large, line: str, options: Options) -> Iterator[str]:
@@ -311,12 +341,3 @@ def hints_of_refusal(found: Large, line: str, options: Options) -> Iterator[str]
     index = line.rpartition(" event ")[2]
     if found.path is not None and found.made is None and index.isdigit() and int(index) < MOST_EVENTS and options.concurrency <= kinds.THREADS:
         yield from explained(line, large_key.front_lines(found.path, int(index) + 1), Explained(options.concurrency, options.model))
-
-
-def hints_of_order(events: Sequence[Event], options: Options, line: KeyLine) -> Iterator[str]:
-    """Where a key that is illegal would be legal by a model with the same operations."""
-    other = ALIKE.get(line.model)
-    if other is None:
-        return
-    if is_legal_as(other, events, options):
-        yield f"key {line.key} is judged as a {line.model}, and is legal as an {other}: where no order was promised, say --model {other}"

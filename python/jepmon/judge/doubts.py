@@ -1,21 +1,19 @@
-"""What of an illegal history may be due to how its values were read: values that look alike, and a value that nobody has written."""
+"""What of a verdict may be due to how values were read: values that look alike, and an answer that nobody has written."""
 from __future__ import annotations
 
 import re
 from typing import Dict, Iterator, List, Mapping, Optional, Sequence
 
-from .. import command
 from ..forms.account import TYPE, Account
-from ..forms.recorded import Recorded
-from ..from_jepsen.meant import NUMBERS, Meant
-from ..history import operations
+from ..from_jepsen.meant import NUMBERS, Meant, text_of
+from ..history import Event, Operation, operations
 from ..kinds import REGISTERS
+from ..program import KeyLine
 from ..shrinking.registers import brought, wanted
-from .causes import Shown
-from .words import NAME, Given
+from .words import Given
 
 FEW = 3  # groups that are named
-MAY_BE_ALIKE = re.compile(r'"\s*(?:[+-]?[0-9][0-9.eEMN+-]*|true|false|True|False)\s*"|[+-]?[0-9].*|true|false|" .*"|".* "')
+MAY_BE_ALIKE = re.compile(r'"\s*(?:[+-]?[0-9][0-9.eEMN+-]*|true|false|True|False)\s*"|[+-]?[0-9].*|true|false|" .*"|".* "|"?[\[(].*')
 
 
 def account_for_types(keys: Mapping[int, str], values: Mapping[int, str], given: Given, account: Account) -> None:
@@ -38,32 +36,41 @@ def alike(names: Mapping[int, str]) -> List[List[str]]:
     return [group for group in groups.values() if len(group) > 1]
 
 
-def told(recorded: Recorded, keys: Sequence[Shown], given: Given) -> List[str]:
-    """Tells what may be due to the values of the first bad key, and gives the lines."""
-    lines = list(of_first_read(recorded, keys[0], given)) if keys and given.cause else []
-    for line in lines:
-        command.say(NAME, line)
-    return lines
+def quoted(text: str) -> str:
+    """A text as a word of a command line."""
+    return text if re.fullmatch(r"[\w.-]+", text) else "'" + text.replace("'", "'\\''") + "'"
 
 
-def of_first_read(recorded: Recorded, key: Shown, given: Given) -> Iterator[str]:
-    """Where the key is illegal by an answer that nobody has written."""
-    value = strange_answer(key)
-    if value is None or given.initial is not None:
-        return
-    shown = recorded.value_names.get(value, str(value))
-    name = recorded.key_names.get(key.line.key, str(key.line.key))
-    plain = shown[1:-1] if shown.startswith('"') else shown
-    word = f"'{plain}'" if not re.fullmatch(r"[\w.-]+", plain) else plain
-    yield (f"nobody has written {shown} to key {name}: did the key hold it before the test? then say --initial {word}; is it the answer for a "
-           f"missing key? then say --absent {word}")
-
-
-def strange_answer(key: Shown) -> Optional[int]:
-    """The value that the fatal operation found in a register, if no operation of the key can have brought it in."""
-    if key.report.word != "illegal" or key.line.model not in REGISTERS or not key.events:
+def strange_answer(line: KeyLine, events: Sequence[Event], concurrency: int) -> Optional[int]:
+    """The value that the fatal operation found in an illegal register or queue, if no operation of the key can have brought it in."""
+    made = operations(events, concurrency)
+    fatal = fatal_of(line, made)
+    if fatal is None:
         return None
-    made = operations(key.events, key.options.concurrency)
-    fatal = next((each for each in made if each.completion is not None and each.completion.index == key.line.index), None)
-    value = wanted(fatal) if fatal is not None else None
-    return None if value is None or any(brought(each) == value for each in made) else value
+    value = wanted(fatal) if line.model in REGISTERS else taken(fatal)
+    return None if value is None or any(value in (brought(each), each.invocation.value) for each in made) else value
+
+
+def fatal_of(line: KeyLine, made: Sequence[Operation]) -> Optional[Operation]:
+    """The operation whose completion makes the key illegal."""
+    return next((each for each in made if each.completion is not None and each.completion.index == line.index), None)
+
+
+def read_without_answer(line: KeyLine, events: Sequence[Event], concurrency: int) -> Optional[Event]:
+    """The completion that makes a set illegal, if it is that of a read which answered nothing."""
+    fatal = fatal_of(line, operations(events, concurrency)) if line.model == "set" else None
+    is_empty = fatal is not None and fatal.completion is not None and fatal.completion.value is None
+    return fatal.completion if fatal is not None and is_empty else None
+
+
+def asked(events: Sequence[Event]) -> Iterator[int]:
+    """The values that operations of a key bring in or compare."""
+    for event in events:
+        if event.kind == "invoke":
+            yield from event.value if isinstance(event.value, tuple) else [event.value] if isinstance(event.value, int) else ()
+
+
+def taken(operation: Operation) -> Optional[int]:
+    """The value that a dequeue has answered."""
+    value = operation.completion.value if operation.completion is not None and operation.invocation.name == "dequeue" else None
+    return value if isinstance(value, int) else None

@@ -1,7 +1,7 @@
 """What jepmon-judge says of a history beside the cause: what was found, what was not judged, what else may have been meant."""
 from __future__ import annotations
 
-from typing import Iterator, Optional, Sequence
+from typing import Counter, Iterator, Optional, Sequence
 
 from ..explain.event import Options as Explained
 from ..explain.said import said as explained
@@ -34,8 +34,8 @@ def found(source: Source, history: Recorded, task: Task) -> Iterator[str]:
     yield from history.notes
     if history.faults:
         yield f"faults, which the page shows: {len(history.faults)}"
-    yield from outcomes(facts)
-    yield from history.account.told()
+    yield from outcomes(facts.outcomes)
+    yield from history.account.told(not history.is_own)
     if not task.choice.is_guess:
         yield f"model {task.choice.common}, {task.choice.reason}" if task.choice.common else task.choice.reason
 
@@ -47,11 +47,11 @@ def judged_by(source: Source, history: Recorded, task: Task) -> str:
     return f"judged by: {task.again('FILE')}, where FILE is history.edn of --out DIR"
 
 
-def outcomes(facts: Facts) -> Iterator[str]:
+def outcomes(counts: Counter[str]) -> Iterator[str]:
     """How the operations ended. Only what is ok is judged."""
-    for name in sorted({outcome.split(" ")[0] for outcome in facts.outcomes}):
-        yield f"{name}: " + ", ".join(f"{facts.outcomes[f'{name} {kind}']} {kind}" for kind in ("ok", "fail", "info"))
-    if not any(outcome.endswith(" ok") for outcome in facts.outcomes):
+    for name in sorted({outcome.split(" ")[0] for outcome in counts}):
+        yield f"{name}: " + ", ".join(f"{counts[f'{name} {kind}']} {kind}" for kind in ("ok", "fail", "info"))
+    if not any(outcome.endswith(" ok") for outcome in counts):
         yield "no operation is ok: nothing was judged"
 
 
@@ -88,8 +88,14 @@ def is_legal_as(model: str, events: Sequence[Event], options: Options) -> bool:
 def _of_order(history: Recorded, task: Task, key: int) -> Iterator[str]:
     """Where a key that is illegal would be legal by a model with the same operations."""
     model = task.choice.of(key)
+    if model in ALIKE:
+        yield from of_order(key, model, of_key(history, key), task.options)
+
+
+def of_order(key: int, model: str, events: Sequence[Event], options: Options) -> Iterator[str]:
+    """Reports that an illegal key of this model is legal without an order, if it is."""
     other = ALIKE.get(model)
-    if other is not None and is_legal_as(other, of_key(history, key), task.options):
+    if other is not None and is_legal_as(other, events, options):
         yield f"key {key} is judged as a {model}, and is legal as an {other}: where no order was promised, say --model {other}"
 
 
@@ -99,17 +105,18 @@ def _of_nil(history: Recorded, task: Task, report: Report, source: Source, said:
     for key, facts in history.facts.keys.items():
         if task.choice.of(key) in ("register", "cas-register"):
             reads, of_nil = reads + facts.reads, of_nil + facts.reads_of_nil
-    if of_nil == 0:
-        return
+    if of_nil:
+        yield from of_nil_reads(reads, of_nil, _with_nil(history, task, report, source, said) if asks else None)
+
+
+def of_nil_reads(reads: int, of_nil: int, verdict: Optional[str]) -> Iterator[str]:
+    """Reports how many reads of registers are answered by nil, and the verdict if nil is the answer for a missing key, if that is known."""
     if of_nil == reads:
         yield f"NOTHING IS SAID OF WHAT A REGISTER HOLDS: each read is answered by nil, which fits whatever it holds: {of_nil}"
     else:
         yield f"reads answered by nil, which fits whatever a register holds: {of_nil} of {reads}"
-    verdict = _with_nil(history, task, report, source, said) if asks else None
-    if verdict is None:
-        yield "where nil is what a missing key answers, say --nil-is-absent, and they are judged"
-    else:
-        yield f"where nil is what a missing key answers, say --nil-is-absent: then the history is {verdict}"
+    then = ", and they are judged" if verdict is None else f": then the history is {verdict}"
+    yield f"where nil is what a missing key answers, say --nil-is-absent{then}"
 
 
 def _with_nil(history: Recorded, task: Task, report: Report, source: Source, said: Said) -> Optional[str]:

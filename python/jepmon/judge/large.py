@@ -3,7 +3,7 @@ from __future__ import annotations
 
 import os
 import re
-from typing import NamedTuple, Optional
+from typing import Iterator, NamedTuple, Optional
 
 from .. import kinds
 from ..forms import Refused, door, own
@@ -38,6 +38,13 @@ class Large(NamedTuple):
     def history(self) -> History:
         """What shards are made of, if it is in jepmon's own form."""
         return self.path if self.path is not None else self.source.texts()
+
+    def texts(self) -> Iterator[str]:
+        """The texts of its file, up to bytes that are not UTF-8, which may stand in comments."""
+        try:
+            yield from self.source.texts()
+        except Refused:
+            return
 
 
 def is_asked(given: Given) -> bool:

@@ -2,23 +2,20 @@
 from __future__ import annotations
 
 import re
-from typing import Dict, Iterator, List, Optional, Sequence, Tuple
+from typing import Dict, Iterable, Iterator, List, Sequence, Tuple
 
 from .. import edn, history
 from ..history import Event
 from ..shards.session import KeyEvent, Session, value_of
 
 OWN_FIELDS = 6  # colons before a word in an event without further fields
-BLOCK = 4 << 20
 
 
-def events_of(session: Session, keys: Sequence[int], path: Optional[str]) -> Dict[int, List[Event]]:
-    """The events of each key as far as they are judged; with their lines, and further fields, where the file of this path has an event a
+def events_of(session: Session, keys: Sequence[int], texts: Iterable[str]) -> Dict[int, List[Event]]:
+    """The events of each key as far as they are judged; with their lines, and further fields, if the texts of the history have an event a
     line."""
     events = {key: [event_of(each, key) for each in found] for key, found in session.events_of_keys(keys)}
-    if path is None:
-        return events
-    found = dict(lines_of(path, keys, {event.index for of_key in events.values() for event in of_key}))
+    found = dict(lines_of(texts, keys, {event.index for of_key in events.values() for event in of_key}))
     return {key: [told(event, *found[event.index]) if event.index in found else event for event in of_key]
             for key, of_key in events.items()}
 
@@ -37,33 +34,19 @@ def told(event: Event, number: int, line: str) -> Event:
     return event._replace(line=number, text=" ".join(line.split()), fields=history.further(fields or {}))
 
 
-def lines_of(path: str, keys: Sequence[int], indices: "set[int]") -> Iterator[Tuple[int, Tuple[int, str]]]:
+def lines_of(texts: Iterable[str], keys: Sequence[int], indices: "set[int]") -> Iterator[Tuple[int, Tuple[int, str]]]:
     """Of the events of these keys at these indices the number of the line, and the line, where each event is a line."""
-    wanted = re.compile(rb":value \[(?:%s) " % b"|".join(b"%d" % key for key in keys))
-    index, number = -1, 0
-    for block in blocks_of(path):
-        if wanted.search(block) is None:
-            number += block.count(b"\n")
-            index += block.count(b"\n{") + block.startswith(b"{")
-            continue
-        for line in block.split(b"\n")[:-1]:
-            number += 1
-            index += line.startswith(b"{")
-            if index in indices and line.startswith(b"{") and wanted.search(line):
-                yield index, (number, line.decode("utf-8", "replace"))
-
-
-def blocks_of(path: str) -> Iterator[bytes]:
-    """The file in blocks of whole lines, each of which ends with a line feed."""
-    rest = b""
-    with open(path, "rb") as file:
-        for piece in iter(lambda: file.read(BLOCK), b""):
-            cut = piece.rfind(b"\n") + 1
-            if cut:
-                yield rest + piece[:cut]
-            rest = piece[cut:] if cut else rest + piece
-    if rest:
-        yield rest + b"\n"
+    wanted = re.compile(rf":value \[(?:{'|'.join(map(str, keys))}) ")
+    index, number = -1, 1
+    for text in texts:
+        if wanted.search(text) is not None:
+            at = index
+            for place, line in enumerate(text.split("\n"), number):
+                at += line.startswith("{")
+                if at in indices and line.startswith("{") and wanted.search(line):
+                    yield at, (place, line)
+        number += text.count("\n")
+        index += text.count("\n{") + text.startswith("{")
 
 
 def front_lines(path: str, events: int) -> bytes:

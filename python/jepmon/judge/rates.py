@@ -3,7 +3,7 @@ from __future__ import annotations
 
 import pathlib
 import re
-from typing import Dict, Iterator, List, NamedTuple, Optional, Tuple
+from typing import Callable, Iterable, Iterator, List, Mapping, NamedTuple, Optional, Tuple
 
 from .. import command
 from ..forms import Refused
@@ -13,12 +13,16 @@ from ..rates import Fault, Gathered, KeyRow, RatesPage, render
 from ..rates.history import Reader
 from .judging import Task
 from .outputs import Folder, Page, remove
-from .words import NAME, Given
+from .words import NAME
+from .words import Given as Words
 
 RATES = "rates.html"
 EVENT = re.compile(r"\{:type :([a-z]+), :process ([0-9]+), :f :([a-z]+), :value \[([0-9]+) (.*?)\](?:, |\})")
 TIME = re.compile(r", :time ([0-9]+)[,}]")
 SHORT = 1_000_000  # nanoseconds: what a whole history takes more than
+
+
+Told = Tuple[str, str, str, int, str, Optional[int]]  # an event: its type, process, operation, key, part and time
 
 
 class Timed(NamedTuple):
@@ -29,20 +33,39 @@ class Timed(NamedTuple):
     first: int  # the time of the first event
 
 
-def write(given: Given, folder: Optional[Folder], name: str, found: Recorded, task: Task, report: Report) -> None:
+class Given(NamedTuple):
+    """The history that a page is of, and what was found of it."""
+
+    name: str
+    form: str
+    events: int
+    found: Recorded
+    task: Task
+    report: Report
+    lines: Mapping[int, KeyLine]  # of the report: those of keys that are not alive
+    told: Callable[[], Iterator[Told]]  # the events of clients
+
+
+def of_one(name: str, found: Recorded, task: Task, report: Report) -> Given:
+    """A history that one check has judged."""
+    times = found.translation.times(found.begun) if found.translation is not None and not found.is_own else None
+    lines = {line.key: line for line in report.keys if line.index is not None}
+    return Given(name, found.form, found.facts.events, found, task, report, lines, lambda: events_of(found.text.split("\n"), times))
+
+
+def write(words: Words, folder: Optional[Folder], given: Given) -> None:
     """Writes the page where --html and --out ask for pages, and the history has times."""
-    if not given.html and folder is None:
+    if not words.html and folder is None:
         return
-    timed = read(found)
+    timed = read(given)
     if timed is None:
         if folder is not None:
             remove(folder.path / RATES)
         return
-    bad_page = pathlib.Path(given.html).name if given.html else "page.html"
-    if given.html:
-        put(beside(given.html), render(page_of(name, found, task, report, timed, bad_page)))
+    if words.html:
+        put(beside(words.html), render(page_of(given, timed, pathlib.Path(words.html).name)))
     if folder is not None:
-        command.write_file(folder.path / RATES, render(page_of(name, found, task, report, timed, "page.html")))
+        command.write_file(folder.path / RATES, render(page_of(given, timed, "page.html")))
 
 
 def beside(path: str) -> str:
@@ -64,23 +87,23 @@ def put(path: str, text: str) -> None:
 # --- What is on it ---
 
 
-def page_of(name: str, found: Recorded, task: Task, report: Report, timed: Timed, bad_page: str) -> RatesPage:
-    lines: Dict[int, KeyLine] = {line.key: line for line in report.keys}
-    keys = [KeyRow(found.key_names.get(number, str(number)), "", status(lines.get(number), report), counts,
+def page_of(given: Given, timed: Timed, bad_page: str) -> RatesPage:
+    found, task, report = given.found, given.task, given.report
+    keys = [KeyRow(found.key_names.get(number, str(number)), "", status(given.lines.get(number), report), counts,
                    bad_page if number == report.key else "") for number, counts in timed.reader.found.keys.items()]
-    facts = [("file", name), ("form", found.form), ("model", task.choice.common or "several"), ("clients", str(task.options.concurrency)),
-             ("events", f"{found.facts.events:,}")]
+    facts = [("file", given.name), ("form", given.form), ("model", task.choice.common or "several"), ("clients", str(task.options.concurrency)),
+             ("events", f"{given.events:,}")]
     links = [("the bad key", bad_page)] if report.key is not None else []
     return RatesPage(report.verdict, timed.reader.gathered, timed.faults, keys, facts, task.again("history.edn"), links,
                      notes=list(notes(timed)))
 
 
 def status(line: Optional[KeyLine], report: Report) -> str:
-    if line is None:
+    if report.word == "refused":
         return report.word
-    if line.index is None:
+    if line is None:
         return "legal"
-    return f"{'unknown' if line.status == 'over' else 'illegal'} at event {line.index}"
+    return f"{'illegal' if line.status == 'dead' else 'unknown'} at event {line.index}"
 
 
 def notes(timed: Timed) -> Iterator[str]:
@@ -91,38 +114,35 @@ def notes(timed: Timed) -> Iterator[str]:
         yield f"{timed.reader.found.untimed:,} events have no time: nothing of them is shown."
 
 
-def read(found: Recorded) -> Optional[Timed]:
+def read(given: Given) -> Optional[Timed]:
     """The operations and faults by their times, from the first event on; None where no event has a time."""
-    events = list(events_of(found))
-    times = [now for *_, now in events if now is not None]
-    if not times:
+    first = min((now for *_, now in given.told() if now is not None), default=None)
+    if first is None:
         return None
-    first, reader = min(times), Reader(Gathered())
-    for kind, process, name, key, part, now in events:
+    reader = Reader(Gathered())
+    for kind, process, name, key, part, now in given.told():
         if now is None:
             reader.found.untimed += 1
         else:
             reader.event(kind, process, name, key, part, now - first)
     reader.finish()
     faults = [Fault(fault.text, max(0, fault.begin_time - first),
-                    max(0, fault.end_time - first) if fault.end_time is not None else reader.gathered.end) for fault in found.faults
+                    max(0, fault.end_time - first) if fault.end_time is not None else reader.gathered.end) for fault in given.found.faults
               if fault.begin_time or first == 0]
     return Timed(reader, faults, first)
 
 
-def events_of(found: Recorded) -> "Iterator[Tuple[str, str, str, int, str, Optional[int]]]":
-    """The events of clients, with their times: in the text itself where that was given, else in what it was made from."""
-    times: Dict[int, Optional[int]] = {}
-    if found.translation is not None:
-        further = found.translation.beside(set(range(found.facts.events)), found.begun)
-        times = {index: said.get("time") for index, said in further.items() if isinstance(said.get("time"), int)}
-    index = -1
-    for line in found.text.split("\n"):
+def events_of(lines: Iterable[str], times: Optional[Iterable[Optional[int]]]) -> Iterator[Told]:
+    """The events of clients among these lines; their times are those of the history that it was made from, or stand in the lines."""
+    now = iter(times if times is not None else ())
+    for line in lines:
         if not line.startswith("{"):
             continue
-        index += 1
+        time = next(now, None)
         told = EVENT.match(line)
         if told is None:  # of the nemesis
             continue
-        own = TIME.search(line, told.end() - 2) if found.is_own else None
-        yield told[1], told[2], told[3], int(told[4]), told[5], int(own[1]) if own is not None else times.get(index)
+        if times is None:
+            own = TIME.search(line, told.end() - 2)
+            time = int(own[1]) if own is not None else None
+        yield told[1], told[2], told[3], int(told[4]), told[5], time

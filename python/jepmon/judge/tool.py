@@ -3,6 +3,7 @@ from __future__ import annotations
 
 import contextlib
 import functools
+import os
 import shutil
 import signal
 import sys
@@ -15,9 +16,9 @@ from ..errors import OutputError, ProgramError
 from ..forms import Beyond, Refused, door, files
 from ..forms.door import Translation
 from ..forms.recorded import Recorded, of_own, of_translation
-from ..program import CURE, Options, find_program
-from . import as_json, bad_keys, by_shards, doubts, events, hints, large, least, models, rates, results, terminal, ties, wide, words
-from .judging import Task, judged
+from ..program import CURE, find_program
+from . import as_json, bad_keys, by_shards, events, hints, large, least, models, rates, readings, results, tasks, terminal, wide, words
+from .judging import judged
 from .outputs import Folder, Page
 from .words import NAME, Given
 
@@ -64,11 +65,14 @@ def _judge(given: Given) -> int:
     name = find_program()  # what may be missing is seen before the long work
     if shutil.which(name) is None:
         raise ProgramError(f"{name} can't be run: it is no program; {CURE}")
+    if given.temporary is not None and not os.path.isdir(given.temporary):
+        raise Refused(f"{given.temporary}: there is no such folder for temporary files")
     page = Page(given.html) if given.html else None
     folder = Folder(given.out) if given.out else None
     done = False
     try:
-        status = _judge_to(given, page, folder)
+        with command.temporary_files(given.temporary):
+            status = _judge_to(given, page, folder)
         done = True
         return status
     finally:
@@ -134,7 +138,7 @@ def _judge_whole(source: files.Source, found: Recorded, given: Given, page: Opti
     if len(found.text) > LARGE:
         say(f"{source.name}: {len(found.text):,} characters, which take some time to read")
     with named(source):
-        task = _task(found, given)
+        task = tasks.of(found, given)
     for line in hints.found(source, found, task):
         say(line)
     if given.strict_input:
@@ -144,7 +148,8 @@ def _judge_whole(source: files.Source, found: Recorded, given: Given, page: Opti
     report, decided = wide.anew(report, task.options, functools.partial(events.of_keys, found), given.wide_seconds)
     task = task._replace(wide_seconds=given.wide_seconds if decided else None, least=given.least)
     with named(source):
-        ties.test(source, found, task, report, given.said)
+        readings.test(given, readings.Judged(found, task.choice, report.word, report.keys, task.options.concurrency, functools.partial(events.of_keys, found)),
+                      functools.partial(tasks.word_of, source))
     beside = list(hints.after(found, task, report, source, given.said, given.cause))
     few = least.reason(given, report.word, least.telling(found.facts.outcomes, models.answered(found.facts)))
     if not given.json and not few:
@@ -156,24 +161,11 @@ def _judge_whole(source: files.Source, found: Recorded, given: Given, page: Opti
     of_report = bad_keys.found(report.keys)
     keys = bad_keys.shown(found, task, report, of_report.bad, functools.partial(events.with_fields, found), given.cause, decided)
     done = results.Results(source.name, found, task, report, keys, terminal.told(found, keys))
-    beside += doubts.told(found, keys, given)
     results.write(page, folder, done)
-    rates.write(given, folder, source.name, found, task, report)
+    rates.write(given, folder, rates.of_one(source.name, found, task, report))
     if given.json:
         facts = found.facts
         counted = as_json.Counted(facts.events, len(facts.keys), models.clients_of(facts, task.options.concurrency), found.form, facts.outcomes,
                                   of_report)
         as_json.write(as_json.of_results(done, source, counted, [*source.notes, *found.notes, *beside], given))
     return report.status
-
-
-def _task(found: Recorded, given: Given) -> Task:
-    """How the history is to be judged."""
-    choice = models.chosen(found.facts, given.model, found.stated, found.possible)
-    models.account_for(choice, found.account)
-    doubts.account_for_types(found.key_names, found.value_names, given, found.account)
-    concurrency = given.concurrency or models.concurrency_of(found.facts)
-    if concurrency is None:
-        raise Refused("its processes fit no concurrency from 1 to 64")
-    options = Options(concurrency, choice.common or "register", given.budget, given.workers)
-    return Task(found.text, choice, dict(found.budgets), options)

@@ -94,8 +94,8 @@ def given(words: Optional[List[str]]) -> Given:
                         "processors")
     parser.add_argument("--dask", metavar="ADDRESS", help="judge the shards on the Dask cluster whose scheduler is there, as "
                         "tcp://HOST:8786; its workers need the program, and distributed must be installed here")
-    parser.add_argument("--temporary", metavar="DIR", help="the folder for temporary files of shards, which take as much room as "
-                        "the history at most")
+    parser.add_argument("--temporary", metavar="DIR", help="the folder for all temporary files, which take about as much room as the "
+                        "history")
     parser.add_argument("--key", metavar="K", type=number("a key", kinds.KEYS),
                         help="the history has no keys: each value in it is of key K")
     parser.add_argument("--nil-is-absent", action="store_true", help="nil is what a missing key answers, and is judged")

@@ -6,6 +6,7 @@ close, and there are no words, strings or comments in it, so that it can change 
 """
 from __future__ import annotations
 
+import itertools
 import operator
 import re
 from typing import Dict, Iterator, List, Tuple
@@ -31,12 +32,13 @@ ODD = operator.itemgetter(4)
 KIND_BITS, NAME_BITS = 2, 3  # of a code; above them stands the process
 
 
-def rows_of(block: bytes) -> List[Row]:
-    """The events of these whole lines."""
+def rows_of(block: bytes) -> Tuple[List[Row], int]:
+    """The events of these whole lines, and how many lines have some."""
     rows: List[Row] = LINE.findall(block)
-    if any(map(ODD, rows)):
-        rows = [event for row in rows for event in (odd_rows(row[4]) if row[4] else (row,))]
-    return rows
+    if not any(map(ODD, rows)):
+        return rows, len(rows)
+    by_line = [list(odd_rows(row[4])) if row[4] else [row] for row in rows]
+    return list(itertools.chain.from_iterable(by_line)), sum(map(bool, by_line))
 
 
 def odd_rows(line: bytes) -> Iterator[Row]:

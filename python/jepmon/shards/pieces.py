@@ -56,10 +56,13 @@ def read_piece(task: PieceTask) -> Piece:
     router = Router(task.shards, counting=counting)
     events = PieceEvents(task.concurrency, router)
     slabs: List[int] = []
-    held = 0
+    held = lines = of_events = 0
     with open(path, "wb") as file:
         for block in blocks_of(task):
-            events.take(rows_of(block))
+            rows, taken = rows_of(block)
+            events.take(rows)
+            lines += block.count(b"\n") + (not block.endswith(b"\n"))
+            of_events += taken
             held += len(block)
             if held >= task.sizes.slab:
                 slabs.append(router.write(file))
@@ -69,7 +72,7 @@ def read_piece(task: PieceTask) -> Piece:
         if held:
             slabs.append(router.write(file))
     ends = {thread: state for thread, state in events.states.items() if state != UNSEEN}
-    return Piece(path, slabs, router.written, events.count, events.base, events.starts, ends, counting.tally(events.count))
+    return Piece(path, slabs, router.written, events.count, events.base, events.starts, ends, counting.tally(events.count, lines, of_events))
 
 
 class PieceEvents:

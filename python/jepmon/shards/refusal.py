@@ -8,40 +8,52 @@ from __future__ import annotations
 import mmap
 from typing import BinaryIO, Iterator, Optional, Union
 
+from ..forms.account import Account
+from ..forms.own import GAP
 from .events import NAMES_OF_REFUSALS, PLAIN, Event, Refusal, Rule, event_of, plain_event
 from .reading import Reader, Unreadable
 
 Entry = Union[Event, Refusal]
 
 
-def entries_of(reader: Reader) -> Iterator[Entry]:
+def entries_of(reader: Reader, account: Account) -> Iterator[Entry]:
     """What each element of a text is: an event, or the refusal of it."""
+    line, counted = 1, 0
     while reader.more():
+        begin = reader.at
         match = PLAIN.match(reader.data, reader.at)
         try:
             if match is not None:
                 reader.at = reader.good = match.end()
-                yield plain_event(match)
+                entry: Entry = plain_event(match)
             else:
-                yield event_of(reader.element(0, 0))
+                entry = event_of(reader.element(0, 0))
         except Refusal as refusal:
-            yield refusal
+            entry = refusal
+        first = line + reader.data[counted:begin].count(b"\n")
+        line, counted = first + reader.data[begin:reader.at].count(b"\n"), reader.at
+        account.took(first, line)
+        yield entry
+    end = len(reader.data)
+    lines = line + reader.data[counted:end].count(b"\n") - (reader.data[end - 1:end] == b"\n")
+    account.skip(GAP, lines - account.taken)
+    account.close(lines)
 
 
-def first_refusal(path: str, concurrency: int, plainly: Optional[BinaryIO] = None) -> Optional[str]:
-    """The line of the first refusal of a file, as `jepmon check` prints it; None where nothing is refused. Each event before it is
-    written plainly, one a line, to the other file."""
+def first_refusal(path: str, concurrency: int, plainly: Optional[BinaryIO] = None, account: Optional[Account] = None) -> Optional[str]:
+    """The line of the first refusal of a file, as `jepmon check` prints it; None where nothing is refused, and then all lines are in the
+    account. Each event before it is written plainly, one a line, to the other file."""
     with open(path, "rb") as file:
         if file.seek(0, 2) == 0:
             return None
         with mmap.mmap(file.fileno(), 0, access=mmap.ACCESS_READ) as data:
-            return _first_refusal(Reader(data), Rule(concurrency), plainly)
+            return _first_refusal(Reader(data), Rule(concurrency), plainly, account or Account())
 
 
-def _first_refusal(reader: Reader, rule: Rule, plainly: Optional[BinaryIO]) -> Optional[str]:
+def _first_refusal(reader: Reader, rule: Rule, plainly: Optional[BinaryIO], account: Account) -> Optional[str]:
     refused: Optional[str] = None
     try:
-        for entry in entries_of(reader):
+        for entry in entries_of(reader, account):
             if refused is not None:  # the text may be unreadable further on, and that comes before any event's refusal
                 continue
             try:

@@ -8,6 +8,8 @@ from __future__ import annotations
 import os
 from typing import Any, BinaryIO, Iterable, Iterator, List, NamedTuple, Optional, Sequence, Tuple
 
+from ..forms.account import Account
+from ..forms.own import GAP
 from ..program import Options
 from .batches import batches_of
 from .by_key import FIELDS, events_of
@@ -58,6 +60,7 @@ class Session:
         self.tally = Tally()
         self.shards: List[Shard] = []
         self._finds_threads = finds_threads
+        self._exact: Optional[Account] = None  # of the lines of what was read exactly
         self._has_read = self._is_plain = False
         if finds_threads:
             self._find_threads(FRONT)
@@ -93,6 +96,16 @@ class Session:
         write_report(merged([result.path for result in judged], self.tools.folder, self.tools.sizes), verdict.line, out)
         return verdict
 
+    def account(self) -> Account:
+        """Accounts for the lines of the history, which was read."""
+        if self._exact is not None:
+            return self._exact
+        account = Account()
+        account.taken = self.tally.lines_of_events
+        account.skip(GAP, self.tally.lines - account.taken)
+        account.close(self.tally.lines)
+        return account
+
     def events_of(self, key: int) -> List[KeyEvent]:
         """The events of a key, as far as they are judged."""
         return next((events for _, events in self.events_of_keys([key])), [])
@@ -114,8 +127,9 @@ class Session:
         self.tools.team.stop()
         self.tools.progress.say("reads event by event")
         path = os.path.join(self.tools.folder, "plain.edn")
+        self._exact = Account()
         with open(path, "wb") as plain:
-            line = first_refusal(self.file.path, self.options.concurrency, plain)
+            line = first_refusal(self.file.path, self.options.concurrency, plain, self._exact)
         self.tools.progress.clear()
         self._test_unchanged()
         if line is not None:

@@ -17,6 +17,8 @@ class Tally(NamedTuple):
     sorts: Dict[int, int] = {}  # of the events of clients: by type and operation, as a code without a process
     nils: int = 0  # parts of theirs that are nil
     sets: int = 0  # parts of theirs that are sets
+    lines: int = 0
+    lines_of_events: int = 0  # those that have some
 
     def number_of(self, name: str, kind: str) -> int:
         """How many events there are of this operation and type."""
@@ -45,12 +47,12 @@ class Tally(NamedTuple):
 
 def total(tallies: Iterable[Tally]) -> Tally:
     """The counts of several parts of a history."""
-    events = nils = sets = 0
     sorts: Counter[int] = collections.Counter()
+    tallies = list(tallies)
     for tally in tallies:
-        events, nils, sets = events + tally.events, nils + tally.nils, sets + tally.sets
         sorts.update(tally.sorts)
-    return Tally(events, dict(sorts), nils, sets)
+    events, nils, sets, lines, of_events = (sum(counts) for counts in zip(*(tally[:1] + tally[2:] for tally in tallies)))
+    return Tally(events, dict(sorts), nils, sets, lines, of_events)
 
 
 class Counting:
@@ -74,9 +76,9 @@ class Counting:
             self._sorts[code & SORT] += number
         self._codes.clear()
 
-    def tally(self, events: int) -> Tally:
+    def tally(self, events: int, lines: int, of_events: int) -> Tally:
         self.forget()
-        return Tally(events, dict(self._sorts), self._nils, self._sets)
+        return Tally(events, dict(self._sorts), self._nils, self._sets, lines, of_events)
 
 
 assert len(OPERATIONS) <= 1 << NAME_BITS

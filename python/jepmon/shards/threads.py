@@ -35,7 +35,7 @@ def fewest_threads(path: str, length: int, sizes: Sizes = Sizes()) -> Optional[i
     lives = Lives()
     try:
         for block in blocks_of(PieceTask(path, 0, length, 1, 1, "", sizes)):
-            tell(lives, rows_of(block))
+            tell(lives, rows_of(block)[0])
     except Doubt:
         return None
     return lives.fewest()

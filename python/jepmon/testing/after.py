@@ -22,7 +22,7 @@ from ..verdicts import Illegal
 from .cluster import Cluster
 from .crashes import finding
 from .errors import Died
-from .losses import Acknowledged, One, line, many, told
+from .losses import Acknowledged, One, known_from, line, many, told
 
 FINDING, ALWAYS, NEVER = "finding", "always", "never"  # when the nodes' data are kept
 PATIENCE = 30.0  # seconds, at most, until the nodes are ready again
@@ -94,7 +94,7 @@ def _read_again(cluster: Cluster, illegal: Illegal, part: pathlib.Path) -> List[
         mend(cluster)
         readings = readings_of(cluster, key)
         sentences += [f"Once all faults were ended, key {key} was read again: {listed(readings)}.",
-                      verdict_on(fatal, readings, acknowledged)]
+                      verdict_on(fatal, readings, acknowledged, known_from(events, begun, fatal.value))]
         lost = lost_members(readings, acknowledged)
     elif hasattr(client, "dequeue"):
         mend(cluster)
@@ -179,8 +179,9 @@ def one_reading(cluster: Cluster, number: int, key: int) -> Reading:
     return Reading(None, said)
 
 
-def verdict_on(fatal: Event, readings: Dict[str, Reading], acknowledged: Acknowledged) -> str:
-    """What the readings tell: lost, stale or diverged. `acknowledged` is what was, before the operation began."""
+def verdict_on(fatal: Event, readings: Dict[str, Reading], acknowledged: Acknowledged, known: int) -> str:
+    """Says lost, stale or diverged. `acknowledged` holds the writes before the operation began, and `known` is the event that first shows the
+    answer in the key, or -1."""
     values = [reading.value for reading in readings.values() if not reading.fault]
     if not values:
         return "No node answered, so it can't be told whether something is lost."
@@ -195,10 +196,12 @@ def verdict_on(fatal: Event, readings: Dict[str, Reading], acknowledged: Acknowl
         return f"The read was STALE: the nodes hold {shown(values[0])}, which had been acknowledged before the read began."
     if values[0] != wrong:
         return f"LOST or STALE, which can't be told: a write of {shown(values[0])}, not acknowledged when the read began, took place since."
-    newest = acknowledged.newest
-    if newest is None:
+    if known < 0 and wrong is not None:
         return "The wrong answer stays."
-    return f"A write is LOST: the wrong answer stays. The write of {told(newest)}."
+    later = [one for one in acknowledged.after(known) if one.value != wrong]
+    if later:
+        return f"A write is LOST: the wrong answer stays. The write of {told(later[-1])}."
+    return f"An EARLIER answer was wrong: {shown(wrong)} stays, and no write that began after it was there has been acknowledged."
 
 
 def lost_members(readings: Dict[str, Reading], acknowledged: Acknowledged) -> List[One]:

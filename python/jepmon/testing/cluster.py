@@ -23,10 +23,11 @@ from .server import Server
 
 class Cluster:
     """It starts with its block. `network` says by what links others reach the nodes (links.py), `has_disks` whether each node's folder is
-    a disk of its own, which can lose power (disks.py), and `has_clocks` whether each has a wall clock of its own (clocks.py)."""
+    a disk of its own, which can lose power (disks.py), and `has_clocks` whether each has a wall clock of its own (clocks.py). `has_spare`
+    adds one node for strikes to start."""
 
     def __init__(self, kind: Type[Server], model: str, plant: str, size: int, logs: pathlib.Path, network: str, patience: float = 0.0,
-                 has_disks: bool = False, has_clocks: bool = False, durability: str = "") -> None:
+                 has_disks: bool = False, has_clocks: bool = False, durability: str = "", has_spare: bool = False) -> None:
         self._ended = contextlib.ExitStack()
         self.crew = Crew()
         self.stopped = threading.Event()  # nobody waits any more for a node to be ready
@@ -37,11 +38,12 @@ class Cluster:
             guard = Guard(folder)
             self._ended.callback(guard.end)
             ports = Ports(random.Random(os.urandom(8)))
-            self.nodes: List[Node] = []
-            for number in range(size):
+            self._every: List[Node] = []
+            for number in range(size + has_spare):
                 name = f"n{number + 1}"
                 (folder / name).mkdir()
-                self.nodes.append(Node(number, folder / name, logs / f"{name}.log", {port: ports.free() for port in kind.ports}, guard))
+                self._every.append(Node(number, folder / name, logs / f"{name}.log", {port: ports.free() for port in kind.ports}, guard))
+            self.nodes, self.spares = self._every[:size], self._every[size:]
             self.disks: Dict[str, Disk] = {}  # by the names of nodes
             for node in self.nodes if has_disks else []:
                 self.disks[node.name] = Disk(node.folder, folder / f"{node.name}.disk")
@@ -50,11 +52,11 @@ class Cluster:
             self.clocks = {node.name: clocks.Clock(node, library) for node in self.nodes} if library is not None else {}
             self.links: Optional[Links] = None
             if network != DIRECT:
-                self.links = Switched(self.nodes) if network == NAMESPACES else Proxied(self.nodes, ports)
+                self.links = Switched(self._every) if network == NAMESPACES else Proxied(self._every, ports)
                 self._ended.callback(self.links.end)
             self.server = kind(self.nodes, model, plant)
             self.server.patience = patience or self.server.patience
-            self._logs = LogWatch(self.nodes, self.server.crashes)
+            self._logs = LogWatch(self._every, self.server.crashes)
             self.server.durability = durability or self.server.durability
         except BaseException:
             self._ended.close()
@@ -87,7 +89,7 @@ class Cluster:
 
     def end(self) -> None:
         """Kills all nodes and removes their folders."""
-        for node in self.nodes:
+        for node in self._every:
             node.kill()
         self._ended.close()
 
@@ -121,6 +123,11 @@ class Cluster:
         except Exception:  # nodes that are struck do not answer
             return None
 
+    @property
+    def running(self) -> List[Node]:
+        """The nodes, and the one more where it was started."""
+        return self.nodes + [node for node in self.spares if node.pid is not None]
+
     # --- What strikes do ---
 
     def kill(self, node: Node) -> None:
@@ -134,7 +141,7 @@ class Cluster:
 
     def test_alive(self) -> None:
         """Raises a Died where a node has ended by itself, or its log says that it has crashed."""
-        for node in self.nodes:
+        for node in self._every:
             node.test_alive()
         self._logs.look()
 

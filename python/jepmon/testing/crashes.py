@@ -7,7 +7,7 @@ import re
 from typing import Dict, List, Optional, Sequence
 
 from .errors import Died, ServerError
-from .node import TELLING, Node
+from .node import AGAIN, TELLING, Node
 
 WORDS = re.compile(r"panic|assert|segmentation|segfault|sanitizer|fatal|abort|core dumped|corrupt|traceback|exception|error", re.I)
 LAST = 30  # lines of a log that are searched for what ended the server
@@ -59,11 +59,12 @@ def finding(died: Died) -> Optional[str]:
 
 
 def last_lines(log: pathlib.Path) -> List[str]:
+    """Since the node was started last."""
     try:
         text = log.read_text("utf-8", errors="replace")
     except OSError:
         return []
-    return [line.strip() for line in text.split("\n") if line.strip()][-LAST:]
+    return [line.strip() for line in text.rpartition(AGAIN)[2].split("\n") if line.strip()][-LAST:]
 
 
 def telling(lines: Sequence[str]) -> str:

@@ -38,7 +38,12 @@ def environment_of(pid: int) -> List[str]:
 
 def kill_strays(mark: str) -> None:
     for pid in strays(mark):
-        kill_family(pid)
+        bury(kill_family(pid))
+
+
+def bury(killed: List[int]) -> None:
+    """Waits for those of them that this process has adopted, which stay in the table of processes until then."""
+    for pid in killed:
         with contextlib.suppress(ChildProcessError):
             os.waitpid(pid, 0)
 
@@ -81,9 +86,11 @@ def continue_family(pid: int) -> None:
     _send(list(reversed(family(pid))), signal.SIGCONT)
 
 
-def kill_family(pid: int) -> None:
-    """Kills all of them (SIGKILL) at about one moment."""
-    _send(stop_family(pid), signal.SIGKILL)
+def kill_family(pid: int) -> List[int]:
+    """Kills all of them (SIGKILL) at about one moment, and gives them: the process, and its descendants."""
+    members = stop_family(pid)
+    _send(members, signal.SIGKILL)
+    return members
 
 
 def _send(pids: List[int], number: signal.Signals) -> None:

@@ -24,14 +24,18 @@ NETWORKS = (AUTO, NAMESPACES, PROXY)  # what --network takes
 NET, CLIENTS_HOST = "10.0.0.", 200
 
 
-def network(asked: str, needs_links: bool) -> str:
-    """How others reach the nodes: DIRECT where nothing strikes their links, else by namespaces where this machine lets us."""
-    if asked == AUTO:
+def network(asked: str, needs_links: bool, needs_addresses: bool = False) -> str:
+    """How others reach the nodes: DIRECT where nothing strikes their links, else by namespaces where this machine lets us. Nodes that need
+    addresses of their own take namespaces in any case."""
+    if needs_addresses and asked == PROXY:
+        raise ServerError(f"--network {PROXY}: the nodes of this server find one another by their addresses: several take {NAMESPACES}")
+    if asked == AUTO and not needs_addresses:
         return DIRECT if not needs_links else PROXY if why_not() else NAMESPACES
-    fault = why_not() if asked == NAMESPACES else None
+    fault = why_not() if asked != PROXY else None
     if fault:
-        raise ServerError(f"--network {NAMESPACES}: there are none to be had here: {fault}; they take root, and {PROXY} takes no rights")
-    return asked
+        others = "one node takes none" if needs_addresses else f"{PROXY} takes no rights"
+        raise ServerError(f"--network {NAMESPACES}: there are none to be had here: {fault}; they take root, and {others}")
+    return PROXY if asked == PROXY else NAMESPACES
 
 
 Pair = Tuple[str, str]  # a way: who sends, and who gets it

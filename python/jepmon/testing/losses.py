@@ -21,6 +21,7 @@ class One(NamedTuple):
     value: int
     moment: int  # of the acknowledgement, in nanoseconds from the begin of the run
     fault: str  # how long before which fault that was, or after which one, where none followed
+    begun: int = 0  # the event with which its operation began
 
 
 class Acknowledged(NamedTuple):
@@ -31,19 +32,29 @@ class Acknowledged(NamedTuple):
     @classmethod
     def of(cls, events: Sequence[Event], index: int, faults: Sequence[Fault]) -> Acknowledged:
         found = []
+        begun: Dict[int, int] = {}  # by process
         for event in events:
+            begun.setdefault(event.process, event.index)
             brought = brought_by(event)
             if event.kind == "ok" and event.index < index and brought is not None:
                 moment = event.fields.get("time", 0)
-                found.append(One(brought, moment, beside(faults, moment)))
+                found.append(One(brought, moment, beside(faults, moment), begun[event.process]))
+            if event.kind != "invoke":
+                del begun[event.process]
         return cls(found)
 
-    @property
-    def newest(self) -> Optional[One]:
-        return self.values[-1] if self.values else None
+    def after(self, index: int) -> List[One]:
+        """Those whose operation began after that event."""
+        return [one for one in self.values if one.begun > index]
 
     def missing(self, held: "frozenset[int]") -> List[One]:
         return [one for one in self.values if one.value not in held]
+
+
+def known_from(events: Sequence[Event], index: int, value: object) -> int:
+    """The first event before `index` that shows the value in a register: the end of an operation that brings it, or of a read. Else -1."""
+    return next((event.index for event in events if event.kind == "ok" and event.index < index and value in (brought_by(event), event.value)),
+                -1)
 
 
 def brought_by(event: Event) -> Optional[int]:

@@ -12,7 +12,7 @@ import time
 from typing import TYPE_CHECKING, Callable, Dict, List, Optional, Sequence, Tuple
 
 from .errors import Died, ServerError
-from .family import MARK, adopt, continue_family, kill_family, kill_strays, stop_family
+from .family import MARK, adopt, bury, continue_family, kill_family, kill_strays, stop_family
 
 if TYPE_CHECKING:
     from .guard import Guard
@@ -24,6 +24,7 @@ GLANCE = 0.1  # seconds between two looks
 LAST_LINES = 3  # of a log, in an error
 TELLING = ("no space left on device", "disk quota exceeded", "read-only file system", "unable to write", "address already in use",
            "permission denied", "cannot allocate memory", "out of memory", "too many open files")  # in a log, of what can't be done
+AGAIN = "--- started again\n"  # in a log
 ELSEWHERE = 2.0  # seconds, after which a server that listens at another address will not come to listen at its own
 
 
@@ -74,6 +75,8 @@ class Node:
     def start(self) -> None:
         """Starts it; it may take some time until it answers."""
         with self._lock, open(self.log, "ab") as log, self.inside():
+            log.write(AGAIN.encode() if self.starts else b"")
+            log.flush()
             try:
                 process = subprocess.Popen(
                     as_user(self.user, self.words), stdin=subprocess.DEVNULL, stdout=log, stderr=subprocess.STDOUT, start_new_session=True,
@@ -89,8 +92,9 @@ class Node:
         with self._lock:
             if self._process is not None:
                 had_ended = self._process.poll() is not None
-                kill_family(self._process.pid)
+                _, *orphans = kill_family(self._process.pid)
                 self._process.wait()
+                bury(orphans)
                 if had_ended:
                     kill_strays(self._mark)
                 self._guard.leave(self._process.pid)

@@ -26,7 +26,7 @@ from .generators import Pace
 from .links import network
 from .needs import planned
 from .server import Client, Server
-from .strikes.kind import NEEDS_CLOCK, NEEDS_CREW, NEEDS_DISK, NEEDS_LINKS
+from .strikes.kind import NEEDS_CLOCK, NEEDS_CREW, NEEDS_DISK, NEEDS_LINKS, NEEDS_SPARE
 from .strikes.nemesis import Nemesis
 from .workloads import Work, works_of
 
@@ -96,7 +96,7 @@ class Test:
         self.given, self._progress = given, progress
         self.client = given.server.objects[given.model]
         self.plan = planned(given)
-        self.network = network(given.network, self.plan.needs(NEEDS_LINKS))
+        self.network = network(given.network, self.plan.needs(NEEDS_LINKS), given.server.by_addresses and given.nodes > 1)
         self.begun = self.ended = 0.0
         self.at_work: Dict[str, Counter[str]] = {}
         self.struck: Counter[str] = Counter()
@@ -149,7 +149,7 @@ class Test:
         given = self.given
         assert monitor.folder is not None
         with Cluster(given.server, given.model, given.plant, given.nodes, monitor.folder, self.network, given.patience,
-                     self.plan.needs(NEEDS_DISK), self.plan.needs(NEEDS_CLOCK), given.durability) as cluster, \
+                     self.plan.needs(NEEDS_DISK), self.plan.needs(NEEDS_CLOCK), given.durability, self.plan.needs(NEEDS_SPARE)) as cluster, \
                 after_a_finding(cluster, monitor.folder, given.keep_nodes, lambda: work.lost):
             cluster.crew.size = given.clients
             self.begun = time.monotonic()

@@ -80,6 +80,7 @@ class Server:
     ports: Tuple[str, ...] = ("client",)  # the names of the ports of each node
     size: int = 1  # how many nodes there are, where --nodes does not say
     sizes: range = range(1, 8)
+    by_addresses: bool = False  # several nodes find one another by their addresses alone, so that they take network namespaces
     in_turn: bool = False  # whether a node is started once the one before is ready
     crashes: Sequence[str] = ()  # regular expressions: a line of a node's log that one of them matches is a crash, which is a finding
     patience: float = 120.0  # seconds until a node is ready, and until it answers again at the end

@@ -164,6 +164,7 @@ class Queues(Work):
     CHANGES = 300
     SETTLING = 10.0  # seconds in which what is missing may come
     BACKLOG = (8, 14)  # below the first consumers mostly wait, above the second producers do
+    HELPS = 0.8  # the chance that a producer consumes, where consumers do not, as those that are cut off
 
     def __init__(self, monitor: LongMonitor, clients: int, keys: int) -> None:
         super().__init__(monitor, clients, keys)
@@ -180,6 +181,8 @@ class Queues(Work):
             if self.clients == 1 and self.backlog(handle) > self.BACKLOG[0]:
                 return self.dequeue(client, handle)
             self._wait(lambda: self.backlog(handle) < self.BACKLOG[1])
+            if self.backlog(handle) >= self.BACKLOG[1] and draws.random() < self.HELPS:
+                return self.dequeue(client, handle)
             return self.enqueue(client, handle)
         if draws.random() < 0.9:
             self._wait(lambda: self.backlog(handle) >= self.BACKLOG[0])

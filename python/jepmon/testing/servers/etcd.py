@@ -10,7 +10,7 @@ import contextlib
 import http.client
 import json
 import uuid
-from typing import Any, Dict, List, Optional, Sequence, Type, Union
+from typing import Any, Dict, List, Optional, Sequence, Set, Type, Union
 
 from ...endings import Exceptions
 from ..node import At, Node
@@ -19,6 +19,8 @@ from . import etcd_members
 
 TIMEOUT, LEADER_TIMEOUT = 1.0, 0.3  # seconds
 HEARTBEAT, ELECTION = 100, 1000  # milliseconds
+# A member that joins ends where the one that it asks first does not know of it yet. So it tries until it has joined, and has a log.
+JOIN = 'while :; do "$0" "$@"; status=$?; [ -d data/member/wal ] && exit $status; sleep 0.2; done'
 
 
 class NoAnswer(OSError):
@@ -152,11 +154,15 @@ class Etcd(Server):
     def __init__(self, *words: Any) -> None:
         super().__init__(*words)
         self.existing: Dict[str, List[str]] = {}  # of a node that has joined the group again: where its members are reached
+        self.numbers: Dict[str, str] = {}  # of nodes, that the group has given them
+        self.removed: Set[str] = set()  # numbers of members that are none any more
 
     def command(self, node: Node) -> List[str]:
-        known = self.existing.get(node.name, [self.peer(other) for other in self.nodes])
-        members = ",".join(f"{other.name}={self.peer(other)}" for other in self.nodes if self.peer(other) in known)
-        return ["etcd", "--name", node.name, "--data-dir", str(node.folder / "data"), "--initial-cluster", members,
+        peers = {other.name: self.peer(other) for other in [*self.nodes, node]}  # a node more than these may join
+        known = self.existing.get(node.name, list(peers.values()))
+        members = ",".join(f"{name}={peer}" for name, peer in peers.items() if peer in known)
+        joins = ["sh", "-c", JOIN] if node.name in self.existing else []
+        return [*joins, "etcd", "--name", node.name, "--data-dir", str(node.folder / "data"), "--initial-cluster", members,
                 "--listen-client-urls", url(node, node.ports["client"]), "--advertise-client-urls", url(node, node.port),
                 "--listen-peer-urls", url(node, node.ports["peer"]), "--initial-advertise-peer-urls", self.peer(node),
                 "--heartbeat-interval", str(HEARTBEAT), "--election-timeout", str(ELECTION),

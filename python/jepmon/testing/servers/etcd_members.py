@@ -1,4 +1,9 @@
-"""The strike `shrink` of etcd: a member is removed from the group, with its data, and joins it again as a new one."""
+"""Strikes on who is a member of etcd's group. `shrink`: a member is removed, with its data, and joins again as a new one. `grow`: one more
+joins, and is removed again.
+
+A change of the group is asked for until it is certain. A member that answers may lag behind the others. So a member is removed by the number
+that the group gave it, and a joining one gets the list of members in the answer to its own joining.
+"""
 from __future__ import annotations
 
 import contextlib
@@ -7,69 +12,98 @@ import time
 from typing import TYPE_CHECKING, Any, Callable, Dict, Iterator, List
 
 from ..errors import ServerError
-from ..strikes.kind import PROCESS, Strike, Values
+from ..strikes.kind import NEEDS_SPARE, OTHER, PROCESS, Strike, Values
 
 if TYPE_CHECKING:
     from ..cluster import Cluster
     from ..node import Node
     from .etcd import Etcd
 
-TIMEOUT, TRIES, PAUSE, LAST = 2.0, 3, 0.2, 5.0  # seconds of a call, calls to remove a member, seconds between two, and at the end
+TIMEOUT, PAUSE, LAST = 2.0, 0.2, 5.0  # seconds of a call, between two, and at the end
+GONE = "member not found"  # what etcd says where a member was removed before
 Ask = Callable[..., Any]  # of the JSON gateway: its path, and what is asked
 
 
 @contextlib.contextmanager
 def shrunk(cluster: Cluster, node: Node, values: Values) -> Iterator[None]:
-    """The node is down first, since one that is removed ends by itself. If the others can't agree, it stays a member, and is only down. One
-    at a time: two that wait for each other to come back would wait forever."""
+    """If the others can't agree now, the node is down, and removed at the end. One at a time: two that wait for each other to come back would
+    wait forever."""
     server: Any = cluster.server
     etcd: Etcd = server
     cluster.kill(node)
     try:
-        for _ in range(TRIES):
-            with contextlib.suppress(OSError, KeyError):
-                remove(etcd, node)
-                break
+        with contextlib.suppress(OSError, KeyError):
+            remove(etcd, node)
         yield
     finally:
-        if not joined(etcd, node, cluster):
-            shutil.rmtree(node.folder / "data", ignore_errors=True)
-            join(etcd, node, cluster)
+        leave(etcd, node, cluster)
+        until(lambda: join(etcd, node), cluster)
         cluster.restart(node)
 
 
-def members(etcd: Etcd, node: Node) -> Dict[str, str]:
-    """The numbers of the members, by the links where others reach them, as one of the other nodes knows them."""
-    found = asked(etcd, node, "cluster/member/list")["members"]
-    return {one["peerURLs"][0]: one["ID"] for one in found}
+@contextlib.contextmanager
+def grown(cluster: Cluster, node: Node, values: Values) -> Iterator[None]:
+    """If the others can't agree now, none joins. They may agree later, so that the end lets it join in any case before it removes it."""
+    server: Any = cluster.server
+    etcd: Etcd = server
+    (spare,) = cluster.spares
+    try:
+        with contextlib.suppress(OSError, KeyError):
+            join(etcd, spare)
+            cluster.restart(spare)
+        yield
+    finally:
+        cluster.kill(spare)
+        until(lambda: join(etcd, spare), cluster)
+        leave(etcd, spare, cluster)
+
+
+def leave(etcd: Etcd, node: Node, cluster: Cluster) -> None:
+    """It is down, since one that is removed ends by itself."""
+    until(lambda: remove(etcd, node), cluster)
+    shutil.rmtree(node.folder / "data", ignore_errors=True)
 
 
 def remove(etcd: Etcd, node: Node) -> None:
-    number = members(etcd, node).get(etcd.peer(node))
-    if number is not None:
+    """Raises unless it is certain that the node has left the group."""
+    if node.name not in etcd.numbers:
+        etcd.numbers[node.name] = numbers(members(etcd, node))[etcd.peer(node)]
+    number = etcd.numbers[node.name]
+    try:
         asked(etcd, node, "cluster/member/remove", ID=number)
+    except OSError as fault:
+        if GONE not in str(fault):
+            raise
+    etcd.removed.add(number)
 
 
-def joined(etcd: Etcd, node: Node, cluster: Cluster) -> bool:
-    """Whether it is a member, once another one can say so."""
-    return bool(until(lambda: [etcd.peer(node) in members(etcd, node)], cluster)[0])
+def join(etcd: Etcd, node: Node) -> None:
+    """Raises unless it is certain that the node is a member, by a new number. An earlier call may have made it one."""
+    found = members(etcd, node)
+    if numbers(found).get(etcd.peer(node)) in {None, *etcd.removed}:
+        found = asked(etcd, node, "cluster/member/add", peerURLs=[etcd.peer(node)])["members"]
+    etcd.numbers[node.name] = numbers(found)[etcd.peer(node)]
+    etcd.existing[node.name] = list(numbers(found))
 
 
-def join(etcd: Etcd, node: Node, cluster: Cluster) -> None:
-    def add() -> List[str]:
-        if etcd.peer(node) not in members(etcd, node):
-            asked(etcd, node, "cluster/member/add", peerURLs=[etcd.peer(node)])
-        return list(members(etcd, node))
-
-    etcd.existing[node.name] = until(add, cluster)
+def members(etcd: Etcd, node: Node) -> List[Dict[str, Any]]:
+    """As one of the other nodes knows them."""
+    found: List[Dict[str, Any]] = asked(etcd, node, "cluster/member/list")["members"]
+    return found
 
 
-def until(what: Callable[[], List[Any]], cluster: Cluster) -> List[Any]:
+def numbers(found: List[Dict[str, Any]]) -> Dict[str, str]:
+    """The numbers of members, by the links where others reach them."""
+    return {one["peerURLs"][0]: one["ID"] for one in found}
+
+
+def until(what: Callable[[], object], cluster: Cluster) -> None:
     """Tries until the others answer: other strikes may hold them, which end before the run does. Where the test is over, a little longer."""
     end, is_over = time.monotonic() + cluster.server.patience, False
     while True:
         try:
-            return what()
+            what()
+            return
         except (OSError, KeyError) as fault:
             if time.monotonic() > end:
                 raise ServerError(f"a member of etcd could not join the group again: {fault}") from fault
@@ -89,8 +123,14 @@ def asked(etcd: Etcd, node: Node, path: str, **body: Any) -> Any:
                     return etcd.ask(other, path, TIMEOUT, **body)
                 except OSError as found:
                     fault = found
+                    if GONE in str(found):
+                        break
     raise fault
 
 
-TEXT = "{node} is removed from the group if the others agree, and joins it again as a new member"
-STRIKES = {"shrink": Strike(TEXT, shrunk, PROCESS, nodes=3, is_single=True)}
+STRIKES = {
+    "shrink": Strike("{node} is removed from the group if the others agree, and joins it again as a new member", shrunk, PROCESS, nodes=3,
+                     is_single=True),
+    "grow": Strike("one more member joins the group if the others agree, and is removed again", grown, OTHER, is_single=True,
+                   needs=frozenset([NEEDS_SPARE])),
+}

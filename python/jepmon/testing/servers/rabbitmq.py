@@ -1,4 +1,6 @@
-"""RabbitMQ: one node, with durable queues, persistent messages that are confirmed, and consumers that get and acknowledge.
+"""RabbitMQ: one node, with durable queues, persistent messages that are confirmed, and consumers that get and acknowledge. Several nodes
+are a cluster with quorum queues, whose minority pauses itself. It takes network namespaces: the nodes find one another by one port, at an
+address each.
 
 It delivers at least once: what was not acknowledged when a connection or the server ended comes again. So a dequeue takes place where a
 message comes for the first time in the whole test; a message that has come before is a :fail.
@@ -20,14 +22,19 @@ from typing import Dict, List, Optional, Sequence, Tuple, Type
 from ...verdicts import Failed
 from ..came import Came
 from ..errors import ServerError
-from ..node import ADDRESS, At, Node
+from ..node import At, Node
 from ..server import Client, Plant, Server
-from ..wire.amqp import Amqp, Message
+from ..wire.amqp import CLASSIC, QUORUM, Amqp, Message
 
 TIMEOUT = 1.0  # seconds
 PROGRAM = pathlib.Path("/usr/lib/rabbitmq/bin/rabbitmq-server")
 # epmd finds Erlang's nodes. Erlang would start one that outlives the server; this one is of the node's family, and ends with it.
 START = 'epmd & until epmd -names >/dev/null 2>&1; do sleep 0.1; done; exec "$0"'
+COOKIE = ".erlang.cookie"  # by which nodes know one another
+CONFIGURED = """cluster_formation.peer_discovery_backend = classic_config
+cluster_partition_handling = pause_minority
+"""
+TICKS = "-kernel net_ticktime 8"  # seconds until a node that is silent is held for gone
 
 
 class Names:
@@ -50,8 +57,8 @@ class Names:
 class Queue(Client):
     durable = True
 
-    def __init__(self, at: At, came: Came, names: Names) -> None:
-        self.amqp, self.came, self.names = Amqp(at, TIMEOUT), came, names
+    def __init__(self, at: At, kind: str, came: Came, names: Names) -> None:
+        self.amqp, self.came, self.names = Amqp(at, TIMEOUT, kind), came, names
 
     def queue(self, key: int) -> str:
         name, ahead = self.names.of(key)
@@ -110,11 +117,11 @@ PLANTED: Dict[str, Type[Queue]] = {"early": EarlyQueue, "twice": LateQueue}
 class RabbitMQ(Server):
     objects = {"unordered-queue": Queue}
     ports = ("client", "distribution", "epmd")
-    sizes = range(1, 2)
+    sizes, in_turn, by_addresses = range(1, 6), True, True
     patience = 300.0
     plants = {
-        "early": Plant("messages are confirmed before they are on the disk: they are not persistent", "unordered-queue", "kill:n1"),
-        "twice": Plant("what comes again after a kill is taken for another message", "unordered-queue", "kill:n1"),
+        "early": Plant("messages are confirmed before they are on the disk: they are not persistent", "unordered-queue", "kill:n1", 1),
+        "twice": Plant("what comes again after a kill is taken for another message", "unordered-queue", "kill:n1", 1),
     }
 
     @classmethod
@@ -129,36 +136,46 @@ class RabbitMQ(Server):
     def __init__(self, *words: object) -> None:
         super().__init__(*words)  # type: ignore[arg-type]
         self.came, self.names = Came(), Names()
+        self.kind = QUORUM if len(self.nodes) > 1 else CLASSIC
 
     def prepare(self, node: Node) -> None:
         (node.folder / "plugins").write_text("[].\n")
-        (node.folder / "rabbitmq.conf").write_text("loopback_users = none\n")  # in a network namespace clients come from another address
+        members = "".join(f"cluster_formation.classic_config.nodes.{one.number + 1} = {name_of(one)}\n" for one in self.nodes)
+        # in a network namespace clients come from another address
+        (node.folder / "rabbitmq.conf").write_text("loopback_users = none\n" + (CONFIGURED + members if len(self.nodes) > 1 else ""))
+        (node.folder / COOKIE).write_text("jepmon")
+        (node.folder / COOKIE).chmod(0o400)
         node.environment = {
-            "HOME": str(node.folder), "LANG": "C.UTF-8", "ERL_EPMD_ADDRESS": ADDRESS, "ERL_EPMD_PORT": str(node.ports["epmd"]),
-            "RABBITMQ_NODENAME": f"jepmon{node.ports['client']}@localhost", "RABBITMQ_NODE_IP_ADDRESS": node.address,
+            "HOME": str(node.folder), "LANG": "C.UTF-8", "ERL_EPMD_ADDRESS": node.address, "ERL_EPMD_PORT": str(self.nodes[0].ports["epmd"]),
+            "RABBITMQ_USE_LONGNAME": "true", "RABBITMQ_NODENAME": name_of(node), "RABBITMQ_NODE_IP_ADDRESS": node.address,
             "RABBITMQ_NODE_PORT": str(node.ports["client"]), "RABBITMQ_DIST_PORT": str(node.ports["distribution"]),
             "RABBITMQ_MNESIA_BASE": str(node.folder / "data"), "RABBITMQ_LOG_BASE": str(node.folder), "RABBITMQ_LOGS": "-",
             "RABBITMQ_CONFIG_FILE": str(node.folder / "rabbitmq.conf"), "RABBITMQ_CONF_ENV_FILE": str(node.folder / "none"),
             "RABBITMQ_ENABLED_PLUGINS_FILE": str(node.folder / "plugins"), "RABBITMQ_PID_FILE": str(node.folder / "pid"),
-            "RABBITMQ_SERVER_ADDITIONAL_ERL_ARGS": "+S 2:2 +sbwt none +sbwtdcpu none +sbwtdio none",  # it starts with less work
+            "RABBITMQ_SERVER_ADDITIONAL_ERL_ARGS": f"+S 2:2 +sbwt none +sbwtdcpu none +sbwtdio none {TICKS}",  # it starts with less work
         }
 
     def command(self, node: Node) -> List[str]:
         return ["sh", "-c", START, str(PROGRAM)]
 
     def client(self, number: int) -> Client:
-        return PLANTED.get(self.plant, Queue)(self.nodes[0].at, self.came, self.names)
+        return PLANTED.get(self.plant, Queue)(self.node_of(number).at, self.kind, self.came, self.names)
 
     def begun(self) -> None:
-        amqp = Amqp(self.nodes[0].at, self.patience)
+        amqp = Amqp(self.nodes[0].at, self.patience, self.kind)
         for number in range(Names.AHEAD):
             amqp.declare(f"q{number}", self.plant != "early")
         amqp.close()
         time.sleep(Names.SETTLED)
 
     def ready(self, node: Node) -> None:
-        amqp = Amqp(node.listens_at, 5.0)
+        amqp = Amqp(node.listens_at, 5.0, self.kind)
         try:
             amqp.get("ready")
         finally:
             amqp.close()
+
+
+def name_of(node: Node) -> str:
+    """The name of the node in Erlang."""
+    return f"jepmon{node.ports['client']}@{node.address}"

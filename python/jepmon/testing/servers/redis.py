@@ -11,7 +11,7 @@ from typing import Dict, List, Optional, Sequence, Type
 
 from ...endings import Exceptions
 from ..node import At, Node
-from ..server import Client, Leases, Plant, Server
+from ..server import ALL_STRIKES, Client, Leases, Plant, Server
 from ..wire.resp import Redis as Connection
 from ..wire.resp import RedisError
 
@@ -92,14 +92,15 @@ class ShortLock(Lock):
     lease, work = 20, 0.04
 
 
-
 CLIENTS: Dict[str, Type[RedisClient]] = {"register": Register, "mutex": Lock, "fifo-queue": Queue, "set": Set}
 
 
 class Redis(Server):
     programs = {"redis-server": "redis-server"}
     objects = {**CLIENTS}
-    size, sizes, in_turn, survives_power = 2, range(1, 6), True, True
+    # After a tear it may not start again ("Bad file format"): of its last command the first sector is lost, and the second one is kept.
+    bears = {model: (*ALL_STRIKES, "power") for model in CLIENTS}
+    size, sizes, in_turn = 2, range(1, 6), True
     durabilities = {"always": "each command is synced before it is answered", "everysec": "the file is synced each second, as by default",
                     "no": "the file is never synced"}
     plants = {

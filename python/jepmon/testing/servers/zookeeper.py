@@ -15,13 +15,14 @@ from typing import Dict, List, Optional, Type
 from ...endings import Exceptions
 from ..errors import ServerError
 from ..node import At, Node
-from ..server import Client, Plant, Server
+from ..server import ALL_STRIKES, Client, Plant, Server
 from ..wire.zookeeper import BAD_VERSION, NoSession, ZooKeeperError
 from ..wire.zookeeper import ZooKeeper as Connection
 
 TIMEOUT, LEADER_TIMEOUT = 1.0, 0.3  # seconds
 TICK = 500  # milliseconds
 JAR = pathlib.Path("/usr/share/java/zookeeper.jar")
+LOGGING = JAR.with_name("slf4j-simple.jar")  # if it is there, the servers say why they end
 MAIN = "org.apache.zookeeper.server.quorum.QuorumPeerMain"
 
 
@@ -75,6 +76,8 @@ class ZooKeeper(Server):
     objects = CLIENTS
     ports = ("client", "peer", "election")
     size, sizes, survives_power = 3, range(1, 8), True
+    # A record of its log that is torn ends a server for good, so `tear` is not among those that it ought to bear.
+    bears = {model: (*ALL_STRIKES, "power") for model in CLIENTS}
     plants = {"own": Plant("reads are of what the client's server has", "register", "pause,part")}
 
     @classmethod
@@ -95,7 +98,7 @@ class ZooKeeper(Server):
         (node.folder / "zoo.cfg").write_text("\n".join(lines) + "\n")
 
     def command(self, node: Node) -> List[str]:
-        return ["java", "-Xmx128m", "-XX:+UseSerialGC", "-XX:TieredStopAtLevel=1", "-cp", str(JAR), MAIN, str(node.folder / "zoo.cfg")]
+        return ["java", "-Xmx128m", "-XX:+UseSerialGC", "-XX:TieredStopAtLevel=1", "-cp", f"{JAR}:{LOGGING}", MAIN, str(node.folder / "zoo.cfg")]
 
     def ready(self, node: Node) -> None:
         if not mode(node, TIMEOUT):

@@ -20,7 +20,7 @@ if TYPE_CHECKING:
 
 PROCESS, LINKS, CLOCK, OTHER = "process", "links", "clock", "other"  # lanes
 ALONE = frozenset([PROCESS, CLOCK])  # lanes of which a node bears one strike at a time
-NEEDS_LINKS, NEEDS_PACKETS, NEEDS_DISK, NEEDS_CLOCK, NEEDS_CREW = "links", "packets", "disk", "clock", "crew"
+NEEDS_LINKS, NEEDS_PACKETS, NEEDS_DISK, NEEDS_CLOCK, NEEDS_CREW, NEEDS_SPARE = "links", "packets", "disk", "clock", "crew", "spare"
 
 Values = Mapping[str, float]  # of the parameters, by name
 During = Callable[["Cluster", "Node", Values], ContextManager[None]]
@@ -50,5 +50,5 @@ class Strike(NamedTuple):
     lane: str = OTHER  # strikes of different lanes, or on different nodes, go on at once
     parameters: Mapping[str, Parameter] = {}
     nodes: int = 1  # that there must be at least
-    is_single: bool = False  # one at a time, whichever node is struck
+    is_single: bool = False  # of all such strikes one at a time, whichever node is struck
     needs: FrozenSet[str] = frozenset()  # NEEDS_..: what the machine, or the test, must have

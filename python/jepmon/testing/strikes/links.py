@@ -21,7 +21,7 @@ def struck(pairs: Pairs, effect: Callable[[Values], Effect]) -> During:
     @contextlib.contextmanager
     def during(cluster: Cluster, node: Node, values: Values) -> Iterator[None]:
         assert cluster.links is not None, "a strike on links in a cluster without any"
-        names = [one.name for one in cluster.nodes]
+        names = [one.name for one in cluster.running]
         others = names[node.number + 1:] + names[:node.number]
         held = cluster.links.hold(pairs(node.name, others), effect(values))
         try:

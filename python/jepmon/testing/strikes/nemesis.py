@@ -17,6 +17,7 @@ if TYPE_CHECKING:
     from ..node import Node
 
 GLANCE = 0.1  # seconds between two looks at the nodes
+SINGLE = "single"  # the lane of all strikes that are one at a time
 
 
 class Nemesis:
@@ -105,7 +106,7 @@ class Nemesis:
         """The node that is struck: the one that was planned, or else the next one that no other strike of this lane holds. None where the
         time is up before there is one."""
         kind = self._strikes[planned.name]
-        single = [(planned.name, "")] if kind.is_single else []
+        single = [(SINGLE, "")] if kind.is_single else []
         first = self._cluster.nodes[planned.node]
         if planned.at_leader:
             first = self._cluster.leader() or first

@@ -16,6 +16,7 @@ PUBLISH, GET, GET_OK, GET_EMPTY, ACK, NACK = ((60, number) for number in (40, 70
 SELECT, SELECT_OK = (85, 10), (85, 11)
 DURABLE, PERSISTENT, HAS_DELIVERY_MODE = 2, 2, 0x1000
 WAIT = 0  # no bit is set
+CLASSIC, QUORUM = "classic", "quorum"  # queues: of one node, and replicated by Raft
 
 Method = Tuple[int, int]
 
@@ -31,10 +32,11 @@ class Message(NamedTuple):
 
 class Amqp:
     """A connection, made when it is needed. `publish` and `get` are what may fail half-way; all that comes before them, as the
-    declaration of a queue, has sent nothing of a message: a ConnectionRefusedError."""
+    declaration of a queue, has sent nothing of a message: a ConnectionRefusedError. `kind` is that of the queues that it declares."""
 
-    def __init__(self, at: At, timeout: float) -> None:
+    def __init__(self, at: At, timeout: float, kind: str = CLASSIC) -> None:
         self.stream = Stream(at, timeout)
+        self._kind = short("x-queue-type") + b"S" + long(kind)
         self._declared: Set[str] = set()
 
     def publish(self, queue: str, body: bytes, confirmed: bool = True, durable: bool = True) -> None:
@@ -84,7 +86,7 @@ class Amqp:
             self.stream.begin()
             if queue not in self._declared:
                 bits = bytes([DURABLE if durable else WAIT])
-                self._ask(method(DECLARE, struct.pack("!H", 0), short(queue), bits, struct.pack("!I", 0)), DECLARE_OK)
+                self._ask(method(DECLARE, struct.pack("!H", 0), short(queue), bits, struct.pack("!I", len(self._kind)), self._kind), DECLARE_OK)
                 self._declared.add(queue)
         except OSError as fault:
             self.close()
@@ -96,8 +98,7 @@ class Amqp:
         self.stream.open()
         self.stream.send(b"AMQP\0\0\x09\1")
         self._expect(START)
-        login = struct.pack("!I", 12) + b"\0guest\0guest"
-        self._ask(method(START_OK, struct.pack("!I", 0), short("PLAIN"), login, short("en_US")), TUNE, channel=0)
+        self._ask(method(START_OK, struct.pack("!I", 0), short("PLAIN"), long("\0guest\0guest"), short("en_US")), TUNE, channel=0)
         self._send(METHOD, method(TUNE_OK, struct.pack("!HIH", 1, 131_072, 0)), channel=0)
         self._ask(method(OPEN, short("/"), short(""), bytes([0])), OPEN_OK, channel=0)
         self._ask(method(CHANNEL_OPEN, short("")), CHANNEL_OPEN_OK)
@@ -146,3 +147,8 @@ def method(kind: Method, *parts: bytes) -> bytes:
 def short(word: str) -> bytes:
     """A short string."""
     return bytes([len(word)]) + word.encode()
+
+
+def long(word: str) -> bytes:
+    """A long string."""
+    return struct.pack("!I", len(word)) + word.encode()

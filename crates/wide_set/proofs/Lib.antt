@@ -1,0 +1,17 @@
+pub mod Moments
+pub mod Lists
+pub mod Calls
+pub mod Answering
+pub mod Failing
+pub mod Carrying
+pub mod Putting
+pub mod Events
+pub mod Adding
+pub mod Reading
+pub mod Loops
+pub mod Places
+pub mod Asking
+pub mod Taking
+pub mod Searching
+pub mod Beginning
+pub mod Prepared

@@ -1,0 +1,20 @@
+use Rattle.std.proofs.Common.{◌≡◌, false, cond, Some, refl, ap, ◌∙◌, to_z, of_z, w64}
+use Rattle.std.specs.Ordering.{int_cmp, is_eq}
+use Rattle.std.specs.BTreeMap.{get, get_by}
+use Rattle.std.proofs.lemmas.Int.{to_z-of_z}
+use Rattle.wide_set.specs.Facts.{settled_with}
+use Rattle.wide_set.proofs.Putting.{same_facts}
+use Rattle.wide_set.proofs.known.Known.crash.Goals as goal
+
+pub returns-clause-ok : goal.returns-clause-ok
+returns-clause-ok c =
+    let old = c.args.self.now in
+    let v = c.args.value in
+    let passed = to_z w64 (of_z w64 v) in
+    let same : passed ≡ v = to_z-of_z w64 v c.ranges.value in
+    let was : c.copied-was.result ≡ get int_cmp old.adds v = c.copied-was.ensures ∙ c.get.ensures.value ∙ ap (λ k. get_by (int_cmp k) old.adds) same in
+    let new : c.with_add.result ≡ settled_with (get int_cmp old.adds v) c.args.since false = c.with_add.ensures ∙ ap (λ o. settled_with o c.args.since false) was in
+    same_facts _ _ c.in_ok-moment.ensures c.drop_pending.ensures
+    (λ w. c.in_ok-insert.ensures.updates.0 w ∙ (λ i. cond (is_eq (int_cmp (same i) w)) (Some (new i)) (get int_cmp old.adds w)))
+    refl
+    refl

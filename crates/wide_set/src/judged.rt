@@ -1,0 +1,111 @@
+//! Sets that are judged live.
+ghost use Rattle.std.specs.Prelude.{◌≡◌, ◌≢◌, ◌↔◌, [], List, Some, None, IfOk, OnOk, OnErr, IsTrue};
+ghost use Rattle.events.specs.Events.{act_by, mark_by_act, Mark};
+ghost use Rattle.wide_set.specs.declared.change.Change.TheVariants.{Dies};
+ghost use Rattle.wide_set.specs.Facts.{AreFacts, facts_of};
+ghost use Rattle.wide_set.specs.Kept.{StandBy};
+ghost use Rattle.wide_set.specs.Views.{kills, view_of};
+ghost use Rattle.wide_set.specs.Meaning.{Commits, IsCopy, Observes, Prepares};
+
+use crate::change::Change;
+use crate::known::Known;
+use events::EventKind;
+use models::Op;
+use std::alloc::{AllocError, Global};
+
+/// The history of one set, judged as its events come, by what its reads have answered and when: it is linearizable exactly if the
+/// answers form a chain that fits the times (`set_chains`). Nothing branches, so nothing is counted, and no answer is unknown.
+///
+/// An event can be prepared, which may fail for want of memory and leaves what the set stands for, and then committed, which takes
+/// no memory. What was prepared before is dropped.
+#[derive(Drop)]
+pub struct WideSet {
+    known: Known,
+    /// What the last event made of the facts, until the next one carries it out.
+    due: Option<Change>,
+    /// What is prepared.
+    next: Option<Change>,
+}
+
+// Whether the change is that the history is linearizable no longer.
+fn is_dead(change: &Option<Change>) -> bool
+    ensures { IsTrue result ↔ (change.now ≡ Some Dies) }
+{
+    matches!(change, Some(Change::Dies))
+}
+
+// Whether an event of this kind can kill.
+fn can_kill(kind: EventKind) -> bool
+    ensures { result ≡ kills kind }
+{
+    matches!(kind, EventKind::Ok | EventKind::Fail)
+}
+
+impl WideSet {
+    /// A history without events. Takes constant time, and no memory.
+    pub fn start(alloc: Global) -> WideSet
+        ensures { (view_of result).stands [] }
+    {
+        WideSet {
+            known: Known::new(alloc),
+            due: None,
+            next: None,
+        }
+    }
+
+    // Carries out what is due.
+    fn settle(&mut self) -> Result<(), AllocError>
+        requires { self.old.due ≢ Some Dies }
+        ensures ok { OnOk result ((self.new.due ≡ None)
+            × ((marks : List Mark) → StandBy self.old.due (facts_of self.old.known) marks
+            → AreFacts (facts_of self.new.known) marks)) }
+        ensures err { OnErr result ((marks : List Mark) → StandBy self.old.due (facts_of self.old.known) marks
+            → StandBy self.new.due (facts_of self.new.known) marks) }
+    {
+        if let Some(change) = &self.due {
+            self.known.carry_out(change)?;
+            self.due = None;
+        }
+        Ok(())
+    }
+
+    /// Prepares an event of an operation, and answers whether the history with it is linearizable. The id is the index of the
+    /// operation's invocation, which is new where the event is one, and else is that of an open operation; the part of an ok is
+    /// the answer. An invocation and an info are answered true, since they kill nothing. The set stands for what it stood for
+    /// until [`commit`](Self::commit); after `AllocError` no commit must follow. What was prepared before is dropped. The ok of
+    /// a read takes the time of its members, of the values of which an add is done, and of the answers that have more; another
+    /// event that of the open operations.
+    pub fn prepare(&mut self, id: u32, kind: EventKind, op: &Op) -> Result<bool, AllocError>
+        ensures { Prepares (view_of self.old) (view_of self.new) (mark_by_act id id (act_by kind op.now)) result }
+    {
+        self.next = None;
+        if is_dead(&self.due) {
+            self.next = Some(Change::Dies);
+            return Ok(!can_kill(kind));
+        }
+        self.settle()?;
+        let change = Some(self.known.after_event(id, kind, op)?);
+        let alive = !is_dead(&change);
+        self.next = change;
+        Ok(alive)
+    }
+
+    /// Carries out what is prepared, if anything is. It takes no memory and cannot fail.
+    pub fn commit(&mut self)
+        ensures { Commits (view_of self.old) (view_of self.new) }
+    {
+        if self.next.is_some() {
+            self.due = self.next.take();
+        }
+    }
+
+    /// An event of an operation: [`prepare`](Self::prepare) and [`commit`](Self::commit) in one. On `AllocError` the set stands for
+    /// what it stood for.
+    pub fn observe(&mut self, id: u32, kind: EventKind, op: &Op) -> Result<bool, AllocError>
+        ensures { Observes (view_of self.old) (view_of self.new) (mark_by_act id id (act_by kind op.now)) result }
+    {
+        let alive = self.prepare(id, kind, op)?;
+        self.commit();
+        Ok(alive)
+    }
+}

@@ -1,0 +1,120 @@
+//! Histories of sets, event by event.
+use events::EventKind;
+use events::EventKind::{Fail as Failed, Info as Crashed, Invoke, Ok as Done};
+use models::Name::{Add, Read, Write};
+use models::{Name, Op, Part};
+use std::alloc::{AllocError, Global};
+use std::test::Fail;
+use values::Members;
+use wide_set::WideSet;
+
+// What an event carries: nothing, a value, or the members that a read has answered.
+#[derive(Clone, Copy)]
+enum Said {
+    Nil,
+    One(i64),
+    All(&'static [i64]),
+}
+
+use Said::{All, Nil, One};
+
+fn part_of(alloc: Global, said: Said) -> Result<Part, AllocError> {
+    match said {
+        Nil => Ok(Part::Nil),
+        One(value) => Ok(Part::Int(value)),
+        All(values) => Ok(Part::Set(Members::of_unordered(Vec::from_slice(alloc, values)?)?)),
+    }
+}
+
+// An event of the operation with this id, and whether the history with it is linearizable.
+type Row = (u32, EventKind, Name, Said, bool);
+
+fn judge(alloc: Global, rows: &[Row]) -> Result<bool, AllocError> {
+    let mut set = WideSet::start(alloc);
+    for row in rows {
+        let (id, kind, name, said, want) = *row;
+        let op = Op {
+            name,
+            key: 7,
+            part: part_of(alloc, said)?,
+        };
+        if set.observe(id, kind, &op)? != want {
+            return Ok(false);
+        }
+    }
+    Ok(true)
+}
+
+const STALE_READ: [Row; 4] = [
+    (0, Invoke, Add, One(5), true),
+    (0, Done, Add, One(5), true),
+    (1, Invoke, Read, Nil, true),
+    (1, Done, Read, All(&[]), false),
+];
+
+const CROSSED_ANSWERS: [Row; 8] = [
+    (0, Invoke, Add, One(5), true),
+    (1, Invoke, Add, One(6), true),
+    (2, Invoke, Read, Nil, true),
+    (3, Invoke, Read, Nil, true),
+    (2, Done, Read, All(&[5]), true),
+    (3, Done, Read, All(&[6]), false),
+    (0, Done, Add, One(5), false),
+    (4, Invoke, Read, Nil, true),
+];
+
+const FAILED_ADD_WAS_READ: [Row; 4] = [
+    (0, Invoke, Add, One(5), true),
+    (1, Invoke, Read, Nil, true),
+    (1, Done, Read, All(&[5]), true),
+    (0, Failed, Add, One(5), false),
+];
+
+const ANOTHER_ADD_STAYS: [Row; 7] = [
+    (0, Invoke, Add, One(5), true),
+    (1, Invoke, Add, One(5), true),
+    (2, Invoke, Read, Nil, true),
+    (2, Done, Read, All(&[5]), true),
+    (0, Failed, Add, One(5), true),
+    (1, Crashed, Add, One(5), true),
+    (3, Invoke, Write, One(5), true),
+];
+
+const READ_BACKWARDS: [Row; 7] = [
+    (0, Invoke, Add, One(5), true),
+    (1, Invoke, Read, Nil, true),
+    (1, Done, Read, All(&[5]), true),
+    (2, Invoke, Read, Nil, true),
+    (2, Done, Read, All(&[5]), true),
+    (3, Invoke, Read, Nil, true),
+    (3, Done, Read, All(&[]), false),
+];
+
+const LATE_ANSWER: [Row; 8] = [
+    (0, Invoke, Read, Nil, true),
+    (1, Invoke, Add, One(5), true),
+    (1, Done, Add, One(5), true),
+    (2, Invoke, Add, One(6), true),
+    (2, Crashed, Add, One(6), true),
+    (3, Invoke, Read, Nil, true),
+    (3, Done, Read, All(&[6, 5]), true),
+    (0, Done, Read, All(&[]), true),
+];
+
+const NIL_IS_NO_SET: [Row; 2] = [(0, Invoke, Read, Nil, true), (0, Done, Read, Nil, false)];
+
+#[test]
+fn wide_set_answers(rt: HostRuntime) -> Result<(), Fail> {
+    let alloc = rt.alloc();
+    assert!(rt; judge(alloc, &STALE_READ)?, "stale read");
+    assert!(rt; judge(alloc, &CROSSED_ANSWERS)?, "crossed answers");
+    assert!(rt;
+        judge(alloc, &FAILED_ADD_WAS_READ)?,
+        "a failed add was read"
+    );
+    assert!(rt; judge(alloc, &ANOTHER_ADD_STAYS)?, "another add stays");
+    assert!(rt; judge(alloc, &READ_BACKWARDS)?, "read backwards");
+    assert!(rt; judge(alloc, &LATE_ANSWER)?, "late answer");
+    assert!(rt; judge(alloc, &NIL_IS_NO_SET)?, "nil is no set");
+    Ok(())
+}

@@ -1,0 +1,161 @@
+"""A verdict that rests on a guess is refused if the input, read another way, has another verdict: the options that settle it are named."""
+from __future__ import annotations
+
+from typing import Callable, Dict, Iterator, List, Mapping, NamedTuple, Optional, Sequence
+
+from ..errors import ProgramError
+from ..forms import Refused
+from ..forms.account import MODEL, TYPE, Guess
+from ..forms.door import Translation
+from ..forms.mapping import LINES, TIMES
+from ..forms.mapping_words import KINDS
+from ..forms.order import APART, BY_TIMES, EITHER
+from ..forms.outcomes import BY_MAPPING
+from ..forms.recorded import Recorded
+from ..from_jepsen.meant import NUMBERS, text_of
+from ..history import Event
+from ..kinds import REGISTERS
+from ..program import KeyLine
+from . import doubts
+from .bad_keys import DEAD
+from .models import ALIKE, Choice
+from .words import Given
+
+VERDICTS = ("legal", "illegal")
+OF_EMPTY_QUEUES = ("", "0", "-1", "None", "null", "NULL", "false", "False", "empty")  # answers that may say that there was nothing
+MOST_KEYS = 64  # illegal ones of which it is asked whether an answer came out of nowhere
+
+
+class Way(NamedTuple):
+    """Another way to read the input."""
+
+    change: Callable[[Given], Given]
+    assumed: str  # how it was read
+    otherwise: str  # how it is read so
+    option: str  # what settles it
+
+
+class Judged(NamedTuple):
+    """What was judged, and what came of it."""
+
+    found: Recorded
+    choice: Choice
+    word: str
+    keys: Sequence[KeyLine]
+    concurrency: int
+    events_of: Callable[[List[int]], Mapping[int, Sequence[Event]]]
+
+
+def test(given: Given, judged: Judged, judge: Callable[[Given], str]) -> None:
+    """Refuses a verdict that another reading of the input does not have. `judge` gives the verdict of such a reading."""
+    if judged.found.is_own or judged.word not in VERDICTS:
+        return
+    _test_sets(judged)
+    ways = list(_ways(given, judged))
+    for tried in [[way] for way in ways] + ([ways] if len(ways) > 1 else []):
+        _test_one(given, judged.word, tried, judge)
+    if judged.word == "illegal" and any(guess.assumed == APART for guess in judged.found.account.guesses):
+        raise Refused("the history is illegal, and by their times some clients had long ended when others began: say --skew 0ms if their clocks "
+                      "agree, or by how much they may be wrong, as --skew 5s")
+
+
+def _test_sets(judged: Judged) -> None:
+    """Refuses a set that is illegal by a read without an answer: it may have read anything."""
+    dead = {line.key: line for line in judged.keys if line.status in DEAD and line.model == "set"}
+    for key, events in judged.events_of(list(dead)[:MOST_KEYS]).items() if dead else ():
+        empty = doubts.read_without_answer(dead[key], events, judged.concurrency)
+        if empty is not None:
+            raise Refused(f"line {empty.line}: this read of the set {judged.found.key_names.get(key, str(key))} is ok, and has no answer: let it say "
+                          "what it found, or that it failed")
+
+
+def _test_one(given: Given, word: str, ways: List[Way], judge: Callable[[Given], str]) -> None:
+    changed = given
+    for way in ways:
+        changed = way.change(changed)
+    try:
+        other = judge(changed)
+    except (Refused, ProgramError):
+        return
+    if other in (*VERDICTS, "unknown") and other != word:
+        raise Refused(f"the verdict rests on a guess: the history is {word} if {' and '.join(way.assumed for way in ways)}, and {other} if "
+                      f"{' and '.join(way.otherwise for way in ways)}; say {', and '.join(way.option for way in ways)}")
+
+
+def _ways(given: Given, judged: Judged) -> Iterator[Way]:
+    """The other ways to read the input."""
+    for guess in judged.found.account.guesses:
+        yield from _of_both(guess, given)
+        if judged.word == "illegal":
+            yield from _of_order(guess, judged)
+    if judged.word == "illegal":
+        yield from _of_answers(given, judged)
+
+
+def _of_both(guess: Guess, given: Given) -> Iterator[Way]:
+    """Those by which an illegal history may be legal, and a legal one illegal."""
+    if guess.of == TYPE:
+        yield Way(lambda given: given._replace(values=NUMBERS), guess.assumed, "they are one", "--values exact or --values number")
+    if guess.option == BY_MAPPING:
+        yield Way(_refusals_of_http, guess.assumed, "4xx are failures", f"{BY_MAPPING}, as {{\"outcomes\": {{\"409\": \"fail\"}}}}")
+    word, _, said = guess.option.partition(" ")
+    if word == "--outcome":
+        what, _, kind = said.partition("=")
+        for other in KINDS:
+            if other != kind:
+                yield Way(_with_outcome(what, other), guess.assumed, f"taken as :{other}", f"{guess.option} or --outcome {what}={other}")
+
+
+def _refusals_of_http(given: Given) -> Given:
+    """With statuses by which a server refuses what it was asked as failures."""
+    failures = {str(status): "fail" for status in range(400, 500)}
+    return given._replace(mapping=given.mapping._replace(outcomes={**failures, **given.mapping.outcomes}))
+
+
+def _with_outcome(what: str, kind: str) -> Callable[[Given], Given]:
+    return lambda given: given._replace(mapping=given.mapping._replace(contradictions={**given.mapping.contradictions, what: kind}))
+
+
+def _of_order(guess: Guess, judged: Judged) -> Iterator[Way]:
+    """Those by which less is known of the order of events, or of messages."""
+    if guess.option == EITHER:
+        yield Way(_ordered(TIMES), "events of several clients with one time took place in the order in which they stand", "they were open at once", EITHER)
+    elif guess.option == BY_TIMES and judged.found.translation is not None and are_mixed(judged.found.translation):
+        yield Way(_ordered(LINES), "events took place in the order of their times", "they took place in that of their lines",
+                  f"{BY_TIMES} or --order lines")
+    elif guess.of == MODEL and judged.choice.common in ALIKE:
+        model, other = judged.choice.common, ALIKE[judged.choice.common]
+        yield Way(lambda given: given._replace(model=other), f"its keys are of the model {model}", f"they are of the model {other}",
+                  f"--model {model} or --model {other}")
+
+
+def _ordered(order: str) -> Callable[[Given], Given]:
+    return lambda given: given._replace(mapping=given.mapping._replace(order=order))
+
+
+def are_mixed(made: Translation) -> bool:
+    """Whether the calls of clients go back in time from line to line more often than files of these clients do, one behind another."""
+    begun = [(line, rank, process) for rank, (kind, process, line) in enumerate(made.moments()) if kind == ":invoke"]
+    ranks = [rank for _, rank, _ in sorted(begun)]
+    return sum(after < before for before, after in zip(ranks, ranks[1:])) >= len({process for _, _, process in begun})
+
+
+def _of_answers(given: Given, judged: Judged) -> Iterator[Way]:
+    """That by which answers out of nowhere are those of missing keys, or of what keys held at first."""
+    if given.initial is not None or given.said.missing_is_judged:
+        return
+    dead = {line.key: line for line in judged.keys if line.status in DEAD}
+    found: Dict[str, None] = {}
+    for key, events in judged.events_of(list(dead)[:MOST_KEYS]).items():
+        value = doubts.strange_answer(dead[key], events, judged.concurrency)
+        if value is None:
+            continue
+        names = {each: text_of(judged.found.value_names.get(each, str(each))) for each in {value, *doubts.asked(events)}}
+        is_one = list(names.values()).count(names[value]) == 1  # and no value that is written looks like it
+        if is_one and (dead[key].model in REGISTERS or names[value] in OF_EMPTY_QUEUES):
+            found[names[value]] = None
+    if found:
+        texts = tuple(found)
+        words = " ".join(map(doubts.quoted, texts))
+        yield Way(lambda given: given._replace(absent=texts), f"no key that answered {words} held it", "that is the answer for a missing key",
+                  f"--absent {words}, --initial {words} if a key held it before the test, or --nil-is-absent if it is neither")

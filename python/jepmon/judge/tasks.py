@@ -1,0 +1,27 @@
+"""How a recorded history is to be judged, and what comes of one that is judged by one check."""
+from __future__ import annotations
+
+from ..forms import Refused
+from ..forms.files import Source
+from ..forms.recorded import Recorded, recorded
+from ..program import Options
+from . import doubts, models
+from .judging import Task, judged
+from .words import Given
+
+
+def of(found: Recorded, given: Given) -> Task:
+    """How the history is to be judged."""
+    choice = models.chosen(found.facts, given.model, found.stated, found.possible)
+    models.account_for(choice, found.account)
+    doubts.account_for_types(found.key_names, found.value_names, given, found.account)
+    concurrency = given.concurrency or models.concurrency_of(found.facts)
+    if concurrency is None:
+        raise Refused("its processes fit no concurrency from 1 to 64")
+    options = Options(concurrency, choice.common or "register", given.budget, given.workers)
+    return Task(found.text, choice, dict(found.budgets), options)
+
+
+def word_of(source: Source, given: Given) -> str:
+    """The verdict of a history, read as these words say."""
+    return judged(of(recorded(source, given.said), given)).word
