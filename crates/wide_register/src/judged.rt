@@ -1,0 +1,122 @@
+//! Registers that are judged live.
+ghost use Rattle.std.specs.Prelude.{◌≡◌, ◌≤◌, ◌+◌, ◌*◌, IfOk};
+
+use crate::kept::Kept;
+use crate::next::{deed_of, tries_of};
+use events::EventKind;
+use models::Op;
+use std::alloc::{AllocError, Global};
+
+/// What an event leaves.
+#[derive(Clone, Copy, Debug, PartialEq, Eq)]
+pub enum Step {
+    /// Some lean end is left: the history is linearizable.
+    Alive,
+    /// No lean end is left: the history is not linearizable.
+    Dead,
+    /// There were more lean ends than the budget just before the event.
+    Over,
+}
+
+/// The history of one register, judged as its events come, by its lean ends: it is linearizable exactly if it has one (`lean_ends`).
+///
+/// An event can be prepared, which may fail for want of memory and leaves what the register stands for, and then committed, which takes no
+/// memory. What was prepared before is dropped.
+#[derive(Drop)]
+pub struct WideRegister {
+    alloc: Global,
+    budget: u32,
+    applied: u64,
+    kept: Kept,
+    /// What is prepared.
+    next: Option<Kept>,
+}
+
+// Whether an event of this kind is an ok.
+fn is_ok(kind: EventKind) -> bool {
+    matches!(kind, EventKind::Ok)
+}
+
+// Whether an event of this kind can kill.
+fn can_kill(kind: EventKind) -> bool {
+    matches!(kind, EventKind::Ok | EventKind::Fail)
+}
+
+impl WideRegister {
+    /// A history without events. The budget is the greatest number of lean ends that an ok may meet. Takes constant time.
+    pub fn start(alloc: Global, budget: u32) -> Result<Self, AllocError> {
+        Ok(WideRegister {
+            alloc,
+            budget,
+            applied: 0,
+            kept: Kept::start(alloc)?,
+            next: None,
+        })
+    }
+
+    /// How many steps were made so far: each tries an operation at a lean end.
+    pub fn applied(&self) -> u64 {
+        self.applied
+    }
+
+    /// How many lean ends there are. Takes constant time.
+    pub fn ends(&self) -> usize {
+        self.kept.rows.len()
+    }
+
+    // Counts the steps of an event.
+    fn count(&mut self, id: u32, kind: EventKind, op: &Op) {
+        let deed = deed_of(&self.kept.calls, id, kind, op);
+        let tries = tries_of(&self.kept.calls, &deed);
+        let steps = (self.kept.rows.len() as u64).saturating_mul(tries);
+        self.applied = self.applied.saturating_add(steps);
+    }
+
+    // Whether the event is an ok that meets more lean ends than the budget.
+    fn is_over(&self, kind: EventKind) -> bool {
+        is_ok(kind) && self.kept.rows.len() > self.budget as usize
+    }
+
+    /// Prepares an event of an operation, and gives its answer. The id is the index of the operation's invocation, which is new if the event
+    /// is one, and else is that of an open operation; the part of an ok is the answer. Over if the event is an ok and more lean ends than the
+    /// budget stand just before it: then nothing is prepared. An invocation and an info are answered Alive, since they kill nothing. The
+    /// register stands for what it stood for until [`commit`](Self::commit); after `AllocError` no commit must follow. What was prepared before
+    /// is dropped. Takes the time of the pairs of the rows that are made.
+    pub fn prepare(&mut self, id: u32, kind: EventKind, op: &Op) -> Result<Step, AllocError> {
+        self.next = None;
+        if self.is_over(kind) {
+            return Ok(Step::Over);
+        }
+        self.count(id, kind, op);
+        let next = self.kept.after(self.alloc, id, kind, op)?;
+        let is_dead = next.rows.is_empty() && can_kill(kind);
+        self.next = Some(next);
+        Ok(if is_dead { Step::Dead } else { Step::Alive })
+    }
+
+    /// Carries out what is prepared, if anything is. It takes no memory and cannot fail.
+    pub fn commit(&mut self) {
+        if let Some(next) = self.next.take() {
+            self.kept = next;
+        }
+    }
+
+    /// An event of an operation: [`prepare`](Self::prepare) and [`commit`](Self::commit) in one. After Over, and on `AllocError`, the register
+    /// stands for what it stood for.
+    pub fn observe(&mut self, id: u32, kind: EventKind, op: &Op) -> Result<Step, AllocError> {
+        let step = self.prepare(id, kind, op)?;
+        self.commit();
+        Ok(step)
+    }
+
+    /// An equal one; nothing is prepared of it. Takes the time of the operations and rows.
+    pub fn copy(&self) -> Result<Self, AllocError> {
+        Ok(WideRegister {
+            alloc: self.alloc,
+            budget: self.budget,
+            applied: self.applied,
+            kept: self.kept.copy(self.alloc)?,
+            next: None,
+        })
+    }
+}

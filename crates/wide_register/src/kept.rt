@@ -1,0 +1,134 @@
+//! What is kept of the history of a register.
+ghost use Rattle.std.specs.Prelude.{◌≡◌, ◌+◌, IfOk};
+ghost use Rattle.std.specs.List.{Contains};
+
+use crate::calls::{Call, What, what_of};
+use crate::left::keep_all;
+use crate::next::{Deed, deed_of, next_rows};
+use crate::row::Row;
+use events::EventKind;
+use models::Op;
+use std::alloc::{AllocError, Global};
+
+/// What is kept of a history: how many marks it has, the operations that may still take place, and the lean ends.
+#[derive(Drop)]
+pub struct Kept {
+    pub moment: u64,
+    pub calls: Vec<Call>,
+    pub rows: Vec<Row>,
+}
+
+// The operations after an invocation.
+fn calls_with(calls: &mut Vec<Call>, since: u64, id: u32, op: &Op) -> Result<(), AllocError> {
+    if let Some(what) = what_of(op.name, &op.part) {
+        calls.push(Call {
+            id,
+            what,
+            since,
+            is_open: true,
+        })?;
+    }
+    Ok(())
+}
+
+// The operation may take place no longer.
+fn calls_without(calls: &mut Vec<Call>, id: u32) {
+    calls.retain(|call| call.id != id);
+}
+
+// The operation as it is after the one with this id has crashed.
+fn crashed(call: &Call, id: u32) -> Call {
+    Call {
+        is_open: call.is_open && call.id != id,
+        ..*call
+    }
+}
+
+// Whether the operation may still take place after the one with this id has crashed.
+fn outlives(call: &Call, id: u32) -> bool {
+    call.id != id || call.what != What::Reads
+}
+
+// The operations after one has crashed.
+fn calls_crashed(alloc: Global, calls: &[Call], id: u32) -> Result<Vec<Call>, AllocError> {
+    let mut left = Vec::new(alloc);
+    for call in calls {
+        if outlives(call, id) {
+            left.push(crashed(call, id))?;
+        }
+    }
+    Ok(left)
+}
+
+impl Kept {
+    /// Of a history without events. Takes constant time.
+    pub fn start(alloc: Global) -> Result<Kept, AllocError> {
+        let mut rows = Vec::new(alloc);
+        rows.push(Row::start(alloc))?;
+        Ok(Kept {
+            moment: 0,
+            calls: Vec::new(alloc),
+            rows,
+        })
+    }
+
+    /// The same again. Takes the time of the operations and rows.
+    pub fn copy(&self, alloc: Global) -> Result<Kept, AllocError> {
+        let mut rows = Vec::new(alloc);
+        for row in &self.rows {
+            rows.push(row.copy()?)?;
+        }
+        Ok(Kept {
+            moment: self.moment,
+            calls: self.calls.clone()?,
+            rows,
+        })
+    }
+
+    // The moment of the mark after the next; `AllocError` if there are as many marks as can be counted.
+    fn next_moment(&self) -> Result<u64, AllocError>
+        ensures { IfOk result (λ moment. moment ≡ self.now.moment + 1) }
+    {
+        match self.moment.checked_add(1) {
+            Some(moment) => Ok(moment),
+            None => Err(AllocError),
+        }
+    }
+
+    // The operations that may still take place after the event.
+    fn calls_after(&self, alloc: Global, id: u32, kind: EventKind, op: &Op) -> Result<Vec<Call>, AllocError> {
+        if matches!(kind, EventKind::Info) {
+            return calls_crashed(alloc, &self.calls, id);
+        }
+        let mut calls = self.calls.clone()?;
+        if matches!(kind, EventKind::Invoke) {
+            calls_with(&mut calls, self.moment, id, op)?;
+        } else {
+            calls_without(&mut calls, id);
+        }
+        Ok(calls)
+    }
+
+    // The rows after the event.
+    fn rows_after(&self, alloc: Global, deed: &Deed, calls_after: &[Call]) -> Result<Vec<Row>, AllocError> {
+        let mut left = Vec::new(alloc);
+        for row in &self.rows {
+            let made = next_rows(alloc, row, &self.calls, self.moment, deed)?;
+            keep_all(&mut left, calls_after, made)?;
+        }
+        Ok(left)
+    }
+
+    /// What is kept after the event of an operation. The id is that of the operation, and the part of an ok is the answer.
+    pub fn after(&self, alloc: Global, id: u32, kind: EventKind, op: &Op) -> Result<Kept, AllocError> {
+        let moment = self.next_moment()?;
+        let calls = self.calls_after(alloc, id, kind, op)?;
+        let deed = deed_of(&self.calls, id, kind, op);
+        let rows = self.rows_after(alloc, &deed, &calls)?;
+        Ok(Kept {
+            moment,
+            calls,
+            rows,
+        })
+    }
+}

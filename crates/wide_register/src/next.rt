@@ -1,0 +1,220 @@
+//! What an event makes of a row.
+ghost use Rattle.std.specs.Prelude.{◌≡◌, ◌≤◌, ◌↔◌, ◌⊎◌, ◌×◌, Some, IfOk, IsTrue, OnOk, length};
+ghost use Rattle.std.specs.List.{Contains};
+ghost use Rattle.models.specs.Objects.{answer_of};
+ghost use Rattle.events.specs.Events.{act_by, mark_by_act};
+ghost use Rattle.events.specs.Events.Mark.{Crashed, Invoked, Returned};
+ghost use Rattle.wide_register.specs.Facts.{Has, HasDoor, HasNextBy, HasPuts, IsDeed, IsFree, IsNextBy, IsPut, IsPutOf};
+ghost use Rattle.wide_register.specs.declared.row.Row.{Row};
+
+use crate::calls::{Call, What, call_of, what_of};
+use crate::row::{Found, Row, has_found, has_id};
+use events::EventKind;
+use models::{Op, Part};
+use std::alloc::{AllocError, Global};
+
+/// What an event makes of each row.
+#[derive(Clone, Copy)]
+pub enum Deed {
+    /// It stays.
+    Keeps,
+    /// A read with this id begins.
+    Begins(u32),
+    /// The operation with this id is out.
+    Leaves(u32),
+    /// It is out, and must not have taken place.
+    Fails(u32),
+    /// This write of this value is done.
+    EndsWrite(Call, i64),
+    /// This read has answered this value.
+    EndsRead(Call, i64),
+    /// Nothing is left of any row.
+    Dies,
+}
+
+// What an invocation makes of each row.
+fn deed_of_invoke(calls: &[Call], id: u32, op: &Op) -> Deed
+    ensures { IsDeed calls.now (Invoked id op.now) result }
+{
+    match what_of(op.name, &op.part) {
+        Some(What::Reads) => Deed::Begins(id),
+        _ => Deed::Keeps,
+    }
+}
+
+// What an ok makes of each row.
+fn deed_of_ok(calls: &[Call], id: u32, part: &Part) -> Deed
+    ensures { IsDeed calls.now (Returned id (answer_of part.now)) result }
+{
+    let Some(call) = call_of(calls, id) else {
+        return Deed::Dies;
+    };
+    match (call.what, part) {
+        (What::Writes(value), _) => Deed::EndsWrite(call, value),
+        (What::Reads, Part::Nil) => Deed::Leaves(id),
+        (What::Reads, Part::Int(value)) => Deed::EndsRead(call, *value),
+        _ => Deed::Dies,
+    }
+}
+
+// What an info makes of each row.
+fn deed_of_info(calls: &[Call], id: u32) -> Deed
+    ensures { IsDeed calls.now (Crashed id) result }
+{
+    match call_of(calls, id) {
+        Some(Call {
+            what: What::Reads, ..
+        }) => Deed::Leaves(id),
+        _ => Deed::Keeps,
+    }
+}
+
+/// What an event of an operation makes of each row. The id is that of the operation, and the part of an ok is the answer.
+pub fn deed_of(calls: &[Call], id: u32, kind: EventKind, op: &Op) -> Deed
+    ensures { IsDeed calls.now (mark_by_act id id (act_by kind op.now)) result }
+{
+    match kind {
+        EventKind::Invoke => deed_of_invoke(calls, id, op),
+        EventKind::Ok => deed_of_ok(calls, id, &op.part),
+        EventKind::Fail => Deed::Fails(id),
+        EventKind::Info => deed_of_info(calls, id),
+    }
+}
+
+// Whether the operation is a write of the value that did not take place yet.
+fn is_free(row: &Row, call: &Call, value: i64) -> bool
+    ensures { IsTrue result ↔ IsFree row.now value call.now }
+{
+    call.what == What::Writes(value) && !has_id(&row.needed, call.id)
+}
+
+// The write takes place behind all others, and if it may, also just before the last write; the operation with the last id is done by it.
+fn put_both(
+    made: &mut Vec<Row>,
+    row: &Row,
+    calls: &[Call],
+    moment: u64,
+    write: u32,
+    value: i64,
+    done: u32,
+    may_before: bool,
+) -> Result<(), AllocError>
+    ensures each { OnOk result ((new : Row) → Contains made.new.items new → Contains made.old.items new
+        ⊎ IsPut calls.now write value moment (Some value) done row.now new
+        ⊎ (IsTrue may_before × IsPut calls.now write value row.now.door row.now.state done row.now new)) }
+    ensures old { OnOk result ((new : Row) → Contains made.old.items new → Contains made.new.items new) }
+    ensures behind { OnOk result (Has made.new.items (IsPut calls.now write value moment (Some value) done row.now)) }
+    ensures before { OnOk result (IsTrue may_before
+        → Has made.new.items (IsPut calls.now write value row.now.door row.now.state done row.now)) }
+{
+    made.push(row.put(calls, write, value, moment, Some(value), done)?)?;
+    if may_before {
+        made.push(row.put(calls, write, value, row.door, row.state, done)?)?;
+    }
+    Ok(())
+}
+
+// The write is done.
+fn end_write(
+    made: &mut Vec<Row>,
+    row: &Row,
+    calls: &[Call],
+    moment: u64,
+    write: &Call,
+    value: i64,
+) -> Result<(), AllocError>
+    ensures each { OnOk result ((new : Row) → Contains made.new.items new → Contains made.old.items new
+        ⊎ IsNextBy calls.now moment (Deed.EndsWrite write.now value) row.now new) }
+    ensures all { OnOk result (HasNextBy calls.now moment (Deed.EndsWrite write.now value) row.now made.new.items) }
+{
+    if has_id(&row.needed, write.id) {
+        made.push(row.without(write.id)?)?;
+        Ok(())
+    } else {
+        put_both(made, row, calls, moment, write.id, value, write.id, row.has_door(write))
+    }
+}
+
+// The read has answered the value.
+fn end_read(
+    made: &mut Vec<Row>,
+    row: &Row,
+    calls: &[Call],
+    moment: u64,
+    read: &Call,
+    value: i64,
+) -> Result<(), AllocError>
+    ensures each { OnOk result ((new : Row) → Contains made.new.items new → Contains made.old.items new
+        ⊎ IsNextBy calls.now moment (Deed.EndsRead read.now value) row.now new) }
+    ensures all { OnOk result (HasNextBy calls.now moment (Deed.EndsRead read.now value) row.now made.new.items) }
+{
+    let found = Found {
+        read: read.id,
+        value,
+    };
+    if has_found(&row.finds, found) {
+        made.push(row.without(read.id)?)?;
+        return Ok(());
+    }
+    let may_before = row.has_door(read);
+    for call in calls {
+        if is_free(row, call, value) {
+            let both = may_before && row.has_door(call);
+            put_both(made, row, calls, moment, call.id, value, read.id, both)?;
+        }
+    }
+    Ok(())
+}
+
+/// The rows that the event makes of the row. Takes the time of the operations, each with what the row finds.
+pub fn next_rows(
+    alloc: Global,
+    row: &Row,
+    calls: &[Call],
+    moment: u64,
+    deed: &Deed,
+) -> Result<Vec<Row>, AllocError>
+    ensures each { IfOk result (λ made. (new : Row) → Contains made.items new → IsNextBy calls.now moment deed.now row.now new) }
+    ensures all { IfOk result (λ made. HasNextBy calls.now moment deed.now row.now made.items) }
+{
+    let mut made = Vec::new(alloc);
+    match deed {
+        Deed::Keeps => made.push(row.copy()?)?,
+        Deed::Begins(id) => made.push(row.with_read(*id)?)?,
+        Deed::Leaves(id) => made.push(row.without(*id)?)?,
+        Deed::Fails(id) => {
+            if !has_id(&row.needed, *id) {
+                made.push(row.without(*id)?)?;
+            }
+        }
+        Deed::EndsWrite(write, value) => end_write(&mut made, row, calls, moment, write, *value)?,
+        Deed::EndsRead(read, value) => end_read(&mut made, row, calls, moment, read, *value)?,
+        Deed::Dies => {}
+    }
+    Ok(made)
+}
+
+// Whether the operation is a write of the value.
+fn writes(call: &Call, value: i64) -> bool
+    ensures { IsTrue result ↔ (call.now.what ≡ What.Writes value) }
+{
+    call.what == What::Writes(value)
+}
+
+/// How many operations an event tries at each row. Takes the time of the operations.
+pub fn tries_of(calls: &[Call], deed: &Deed) -> u64
+{
+    match deed {
+        Deed::EndsWrite(_, _) => 1,
+        Deed::EndsRead(_, value) => {
+            let mut many = 0;
+            for call in calls {
+                if writes(call, *value) {
+                    many += 1;
+                }
+            }
+            many
+        }
+        _ => 0,
+    }
+}
