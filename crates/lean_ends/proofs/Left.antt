@@ -77,6 +77,22 @@ some_is_left marks ends well are = (
   (λ k. (let o = sound_left_by [] marks (start ∷ []) ends well are (λ e h. subst (IsLeft []) (only_start e h) left_at_first) k.0 k.1 in (o.0, o.1, o.2.legal))),
 )
 
+-- each stands for an order of the history
+pub are_left : (marks : List Mark) (ends : List LeanEnd) → AreWellFormed marks → AreLeanEnds marks ends → (e : LeanEnd) → Contains ends e → IsLeft marks e
+are_left marks ends well are e h = sound_left_by [] marks (start ∷ []) ends well are (λ f k. subst (IsLeft []) (only_start f k) left_at_first) e h
+
+left_then_by : (before more : List Mark) (m : Mark) (ends left next : List LeanEnd) → AreLeftByAll before ends more left → AreLeftBy (before ++ more) m left next → AreLeftByAll before ends (more ++ m ∷ []) next
+left_then_by before [] m ends left next by then' = (next, subst (λ l. AreLeftBy before m l next) (sym by) (subst (λ ms. AreLeftBy ms m left next) (append-nil before) then'), refl)
+left_then_by before (n ∷ more) m ends left next by then' = (
+  by.0,
+  by.1,
+  left_then_by (before ++ n ∷ []) more m by.0 left next by.2 (subst (λ ms. AreLeftBy ms m left next) (sym (append_assoc before (n ∷ []) more)) then'),
+)
+
+-- and one more mark
+pub left_then : (marks : List Mark) (m : Mark) (ends next : List LeanEnd) → AreLeanEnds marks ends → AreLeftBy marks m ends next → AreLeanEnds (marks ++ m ∷ []) next
+left_then marks m ends next are by = left_then_by [] marks m (start ∷ []) ends next are by
+
 -- two ends that are at most each other are the same
 same_bool : (a b : Bool) → (IsTrue a → IsTrue b) → (IsTrue b → IsTrue a) → a ≡ b
 same_bool true b f g = sym (f refl)

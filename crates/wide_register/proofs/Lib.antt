@@ -1,2 +1,10 @@
 pub mod Loops
 pub mod Ends
+pub mod Moves
+pub mod Lists
+pub mod Others
+pub mod Next
+pub mod Oks
+pub mod Pending
+pub mod AtMost
+pub mod Steps

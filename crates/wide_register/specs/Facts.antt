@@ -220,3 +220,15 @@ calls_after calls now (Invoked id op) = calls_with calls now id (what_by op.name
 calls_after calls now (Returned id answer) = filter (is_other id) calls
 calls_after calls now (Failed id) = filter (is_other id) calls
 calls_after calls now (Crashed id) = map (crashed id) (filter (outlives id) calls)
+
+-- the mark makes the second of the first
+pub record IsAfter (m : Mark) (k new : Kept) : Type 0 where
+  pub moment : new.moment ≡ k.moment + 1
+  pub calls : new.calls.items ≡ calls_after k.calls.items k.moment m
+  pub deed : Deed
+  pub is_deed : IsDeed k.calls.items m deed
+  pub each : (r : Row) → Contains new.rows.items r
+      → (row : Row) × Contains k.rows.items row × IsNextBy k.calls.items k.moment deed row r
+  pub all : (row : Row) → Contains k.rows.items row → (made : List Row) × HasNextBy k.calls.items k.moment deed row made
+      × ((r : Row) → Contains made r → IsKeptIn new.calls.items new.rows.items r)
+  pub apart : AreApart new.calls.items new.rows.items
