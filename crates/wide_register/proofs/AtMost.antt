@@ -42,7 +42,7 @@ module _ (marks : List Mark) (calls : List Call) (are : AreCalls calls marks) (r
       let is_open : c.0.is_open ≡ true = (are.is_open c.0 c.1).1 (subst (IsOpen marks) (sym same) o) in
       needed_to calls other i (subst (Contains other.needed.items) same ((a.fits c.0 c.1).needed n is_open)));
     door = λ i h. (let k = door_from calls row i h in
-      door_to calls other i (k.0, k.1, k.2, (a.fits k.0 k.1).door k.3, (λ n. k.4 (a.needed k.0.id n))));
+      door_to calls other i (k.0, k.1, k.2, ((a.fits k.0 k.1).door k.3, (λ n. k.3.1 (a.needed k.0.id n)))));
     finds = λ r v h. finds_to calls other r v (a.finds (record { read = r; value = v }) (finds_from calls row r v h));
   }
 
@@ -55,6 +55,6 @@ module _ (marks : List Mark) (calls : List Call) (are : AreCalls calls marks) (r
       needed = λ n o. needed_from calls other c.id (a.open_ones c.id (needed_to calls row c.id n) ((are.is_open c h).0 o));
       door = λ d.
         (let k = door_from calls other c.id (a.door c.id (door_to calls row c.id (c, h, refl, d))) in
-        subst (λ (x : Call). x.since < other.door) (same_call calls are.once k.0 c k.1 h k.2) k.3);
+        subst (λ (x : Call). x.since < other.door) (same_call calls are.once k.0 c k.1 h k.2) k.3.0);
     };
   }

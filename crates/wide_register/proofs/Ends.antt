@@ -77,14 +77,13 @@ module _ (calls : List Call) (row : Row) where
         k.0,
         k.1,
         same,
-        lt_from k.0.since row.door b.1,
-        λ n. not_from _ a.1 (needed_to i (subst (Contains row.needed.items) same n)),
+        (lt_from k.0.since row.door b.1, (λ n. not_from _ a.1 (needed_to i (subst (Contains row.needed.items) same n)))),
       )
 
   pub door_to : (i : ℕ) → Door i → IsTrue (e.door i)
   door_to i h = and_from _ _
-      (any_to (λ (c : Call). nat_eq c.id i && nat_lt c.since row.door) calls h.0 h.1 (and_from _ _ (eq_to h.0.id i h.2) (lt_to h.0.since row.door h.3)))
-      (not_to _ (λ n. h.4 (subst (Contains row.needed.items) (sym h.2) (needed_from i n))))
+      (any_to (λ (c : Call). nat_eq c.id i && nat_lt c.since row.door) calls h.0 h.1 (and_from _ _ (eq_to h.0.id i h.2) (lt_to h.0.since row.door h.3.0)))
+      (not_to _ (λ n. h.3.1 (subst (Contains row.needed.items) (sym h.2) (needed_from i n))))
 
   abbrev pub Finds : ℕ → ℤ → Type 0
   Finds r v = Contains row.finds.items (record { read = r; value = v })

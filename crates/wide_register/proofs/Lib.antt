@@ -3,8 +3,13 @@ pub mod Ends
 pub mod Moves
 pub mod Lists
 pub mod Others
-pub mod Next
+pub mod Marks
 pub mod Oks
 pub mod Pending
 pub mod AtMost
 pub mod Steps
+pub mod Judging
+pub mod Costs
+pub mod Retained
+pub mod Finding
+pub mod Keeping

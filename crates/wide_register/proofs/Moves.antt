@@ -42,7 +42,7 @@ module _ (id : ℕ) (calls those : List Call) (others : AreOthers id calls those
       let k = door_from those new i h in
       let b = others.was k.0 k.1 in
       let same : b.0.id ≡ i = b.2 ∙ k.2 in (
-        door_to calls row i (b.0, b.1, same, (let x : b.0.since < new.door = subst (λ s. s < new.door) (sym b.3) k.3 in subst (λ s. b.0.since < s) d x), (λ j. k.4 (n k.0.id (subst (Contains row.needed.items) b.2 j) b.4))),
+        door_to calls row i (b.0, b.1, same, ((let x : b.0.since < new.door = subst (λ s. s < new.door) (sym b.3) k.3.0 in subst (λ s. b.0.since < s) d x), (λ j. k.3.1 (n k.0.id (subst (Contains row.needed.items) b.2 j) b.4)))),
         λ e. b.4 (k.2 ∙ e),
       )
 
@@ -50,7 +50,7 @@ module _ (id : ℕ) (calls those : List Call) (others : AreOthers id calls those
   door_is i d n h ne =
       let k = door_from calls row i h in
       let b = others.is k.0 k.1 (λ e. ne (sym k.2 ∙ e)) in
-      door_to those new i (b.0, b.1, b.2 ∙ k.2, (let x : b.0.since < row.door = subst (λ s. s < row.door) (sym b.3) k.3 in subst (λ s. b.0.since < s) (sym d) x), (λ j. k.4 (n k.0.id (subst (Contains new.needed.items) b.2 j))))
+      door_to those new i (b.0, b.1, b.2 ∙ k.2, ((let x : b.0.since < row.door = subst (λ s. s < row.door) (sym b.3) k.3.0 in subst (λ s. b.0.since < s) (sym d) x), (λ j. k.3.1 (n k.0.id (subst (Contains new.needed.items) b.2 j)))))
 
   pub without_is : IsWithoutId id row new → IsWithout (end_of calls row) id (end_of those new)
   without_is w = record {
@@ -110,7 +110,7 @@ module _ (marks : List Mark) (well : AreWellFormed marks) (calls : List Call) (a
           let ne : i ≢ out = (λ q. c.4 (k.2 ∙ q)) in (
             (b.door i).1 (
               subst (λ z. MayRead marks z ⊎ ((u : ℤ) × MayWrite marks z u)) same (may_come c.0 c.0.what refl c.1),
-              (λ n. k.4 (subst (Contains new.needed.items) (sym k.2) ((p.needed i).1 (⊎_elim (λ q. inl q) (λ m. inr (needed_from calls row i m)) ((b.needed i).0 n), ne)))),
+              (λ n. k.3.1 (subst (Contains new.needed.items) (sym k.2) ((p.needed i).1 (⊎_elim (λ q. inl q) (λ m. inr (needed_from calls row i m)) ((b.needed i).0 n), ne)))),
             ),
             ne,
           ))),
@@ -122,8 +122,10 @@ module _ (marks : List Mark) (well : AreWellFormed marks) (calls : List Call) (a
             d.0,
             d.1,
             d.2 ∙ c.2,
-            subst (λ s. d.0.since < s) (sym p.door) late,
-            (λ n. (let j = (p.needed i).0 (subst (Contains new.needed.items) (d.2 ∙ c.2) n) in k.1 ((b.needed i).1 (⊎_elim (λ q. inl q) (λ m. inr (needed_to calls row i m)) j.0)))),
+            (
+              subst (λ s. d.0.since < s) (sym p.door) late,
+              (λ n. (let j = (p.needed i).0 (subst (Contains new.needed.items) (d.2 ∙ c.2) n) in k.1 ((b.needed i).1 (⊎_elim (λ q. inl q) (λ m. inr (needed_to calls row i m)) j.0)))),
+            ),
           ))),
       );
       finds = λ r u. (
@@ -137,7 +139,7 @@ module _ (marks : List Mark) (well : AreWellFormed marks) (calls : List Call) (a
         (λ h. finds_to those new r u ((p.finds (record { read = r; value = u })).1 (
           ⊎_elim
             (λ j. inl (finds_from calls row r u j))
-            (λ j. (let c = read_call r j.0 in inr (j.1, c.0, c.1, c.3, are.since c.0 c.1, c.2)))
+            (λ j. (let c = read_call r j.0 in inr (j.1, (c.0, c.1, c.3, are.since c.0 c.1, c.2))))
             ((b.finds r u).0 h.0),
           h.1,
         ))),
@@ -154,19 +156,19 @@ module _ (marks : List Mark) (well : AreWellFormed marks) (calls : List Call) (a
       door = λ i. (
         (λ h. (let k = door_from those new i h in
           let d = door_was out calls those others row new i p.door (λ j m ne. (p.needed j).1 (inr m, ne)) h in (
-            (b.door i).1 (d.0, (λ q. k.4 (subst (Contains new.needed.items) (sym k.2) ((p.needed i).1 (inl q, d.1))))),
+            (b.door i).1 (d.0, (λ q. k.3.1 (subst (Contains new.needed.items) (sym k.2) ((p.needed i).1 (inl q, d.1))))),
             d.1,
           ))),
         (λ h. (let k = (b.door i).0 h.0 in
           let c = door_from calls row i k.0 in
           let d = others.is c.0 c.1 (λ q. h.1 (sym c.2 ∙ q)) in
-          let late : d.0.since < row.door = subst (λ s. s < row.door) (sym d.3) c.3 in
+          let late : d.0.since < row.door = subst (λ s. s < row.door) (sym d.3) c.3.0 in
           door_to those new i (
             d.0,
             d.1,
             d.2 ∙ c.2,
-            subst (λ s. d.0.since < s) (sym p.door) late,
-            (λ n. (let j = (p.needed i).0 (subst (Contains new.needed.items) (d.2 ∙ c.2) n) in ⊎_elim k.1 (λ m. c.4 (subst (Contains row.needed.items) (sym c.2) m)) j.0)),
+            (subst (λ s. d.0.since < s) (sym p.door) late,
+            (λ n. (let j = (p.needed i).0 (subst (Contains new.needed.items) (d.2 ∙ c.2) n) in ⊎_elim k.1 (λ m. c.3.1 (subst (Contains row.needed.items) (sym c.2) m)) j.0))),
           ))),
       );
       finds = λ r u. (
@@ -175,7 +177,7 @@ module _ (marks : List Mark) (well : AreWellFormed marks) (calls : List Call) (a
             (λ j. inl (finds_to calls row r u j))
             (λ (j : IsFoundBy calls row.door v (record { read = r; value = u })).
               let m = subst (MayRead marks) j.1.4 (is_read j.1.0 j.1.1 j.1.2) in
-              inr (m, door_to calls row r (j.1.0, j.1.1, j.1.4, j.1.3, (λ n. read_not_needed r m.0 (subst (Contains row.needed.items) j.1.4 n))), j.0))
+              inr (m, door_to calls row r (j.1.0, j.1.1, j.1.4, (j.1.3, (λ n. read_not_needed r m.0 (subst (Contains row.needed.items) j.1.4 n)))), j.0))
             k.0),
           k.1,
         ))),
@@ -186,8 +188,8 @@ module _ (marks : List Mark) (well : AreWellFormed marks) (calls : List Call) (a
               let c = read_call r j.0 in
               let d = door_from calls row r j.1 in
               let same : d.0 ≡ c.0 = same_call calls are.once d.0 c.0 d.1 c.1 (d.2 ∙ sym c.2) in
-              let early : c.0.since < row.door = subst (λ (x : Call). x.since < row.door) same d.3 in
-              inr (j.2, c.0, c.1, c.3, early, c.2))
+              let early : c.0.since < row.door = subst (λ (x : Call). x.since < row.door) same d.3.0 in
+              inr (j.2, (c.0, c.1, c.3, early, c.2)))
             ((b.finds r u).0 h.0),
           h.1,
         ))),

@@ -136,10 +136,19 @@ module _ (marks : List Mark) (well : AreWellFormed marks) (calls : List Call) (a
     a_write c v h = subst (λ i. IsWriteOf marks i v) h.1 (is_write marks well calls are row low left c v h.0 h.2).write
 
     read_of : IsRead marks id → (c : Call) × HasCall calls id Reads c
-    read_of r = let k = are.all id Reads (r, open') in (k.0, k.1, k.2, k.3)
+    read_of r = let k = are.all id Reads (r, open') in (k.0, (k.1, k.2, k.3))
 
     write_of : (v : ℤ) → IsWriteOf marks id v → (c : Call) × HasCall calls id (Writes v) c
-    write_of v w = let k = are.all id (Writes v) (record { write = w; not_returned = open'.not_returned; not_failed = open'.not_failed }) in (k.0, k.1, k.2, k.3)
+    write_of v w = let k = are.all id (Writes v) (record { write = w; not_returned = open'.not_returned; not_failed = open'.not_failed }) in (k.0, (k.1, k.2, k.3))
+
+    abbrev Silent : Type 0
+    Silent = ((c : Call) → Contains calls c → c.id ≢ id) ⊎ ((c : Call) × HasCall calls id Reads c × (answer ≢ Nothing) × ((v : ℤ) → answer ≢ Number v))
+
+    silent : Silent → (c : Call) → Contains calls c → c.id ≡ id → (c.what ≡ Reads) × (answer ≢ Nothing) × ((v : ℤ) → answer ≢ Number v)
+    silent s c h q = ⊎_elim
+        (λ n. absurd (n c h q))
+        (λ w. (ap (λ (x : Call). x.what) (same_call calls are.once c w.0 h w.1.0 (q ∙ sym w.1.1)) ∙ w.1.2, w.2, w.3))
+        s
 
     pub ok_each : IsDeed calls (Returned id answer) deed → (new : Row) → IsNextBy calls now deed row new → Becomes marks e (Returned id answer) (end_of after new)
     ok_each d new n = ⊎_elim
@@ -207,10 +216,10 @@ module _ (marks : List Mark) (well : AreWellFormed marks) (calls : List Call) (a
               b1)
             b)
         (λ k. ⊎_elim
-          (λ j. (let c = write_of j.0 j.1 in let q : Writes j.0 ≡ Reads = sym c.1.2 ∙ (k.1 c.0 c.1.0 c.1.1).0 in absurd (let x : ⊥ = cc in x)))
+          (λ j. (let c = write_of j.0 j.1 in let q : Writes j.0 ≡ Reads = sym c.1.2 ∙ (silent k.1 c.0 c.1.0 c.1.1).0 in absurd (cc q)))
           (λ b1. ⊎_elim
-            (λ j. (let c = read_of j.0 in absurd ((k.1 c.0 c.1.0 c.1.1).1 j.1)))
-            (λ j. (let c = read_of j.1 in absurd ((k.1 c.0 c.1.0 c.1.1).2 j.0 j.2)))
+            (λ j. (let c = read_of j.0 in absurd ((silent k.1 c.0 c.1.0 c.1.1).1 j.1)))
+            (λ j. (let c = read_of j.1 in absurd ((silent k.1 c.0 c.1.0 c.1.1).2 j.0 j.2)))
             b1)
           b)
         d2)

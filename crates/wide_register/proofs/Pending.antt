@@ -24,7 +24,7 @@ use Rattle.wide_register.specs.declared.calls.What.TheVariants.{Writes, Reads}
 use Rattle.wide_register.specs.Facts.{AreCalls, IsCall, calls_after, calls_with, crashed, is_other, outlives, what_by}
 use Rattle.wide_register.proofs.Lists.{was_in, passes, stays_in}
 use Rattle.wide_register.proofs.Others.{map_from, map_to, other_from, other_to, outlives_to, outlives_read, outlives_write}
-use Rattle.wide_register.proofs.Next.{reads_by, by_reads}
+use Rattle.wide_register.proofs.Marks.{reads_by, by_reads}
 
 writes_by : (name : Name) (part : Part) (v : ℤ) → what_by name part ≡ Some (Writes v) → (name ≡ Write) × (part ≡ Int v)
 writes_by Write (Int w) v e = (refl, (let q : Some (Writes w) ≡ Some (Writes v) = e in let s : w ≡ v = cc in ap Int s))

@@ -17,7 +17,7 @@ use Rattle.wide_register.specs.declared.row.Row.{Row}
 use Rattle.wide_register.specs.declared.kept.Kept.{Kept}
 use Rattle.wide_register.specs.Facts.{AreApart, AreCalls, AreFacts, Has, HasNextBy, IsAfter, IsAtMostBy, IsBegun, IsDeed, IsKeptIn, IsNextBy, IsPut, IsSame, IsWithoutId, calls_after, end_of}
 use Rattle.wide_register.proofs.AtMost.{end_at_most, row_at_most}
-use Rattle.wide_register.proofs.Next.{invoke_each, invoke_all, fail_each, fail_all, crash_each, crash_all}
+use Rattle.wide_register.proofs.Marks.{invoke_each, invoke_all, fail_each, fail_all, crash_each, crash_all}
 use Rattle.wide_register.proofs.Oks.{ok_each, ok_all}
 use Rattle.wide_register.proofs.Others.{map_from, map_to}
 use Rattle.wide_register.proofs.Pending.{are_after, Pairwise-map}
@@ -120,11 +120,6 @@ module _ (m : Mark) (k new : Kept) (a : IsAfter m k new) (marks : List Mark) (f 
       let r = map_from (end_of those) new.rows.items e h in
       let row = a.each r.0 r.1 in
       (end_of calls row.0, map_to (end_of calls) k.rows.items row.0 row.1, subst (λ x. Becomes marks (end_of calls row.0) m x) r.2 (becomes row.0 row.1 r.0 row.2))
-
-  left_new : (r : Row) → Contains new.rows.items r → IsLeft longer (end_of those r)
-  left_new r h =
-      let row = a.each r h in
-      left_after marks m (end_of calls row.0) (end_of those r) well (left row.0 row.1) (becomes row.0 row.1 r row.2)
 
   of_row : (row : Row) → Contains k.rows.items row → (e : LeanEnd) → Becomes marks (end_of calls row) m e → (g : LeanEnd) × Contains nexts g × IsAtMost longer e g
   of_row row h e b =

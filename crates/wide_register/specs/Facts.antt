@@ -1,6 +1,6 @@
 -- Invariant: the lean ends of the history of a register as rows, where the moment of a mark is how many marks come before it
 use Rattle.std.specs.Prelude.{◌≡◌, ◌≢◌, ◌↔◌, ℕ, ◌+◌, ◌<◌, ◌≤◌, ℤ, ◌⊎◌, Bool, true, false, not, nat_eq, nat_lt, IsTrue, ◌&&◌, ◌||◌, Option, Some, None, List, [], ◌∷◌, ◌++◌, length, map, cond}
-use Rattle.std.specs.List.{Contains, list_any, filter}
+use Rattle.std.specs.List.{AllZip, Contains, list_any, filter}
 use Rattle.std.specs.Ordering.{int_eq}
 use Rattle.models.specs.declared.operation.Name.{Name}
 use Rattle.models.specs.declared.operation.Name.TheVariants.{Read, Write}
@@ -122,6 +122,12 @@ abbrev pub AreApart : List Call → List Row → Type 0
 AreApart calls rows =
     Pairwise (λ a b. (¬ IsAtMostBy calls a b) × (¬ IsAtMostBy calls b a)) rows
 
+-- those that are at most the row are left out
+pub record AreLeftOut (calls : List Call) (row : Row) (rows left : List Row) : Type 0 where
+  pub each : (r : Row) → Contains left r → Contains rows r × (¬ IsAtMostBy calls r row)
+  pub others : (r : Row) → Contains rows r → Contains left r ⊎ IsAtMostBy calls r row
+  pub apart : AreApart calls rows → AreApart calls left
+
 -- a write of the value that did not take place yet
 abbrev pub IsFree : Row → ℤ → Call → Type 0
 IsFree row v c = (c.what ≡ Writes v) × (¬ Contains row.needed.items c.id)
@@ -179,6 +185,13 @@ HasNextBy calls now Dies row made = Unit {0}
 abbrev pub HasCall : List Call → ℕ → What → Call → Type 0
 HasCall calls id what c = Contains calls c × (c.id ≡ id) × (c.what ≡ what)
 
+-- the deed is that of the read with this answer
+abbrev pub IsDeedOfAnswer : Call → Answer → Deed → Type 0
+IsDeedOfAnswer read answer deed =
+    ((answer ≡ Nothing) × (deed ≡ Leaves read.id))
+    ⊎ ((v : ℤ) × (answer ≡ Number v) × (deed ≡ EndsRead read v))
+    ⊎ ((deed ≡ Dies) × (answer ≢ Nothing) × ((v : ℤ) → answer ≢ Number v))
+
 -- the deed is that of the mark
 abbrev pub IsDeed : List Call → Mark → Deed → Type 0
 IsDeed calls (Invoked id op) deed =
@@ -188,12 +201,12 @@ IsDeed calls (Returned id answer) deed =
     ((c : Call) × (v : ℤ) × HasCall calls id (Writes v) c × (deed ≡ EndsWrite c v))
     ⊎ ((c : Call) × HasCall calls id Reads c × (answer ≡ Nothing) × (deed ≡ Leaves id))
     ⊎ ((c : Call) × (v : ℤ) × HasCall calls id Reads c × (answer ≡ Number v) × (deed ≡ EndsRead c v))
-    ⊎ ((deed ≡ Dies) × ((c : Call) → Contains calls c → c.id ≡ id
-    → (c.what ≡ Reads) × (answer ≢ Nothing) × ((v : ℤ) → answer ≢ Number v)))
+    ⊎ ((deed ≡ Dies) × (((c : Call) → Contains calls c → c.id ≢ id)
+    ⊎ ((c : Call) × HasCall calls id Reads c × (answer ≢ Nothing) × ((v : ℤ) → answer ≢ Number v))))
 IsDeed calls (Failed id) deed = deed ≡ Fails id
 IsDeed calls (Crashed id) deed =
     ((c : Call) × HasCall calls id Reads c × (deed ≡ Leaves id))
-    ⊎ (((c : Call) → Contains calls c → c.id ≡ id → c.what ≢ Reads) × (deed ≡ Keeps))
+    ⊎ ((((c : Call) → Contains calls c → c.id ≢ id) ⊎ ((c : Call) × (v : ℤ) × HasCall calls id (Writes v) c)) × (deed ≡ Keeps))
 
 -- the operations but this one
 abbrev pub is_other : ℕ → Call → Bool
@@ -232,3 +245,9 @@ pub record IsAfter (m : Mark) (k new : Kept) : Type 0 where
   pub all : (row : Row) → Contains k.rows.items row → (made : List Row) × HasNextBy k.calls.items k.moment deed row made
       × ((r : Row) → Contains made r → IsKeptIn new.calls.items new.rows.items r)
   pub apart : AreApart new.calls.items new.rows.items
+
+-- what is kept is the same
+pub record AreSame (k new : Kept) : Type 0 where
+  pub moment : new.moment ≡ k.moment
+  pub calls : new.calls.items ≡ k.calls.items
+  pub rows : AllZip IsSame k.rows.items new.rows.items

@@ -1,5 +1,10 @@
 //! Registers that are judged live.
-ghost use Rattle.std.specs.Prelude.{◌≡◌, ◌≤◌, ◌+◌, ◌*◌, IfOk};
+ghost use Rattle.std.specs.Prelude.{◌≡◌, ◌↔◌, ◌<◌, IfOk, IsTrue, length};
+ghost use Rattle.events.specs.Events.{act_by, mark_by_act};
+ghost use Rattle.wide_register.specs.Counts.{IsCounted};
+ghost use Rattle.wide_register.specs.Facts.{IsDeed};
+ghost use Rattle.wide_register.specs.Meaning.{Commits, IsCopy, IsStart, Observes, Prepares};
+ghost use Rattle.wide_register.specs.Views.{IsStepLeft, is_an_ok, kills, view_of};
 
 use crate::kept::Kept;
 use crate::next::{deed_of, tries_of};
@@ -33,18 +38,35 @@ pub struct WideRegister {
 }
 
 // Whether an event of this kind is an ok.
-fn is_ok(kind: EventKind) -> bool {
+fn is_ok(kind: EventKind) -> bool
+    ensures { result ≡ is_an_ok kind }
+{
     matches!(kind, EventKind::Ok)
 }
 
 // Whether an event of this kind can kill.
-fn can_kill(kind: EventKind) -> bool {
+fn can_kill(kind: EventKind) -> bool
+    ensures { result ≡ kills kind }
+{
     matches!(kind, EventKind::Ok | EventKind::Fail)
+}
+
+// What an event of this kind leaves.
+fn step_left(left: &Kept, kind: EventKind) -> Step
+    ensures { IsStepLeft left.now kind result }
+{
+    if left.rows.is_empty() && can_kill(kind) {
+        Step::Dead
+    } else {
+        Step::Alive
+    }
 }
 
 impl WideRegister {
     /// A history without events. The budget is the greatest number of lean ends that an ok may meet. Takes constant time.
-    pub fn start(alloc: Global, budget: u32) -> Result<Self, AllocError> {
+    pub fn start(alloc: Global, budget: u32) -> Result<Self, AllocError>
+        ensures { IfOk result (λ w. IsStart budget (view_of w)) }
+    {
         Ok(WideRegister {
             alloc,
             budget,
@@ -55,25 +77,26 @@ impl WideRegister {
     }
 
     /// How many steps were made so far: each tries an operation at a lean end.
-    pub fn applied(&self) -> u64 {
+    pub fn applied(&self) -> u64
+        ensures { result ≡ (view_of self.now).applied }
+    {
         self.applied
     }
 
-    /// How many lean ends there are. Takes constant time.
-    pub fn ends(&self) -> usize {
-        self.kept.rows.len()
-    }
-
-    // Counts the steps of an event.
-    fn count(&mut self, id: u32, kind: EventKind, op: &Op) {
+    // How many steps there are after those of an event.
+    fn counted(&self, id: u32, kind: EventKind, op: &Op) -> u64
+        ensures { IsCounted self.now.kept (mark_by_act id id (act_by kind op.now)) self.now.applied result }
+    {
         let deed = deed_of(&self.kept.calls, id, kind, op);
         let tries = tries_of(&self.kept.calls, &deed);
         let steps = (self.kept.rows.len() as u64).saturating_mul(tries);
-        self.applied = self.applied.saturating_add(steps);
+        self.applied.saturating_add(steps)
     }
 
     // Whether the event is an ok that meets more lean ends than the budget.
-    fn is_over(&self, kind: EventKind) -> bool {
+    fn is_over(&self, kind: EventKind) -> bool
+        ensures { IsTrue result ↔ (IsTrue (is_an_ok kind) × (self.now.budget < length self.now.kept.rows.items)) }
+    {
         is_ok(kind) && self.kept.rows.len() > self.budget as usize
     }
 
@@ -82,20 +105,24 @@ impl WideRegister {
     /// budget stand just before it: then nothing is prepared. An invocation and an info are answered Alive, since they kill nothing. The
     /// register stands for what it stood for until [`commit`](Self::commit); after `AllocError` no commit must follow. What was prepared before
     /// is dropped. Takes the time of the pairs of the rows that are made.
-    pub fn prepare(&mut self, id: u32, kind: EventKind, op: &Op) -> Result<Step, AllocError> {
+    pub fn prepare(&mut self, id: u32, kind: EventKind, op: &Op) -> Result<Step, AllocError>
+        ensures { Prepares (view_of self.old) (view_of self.new) (mark_by_act id id (act_by kind op.now)) result }
+    {
         self.next = None;
         if self.is_over(kind) {
             return Ok(Step::Over);
         }
-        self.count(id, kind, op);
+        self.applied = self.counted(id, kind, op);
         let next = self.kept.after(self.alloc, id, kind, op)?;
-        let is_dead = next.rows.is_empty() && can_kill(kind);
+        let step = step_left(&next, kind);
         self.next = Some(next);
-        Ok(if is_dead { Step::Dead } else { Step::Alive })
+        Ok(step)
     }
 
     /// Carries out what is prepared, if anything is. It takes no memory and cannot fail.
-    pub fn commit(&mut self) {
+    pub fn commit(&mut self)
+        ensures { Commits (view_of self.old) (view_of self.new) }
+    {
         if let Some(next) = self.next.take() {
             self.kept = next;
         }
@@ -103,14 +130,18 @@ impl WideRegister {
 
     /// An event of an operation: [`prepare`](Self::prepare) and [`commit`](Self::commit) in one. After Over, and on `AllocError`, the register
     /// stands for what it stood for.
-    pub fn observe(&mut self, id: u32, kind: EventKind, op: &Op) -> Result<Step, AllocError> {
+    pub fn observe(&mut self, id: u32, kind: EventKind, op: &Op) -> Result<Step, AllocError>
+        ensures { Observes (view_of self.old) (view_of self.new) (mark_by_act id id (act_by kind op.now)) result }
+    {
         let step = self.prepare(id, kind, op)?;
         self.commit();
         Ok(step)
     }
 
     /// An equal one; nothing is prepared of it. Takes the time of the operations and rows.
-    pub fn copy(&self) -> Result<Self, AllocError> {
+    pub fn copy(&self) -> Result<Self, AllocError>
+        ensures { IfOk result (λ w. IsCopy (view_of self.now) (view_of w)) }
+    {
         Ok(WideRegister {
             alloc: self.alloc,
             budget: self.budget,

@@ -1,6 +1,10 @@
 //! What is kept of the history of a register.
-ghost use Rattle.std.specs.Prelude.{◌≡◌, ◌+◌, IfOk};
-ghost use Rattle.std.specs.List.{Contains};
+ghost use Rattle.std.specs.Prelude.{◌≡◌, ◌≢◌, ◌↔◌, ◌⊎◌, ◌+◌, [], List, map, IfOk, IsTrue, OnOk};
+ghost use Rattle.std.specs.List.{Contains, filter};
+ghost use Rattle.events.specs.Events.{act_by, mark_by_act};
+ghost use Rattle.wide_register.specs.Facts.{AreApart, AreFacts, AreSame, HasNextBy, IsAfter, IsKeptIn, IsNextBy};
+ghost use Rattle.wide_register.specs.Facts.{calls_after, calls_with, crashed, is_other, outlives, what_by};
+ghost use Rattle.wide_register.specs.declared.row.Row.{Row};
 
 use crate::calls::{Call, What, what_of};
 use crate::left::keep_all;
@@ -19,7 +23,9 @@ pub struct Kept {
 }
 
 // The operations after an invocation.
-fn calls_with(calls: &mut Vec<Call>, since: u64, id: u32, op: &Op) -> Result<(), AllocError> {
+fn call_invoked(calls: &mut Vec<Call>, since: u64, id: u32, op: &Op) -> Result<(), AllocError>
+    ensures { OnOk result (calls.new.items ≡ calls_with calls.old.items since id (what_by op.now.name op.now.part)) }
+{
     if let Some(what) = what_of(op.name, &op.part) {
         calls.push(Call {
             id,
@@ -32,12 +38,16 @@ fn calls_with(calls: &mut Vec<Call>, since: u64, id: u32, op: &Op) -> Result<(),
 }
 
 // The operation may take place no longer.
-fn calls_without(calls: &mut Vec<Call>, id: u32) {
+fn call_out(calls: &mut Vec<Call>, id: u32)
+    ensures { calls.new.items ≡ filter (is_other id) calls.old.items }
+{
     calls.retain(|call| call.id != id);
 }
 
 // The operation as it is after the one with this id has crashed.
-fn crashed(call: &Call, id: u32) -> Call {
+fn crashed_call(call: &Call, id: u32) -> Call
+    ensures { result ≡ crashed id call.now }
+{
     Call {
         is_open: call.is_open && call.id != id,
         ..*call
@@ -45,16 +55,20 @@ fn crashed(call: &Call, id: u32) -> Call {
 }
 
 // Whether the operation may still take place after the one with this id has crashed.
-fn outlives(call: &Call, id: u32) -> bool {
+fn is_left(call: &Call, id: u32) -> bool
+    ensures { result ≡ outlives id call.now }
+{
     call.id != id || call.what != What::Reads
 }
 
 // The operations after one has crashed.
-fn calls_crashed(alloc: Global, calls: &[Call], id: u32) -> Result<Vec<Call>, AllocError> {
+fn calls_crashed(alloc: Global, calls: &[Call], id: u32) -> Result<Vec<Call>, AllocError>
+    ensures { IfOk result (λ left. left.items ≡ map (crashed id) (filter (outlives id) calls.now)) }
+{
     let mut left = Vec::new(alloc);
     for call in calls {
-        if outlives(call, id) {
-            left.push(crashed(call, id))?;
+        if is_left(call, id) {
+            left.push(crashed_call(call, id))?;
         }
     }
     Ok(left)
@@ -62,7 +76,9 @@ fn calls_crashed(alloc: Global, calls: &[Call], id: u32) -> Result<Vec<Call>, Al
 
 impl Kept {
     /// Of a history without events. Takes constant time.
-    pub fn start(alloc: Global) -> Result<Kept, AllocError> {
+    pub fn start(alloc: Global) -> Result<Kept, AllocError>
+        ensures { IfOk result (λ k. AreFacts k []) }
+    {
         let mut rows = Vec::new(alloc);
         rows.push(Row::start(alloc))?;
         Ok(Kept {
@@ -73,7 +89,9 @@ impl Kept {
     }
 
     /// The same again. Takes the time of the operations and rows.
-    pub fn copy(&self, alloc: Global) -> Result<Kept, AllocError> {
+    pub fn copy(&self, alloc: Global) -> Result<Kept, AllocError>
+        ensures { IfOk result (AreSame self.now) }
+    {
         let mut rows = Vec::new(alloc);
         for row in &self.rows {
             rows.push(row.copy()?)?;
@@ -96,31 +114,43 @@ impl Kept {
     }
 
     // The operations that may still take place after the event.
-    fn calls_after(&self, alloc: Global, id: u32, kind: EventKind, op: &Op) -> Result<Vec<Call>, AllocError> {
+    fn calls_after(&self, alloc: Global, id: u32, kind: EventKind, op: &Op) -> Result<Vec<Call>, AllocError>
+        ensures { IfOk result (λ calls. calls.items
+            ≡ calls_after self.now.calls.items self.now.moment (mark_by_act id id (act_by kind op.now))) }
+    {
         if matches!(kind, EventKind::Info) {
             return calls_crashed(alloc, &self.calls, id);
         }
         let mut calls = self.calls.clone()?;
         if matches!(kind, EventKind::Invoke) {
-            calls_with(&mut calls, self.moment, id, op)?;
+            call_invoked(&mut calls, self.moment, id, op)?;
         } else {
-            calls_without(&mut calls, id);
+            call_out(&mut calls, id);
         }
         Ok(calls)
     }
 
     // The rows after the event.
-    fn rows_after(&self, alloc: Global, deed: &Deed, calls_after: &[Call]) -> Result<Vec<Row>, AllocError> {
+    fn rows_after(&self, alloc: Global, deed: &Deed, later: &[Call]) -> Result<Vec<Row>, AllocError>
+        ensures each { IfOk result (λ left. (r : Row) → Contains left.items r → (row : Row) × Contains self.now.rows.items row
+            × IsNextBy self.now.calls.items self.now.moment deed.now row r) }
+        ensures all { IfOk result (λ left. (row : Row) → Contains self.now.rows.items row → (made : List Row)
+            × HasNextBy self.now.calls.items self.now.moment deed.now row made
+            × ((r : Row) → Contains made r → IsKeptIn later.now left.items r)) }
+        ensures apart { IfOk result (λ left. AreApart later.now left.items) }
+    {
         let mut left = Vec::new(alloc);
         for row in &self.rows {
             let made = next_rows(alloc, row, &self.calls, self.moment, deed)?;
-            keep_all(&mut left, calls_after, made)?;
+            keep_all(&mut left, later, made)?;
         }
         Ok(left)
     }
 
     /// What is kept after the event of an operation. The id is that of the operation, and the part of an ok is the answer.
-    pub fn after(&self, alloc: Global, id: u32, kind: EventKind, op: &Op) -> Result<Kept, AllocError> {
+    pub fn after(&self, alloc: Global, id: u32, kind: EventKind, op: &Op) -> Result<Kept, AllocError>
+        ensures { IfOk result (IsAfter (mark_by_act id id (act_by kind op.now)) self.now) }
+    {
         let moment = self.next_moment()?;
         let calls = self.calls_after(alloc, id, kind, op)?;
         let deed = deed_of(&self.calls, id, kind, op);

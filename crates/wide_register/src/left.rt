@@ -1,7 +1,7 @@
 //! Rows that are at most another one are left out.
 ghost use Rattle.std.specs.Prelude.{◌≡◌, ◌↔◌, ◌⊎◌, ℕ, IsTrue, OnOk};
 ghost use Rattle.std.specs.List.{Contains};
-ghost use Rattle.wide_register.specs.Facts.{AreApart, FitsAt, IsAtMostBy, IsKeptIn};
+ghost use Rattle.wide_register.specs.Facts.{AreApart, AreLeftOut, FitsAt, IsAtMostBy, IsKeptIn};
 ghost use Rattle.wide_register.specs.declared.calls.Call.{Call};
 ghost use Rattle.wide_register.specs.declared.row.Found.{Found};
 ghost use Rattle.wide_register.specs.declared.row.Row.{Row};
@@ -80,6 +80,13 @@ fn is_covered(rows: &[Row], calls: &[Call], row: &Row) -> bool
     false
 }
 
+// Leaves out those that are at most the row.
+fn leave_out(rows: &mut Vec<Row>, calls: &[Call], row: &Row)
+    ensures { AreLeftOut calls.now row.now rows.old.items rows.new.items }
+{
+    rows.retain(|other| !is_at_most(calls, other, row));
+}
+
 /// Puts the row among these, if it is at most none of them, in place of those that are at most it. Takes the time of the rows.
 pub fn keep(rows: &mut Vec<Row>, calls: &[Call], row: Row) -> Result<(), AllocError>
     ensures each { OnOk result ((r : Row) → Contains rows.new.items r → Contains rows.old.items r ⊎ (r ≡ row)) }
@@ -90,7 +97,7 @@ pub fn keep(rows: &mut Vec<Row>, calls: &[Call], row: Row) -> Result<(), AllocEr
     if is_covered(rows, calls, &row) {
         return Ok(());
     }
-    rows.retain(|other| !is_at_most(calls, other, &row));
+    leave_out(rows, calls, &row);
     rows.push(row)?;
     Ok(())
 }

@@ -1,10 +1,11 @@
 //! What an event makes of a row.
-ghost use Rattle.std.specs.Prelude.{◌≡◌, ◌≤◌, ◌↔◌, ◌⊎◌, ◌×◌, Some, IfOk, IsTrue, OnOk, length};
+ghost use Rattle.std.specs.Prelude.{◌≡◌, ◌≤◌, ◌↔◌, ◌⊎◌, Some, IfOk, IsTrue, OnOk, length};
 ghost use Rattle.std.specs.List.{Contains};
 ghost use Rattle.models.specs.Objects.{answer_of};
 ghost use Rattle.events.specs.Events.{act_by, mark_by_act};
 ghost use Rattle.events.specs.Events.Mark.{Crashed, Invoked, Returned};
-ghost use Rattle.wide_register.specs.Facts.{Has, HasDoor, HasNextBy, HasPuts, IsDeed, IsFree, IsNextBy, IsPut, IsPutOf};
+ghost use Rattle.wide_register.specs.Counts.{AreTries};
+ghost use Rattle.wide_register.specs.Facts.{Has, HasDoor, HasNextBy, HasPuts, IsDeed, IsDeedOfAnswer, IsFree, IsNextBy, IsPut, IsPutOf};
 ghost use Rattle.wide_register.specs.declared.row.Row.{Row};
 
 use crate::calls::{Call, What, call_of, what_of};
@@ -42,18 +43,27 @@ fn deed_of_invoke(calls: &[Call], id: u32, op: &Op) -> Deed
     }
 }
 
+// What the answer of a read makes of each row.
+fn deed_of_answer(read: Call, part: &Part) -> Deed
+    ensures { IsDeedOfAnswer read (answer_of part.now) result }
+{
+    match part {
+        Part::Nil => Deed::Leaves(read.id),
+        Part::Int(value) => Deed::EndsRead(read, *value),
+        Part::Pair(_, _) | Part::Set(_) => Deed::Dies,
+    }
+}
+
 // What an ok makes of each row.
 fn deed_of_ok(calls: &[Call], id: u32, part: &Part) -> Deed
     ensures { IsDeed calls.now (Returned id (answer_of part.now)) result }
 {
-    let Some(call) = call_of(calls, id) else {
-        return Deed::Dies;
-    };
-    match (call.what, part) {
-        (What::Writes(value), _) => Deed::EndsWrite(call, value),
-        (What::Reads, Part::Nil) => Deed::Leaves(id),
-        (What::Reads, Part::Int(value)) => Deed::EndsRead(call, *value),
-        _ => Deed::Dies,
+    match call_of(calls, id) {
+        None => Deed::Dies,
+        Some(call) => match call.what {
+            What::Writes(value) => Deed::EndsWrite(call, value),
+            What::Reads => deed_of_answer(call, part),
+        },
     }
 }
 
@@ -62,10 +72,11 @@ fn deed_of_info(calls: &[Call], id: u32) -> Deed
     ensures { IsDeed calls.now (Crashed id) result }
 {
     match call_of(calls, id) {
-        Some(Call {
-            what: What::Reads, ..
-        }) => Deed::Leaves(id),
-        _ => Deed::Keeps,
+        None => Deed::Keeps,
+        Some(call) => match call.what {
+            What::Writes(_) => Deed::Keeps,
+            What::Reads => Deed::Leaves(id),
+        },
     }
 }
 
@@ -201,20 +212,26 @@ fn writes(call: &Call, value: i64) -> bool
     call.what == What::Writes(value)
 }
 
+// How many of the operations are writes of the value.
+fn writes_of(calls: &[Call], value: i64) -> u64
+    ensures { result ≤ length calls.now }
+{
+    let mut many = 0;
+    for call in calls {
+        if writes(call, value) {
+            many += 1;
+        }
+    }
+    many
+}
+
 /// How many operations an event tries at each row. Takes the time of the operations.
 pub fn tries_of(calls: &[Call], deed: &Deed) -> u64
+    ensures { AreTries calls.now deed.now result }
 {
     match deed {
         Deed::EndsWrite(_, _) => 1,
-        Deed::EndsRead(_, value) => {
-            let mut many = 0;
-            for call in calls {
-                if writes(call, *value) {
-                    many += 1;
-                }
-            }
-            many
-        }
+        Deed::EndsRead(_, value) => writes_of(calls, *value),
         _ => 0,
     }
 }

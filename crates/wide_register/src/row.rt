@@ -1,5 +1,5 @@
 //! Lean ends as they are kept.
-ghost use Rattle.std.specs.Prelude.{◌≡◌, ◌≢◌, ◌↔◌, ◌⊎◌, ℕ, IfOk, IsTrue, OnOk};
+ghost use Rattle.std.specs.Prelude.{◌≡◌, ◌<◌, ◌↔◌, ◌⊎◌, ℕ, IfOk, IsTrue, OnOk};
 ghost use Rattle.std.specs.List.{Contains};
 ghost use Rattle.wide_register.specs.Facts.{HasDoor, IsBegun, IsFoundBy, IsPut, IsSame, IsWithoutId};
 ghost use Rattle.wide_register.specs.declared.row.Found.{Found};
@@ -38,20 +38,37 @@ pub fn has_found(finds: &[Found], found: Found) -> bool
     finds.contains(&found)
 }
 
+// Whether the operation is a read that was invoked before the gap.
+fn may_find(call: &Call, gap: u64) -> bool
+    ensures { IsTrue result ↔ ((call.now.what ≡ What.Reads) × (call.now.since < gap)) }
+{
+    matches!(call.what, What::Reads) && call.since < gap
+}
+
+// The read may find the value, too. Takes the time of what is found.
+fn note(finds: &mut Vec<Found>, found: Found) -> Result<(), AllocError>
+    ensures { OnOk result ((f : Found) → Contains finds.new.items f ↔ (Contains finds.old.items f ⊎ (found ≡ f))) }
+{
+    if !has_found(finds, found) {
+        finds.push(found)?;
+    }
+    Ok(())
+}
+
 // Each open read that was invoked before the gap may find the value. Takes the time of the operations and of what is found.
 fn find_value(finds: &mut Vec<Found>, calls: &[Call], gap: u64, value: i64) -> Result<(), AllocError>
     ensures { OnOk result ((f : Found) → Contains finds.new.items f
         ↔ (Contains finds.old.items f ⊎ IsFoundBy calls.now gap value f)) }
 {
     for call in calls {
-        if call.what == What::Reads && call.since < gap {
-            let found = Found {
-                read: call.id,
-                value,
-            };
-            if !has_found(finds, found) {
-                finds.push(found)?;
-            }
+        if may_find(call, gap) {
+            note(
+                finds,
+                Found {
+                    read: call.id,
+                    value,
+                },
+            )?;
         }
     }
     Ok(())

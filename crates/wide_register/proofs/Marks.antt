@@ -115,7 +115,7 @@ module _ (marks : List Mark) (well : AreWellFormed marks) (calls : List Call) (a
     left_ones = map (crashed id) (filter (outlives id) calls)
 
     read_of : IsRead marks id → (c : Call) × HasCall calls id Reads c
-    read_of r = let k = are.all id Reads (r, open') in (k.0, k.1, k.2, k.3)
+    read_of r = let k = are.all id Reads (r, open') in (k.0, (k.1, k.2, k.3))
 
     all_read : (c : Call) → HasCall calls id Reads c → (b : Call) → Contains calls b → b.id ≡ id → b.what ≡ Reads
     all_read c h b k q = ap (λ (x : Call). x.what) (same_call calls are.once b c k h.0 (q ∙ sym h.1)) ∙ h.2
@@ -123,12 +123,24 @@ module _ (marks : List Mark) (well : AreWellFormed marks) (calls : List Call) (a
     is_a_read : (c : Call) → HasCall calls id Reads c → IsRead marks id
     is_a_read c h = subst (IsRead marks) h.1 (is_read marks well calls are row low left c h.0 h.2).0
 
+    abbrev Silent : Type 0
+    Silent = ((c : Call) → Contains calls c → c.id ≢ id) ⊎ ((c : Call) × (v : ℤ) × HasCall calls id (Writes v) c)
+
+    not_read : Silent → (c : Call) → Contains calls c → c.id ≡ id → c.what ≢ Reads
+    not_read s c h q r = ⊎_elim
+        (λ n. n c h q)
+        (λ w.
+          let same : c.what ≡ w.0.what = ap (λ (x : Call). x.what) (same_call calls are.once c w.0 h w.2.0 (q ∙ sym w.2.1)) in
+          let e : Reads ≡ Writes w.1 = sym r ∙ same ∙ w.2.2 in
+          cc e)
+        s
+
     pub crash_each : (deed : Deed) → IsDeed calls (Crashed id) deed → (new : Row) → IsNextBy calls now deed row new → Becomes marks e (Crashed id) (end_of left_ones new)
     crash_each deed d new n = ⊎_elim
         (λ k. inl (is_a_read k.0 k.1, without_is id calls left_ones (without_read id calls (all_read k.0 k.1)) row new (subst (λ x. IsNextBy calls now x row new) k.2 n)))
         (λ k. inr (
-          (λ r. (let c = read_of r in k.0 c.0 c.1 c.2 c.3)),
-          (let s : IsSame row new = subst (λ x. IsNextBy calls now x row new) k.1 n in same_row calls left_ones row (with_crash id calls row k.0) new s.state s.door s.needed s.finds),
+          (λ r. (let c = read_of r in not_read k.0 c.0 c.1.0 c.1.1 c.1.2)),
+          (let s : IsSame row new = subst (λ x. IsNextBy calls now x row new) k.1 n in same_row calls left_ones row (with_crash id calls row (not_read k.0)) new s.state s.door s.needed s.finds),
         ))
         d
 
@@ -144,7 +156,7 @@ module _ (marks : List Mark) (well : AreWellFormed marks) (calls : List Call) (a
           let m : Has made (IsSame row) = subst (λ x. HasNextBy calls now x row made) k.1 n in
           let s : IsSame row m.0 = m.2 in
           ⊎_elim
-            (λ j. absurd (let c = read_of j.0 in k.0 c.0 c.1 c.2 c.3))
-            (λ j. (m.0, m.1, same_row calls left_ones row (with_crash id calls row k.0) m.0 s.state s.door s.needed s.finds ∙ sym j.1))
+            (λ j. absurd (let c = read_of j.0 in not_read k.0 c.0 c.1.0 c.1.1 c.1.2))
+            (λ j. (m.0, m.1, same_row calls left_ones row (with_crash id calls row (not_read k.0)) m.0 s.state s.door s.needed s.finds ∙ sym j.1))
             b)
         d
