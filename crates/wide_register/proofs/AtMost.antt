@@ -35,14 +35,14 @@ module _ (marks : List Mark) (calls : List Call) (are : AreCalls calls marks) (r
     state = a.state;
     needed = λ i h. needed_to calls row i (a.needed i (needed_from calls other i h));
     open_ones = λ i h o.
-      (let w = (left.2.needed i h).1 in
-      let c = are.all i (Writes w.0) (record { write = w.1; not_returned = o.not_returned; not_failed = o.not_failed }) in
-      let same : c.0.id ≡ i = c.2 in
-      let n : Contains row.needed.items c.0.id = subst (Contains row.needed.items) (sym same) (needed_from calls row i h) in
-      let is_open : c.0.is_open ≡ true = (are.is_open c.0 c.1).1 (subst (IsOpen marks) (sym same) o) in
-      needed_to calls other i (subst (Contains other.needed.items) same ((a.fits c.0 c.1).needed n is_open)));
+        (let w = (left.2.needed i h).1 in
+        let c = are.all i (Writes w.0) (record { write = w.1; not_returned = o.not_returned; not_failed = o.not_failed }) in
+        let same : c.0.id ≡ i = c.2 in
+        let n : Contains row.needed.items c.0.id = subst (Contains row.needed.items) (sym same) (needed_from calls row i h) in
+        let is_open : c.0.is_open ≡ true = (are.is_open c.0 c.1).1 (subst (IsOpen marks) (sym same) o) in
+        needed_to calls other i (subst (Contains other.needed.items) same ((a.fits c.0 c.1).needed n is_open)));
     door = λ i h. (let k = door_from calls row i h in
-      door_to calls other i (k.0, k.1, k.2, ((a.fits k.0 k.1).door k.3, (λ n. k.3.1 (a.needed k.0.id n)))));
+        door_to calls other i (k.0, k.1, k.2, ((a.fits k.0 k.1).door k.3, (λ n. k.3.1 (a.needed k.0.id n)))));
     finds = λ r v h. finds_to calls other r v (a.finds (record { read = r; value = v }) (finds_from calls row r v h));
   }
 
@@ -54,7 +54,7 @@ module _ (marks : List Mark) (calls : List Call) (are : AreCalls calls marks) (r
     fits = λ c h. record {
       needed = λ n o. needed_from calls other c.id (a.open_ones c.id (needed_to calls row c.id n) ((are.is_open c h).0 o));
       door = λ d.
-        (let k = door_from calls other c.id (a.door c.id (door_to calls row c.id (c, h, refl, d))) in
-        subst (λ (x : Call). x.since < other.door) (same_call calls are.once k.0 c k.1 h k.2) k.3.0);
+          (let k = door_from calls other c.id (a.door c.id (door_to calls row c.id (c, h, refl, d))) in
+          subst (λ (x : Call). x.since < other.door) (same_call calls are.once k.0 c k.1 h k.2) k.3.0);
     };
   }

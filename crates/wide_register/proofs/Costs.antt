@@ -45,7 +45,7 @@ module _ (k : Kept) (marks : List Mark) (f : AreFacts k marks) where
       let ids : List ℕ = map (λ (c : Call). c.id) k.calls.items in
       let once : Pairwise (λ (i j : ℕ). i ≢ j) ids = Pairwise-map (λ (c : Call). c.id) (λ i j. i ≢ j) k.calls.items f.calls.once in
       let in_ids : (i : ℕ) → Contains ids i → Contains p.ids i = (λ i h. (let c = map_from (λ (x : Call). x.id) k.calls.items i h in
-        p.each i (subst (λ z. IsOpen marks z ⊎ HasCrashedBy is_no_read marks z) c.2 (may_change c.0.id c.0.what (f.calls.is c.0 c.1))))) in
+      p.each i (subst (λ z. IsOpen marks z ⊎ HasCrashedBy is_no_read marks z) c.2 (may_change c.0.id c.0.what (f.calls.is c.0 c.1))))) in
       let l : length ids ≤ length p.ids = no_longer_than ids p.ids once in_ids in
       let e : length ids ≡ length k.calls.items = length_ids k.calls.items in
       let m = p.many in
@@ -71,13 +71,13 @@ pub ok_cost : (budget : ℕ) (k : Kept) (id : ℕ) (answer : Answer) (before aft
 ok_cost budget k id answer before after few c = (
   c.grows,
   λ marks f n p.
-    (let t = few_tries k.calls.items id answer c.deed c.tries c.is_deed c.are_tries in
-    let l = few_calls k marks f n p in
-    let rows : length k.rows.items ≤ budget + 1 = omega arith in
-    let tries : c.tries ≤ n = omega arith in
-    let product = mul-le-mul rows tries in
-    let m = c.most in
-    omega (arith, product, m)),
+      (let t = few_tries k.calls.items id answer c.deed c.tries c.is_deed c.are_tries in
+      let l = few_calls k marks f n p in
+      let rows : length k.rows.items ≤ budget + 1 = omega arith in
+      let tries : c.tries ≤ n = omega arith in
+      let product = mul-le-mul rows tries in
+      let m = c.most in
+      omega (arith, product, m)),
 )
 
 none_tried : (k : Kept) (m : Mark) (before after : ℕ) (c : IsCounted k m before after) → c.tries ≡ 0 → after ≡ before

@@ -19,8 +19,8 @@ module _ {X : Type 0} (p : X → Bool) where
   any_from (x ∷ xs) h = ⊎_elim
       (λ e. (x, Contains-head x xs, e))
       (λ e.
-        let rest : IsTrue (list_any p xs) = subst (λ b. IsTrue (b || list_any p xs)) e h in
-        let k = any_from xs rest in (k.0, Contains-tail x xs k.0 k.1, k.2))
+      let rest : IsTrue (list_any p xs) = subst (λ b. IsTrue (b || list_any p xs)) e h in
+      let k = any_from xs rest in (k.0, Contains-tail x xs k.0 k.1, k.2))
       (cases_Bool (p x))
 
   pub any_to : (xs : List X) (x : X) → Contains xs x → IsTrue (p x) → IsTrue (list_any p xs)
@@ -28,11 +28,11 @@ module _ {X : Type 0} (p : X → Bool) where
   any_to (y ∷ xs) x k t = ⊎_elim
       (λ e. (let t' : IsTrue (p y) = subst (λ z. IsTrue (p z)) (sym e) t in subst (λ b. IsTrue (b || list_any p xs)) (sym t') refl))
       (λ j.
-        let rest : IsTrue (list_any p xs) = any_to xs x j t in
-        ⊎_elim
-          (λ e. subst (λ b. IsTrue (b || list_any p xs)) (sym e) refl)
-          (λ e. subst (λ b. IsTrue (b || list_any p xs)) (sym e) rest)
-          (cases_Bool (p y)))
+      let rest : IsTrue (list_any p xs) = any_to xs x j t in
+      ⊎_elim
+      (λ e. subst (λ b. IsTrue (b || list_any p xs)) (sym e) refl)
+      (λ e. subst (λ b. IsTrue (b || list_any p xs)) (sym e) rest)
+      (cases_Bool (p y)))
       (Contains-cons_cases y xs x k)
 
 eq_from : (a b : ℕ) → IsTrue (nat_eq a b) → a ≡ b

@@ -48,13 +48,13 @@ module _ (calls : List Call) (gap : ℕ) (v : ℤ) (first : List Found) where
     pub found_noted : (new : List Found) → (c.what ≡ Reads) × (c.since < gap) → ((f : Found) → Contains new f ↔ (Contains old f ⊎ (record { read = c.id; value = v } ≡ f))) → HasSoFar new (i + 1)
     found_noted new m n f = (
       (λ k. ⊎_elim
-        (λ o. ⊎_elim (λ x. inl x) (λ x. inr (wider f x)) ((s f).0 o))
-        (λ e. inr (it f m e))
-        ((n f).0 k)),
+          (λ o. ⊎_elim (λ x. inl x) (λ x. inr (wider f x)) ((s f).0 o))
+          (λ e. inr (it f m e))
+          ((n f).0 k)),
       (λ k. (n f).1 (⊎_elim
-        (λ x. inl ((s f).1 (inl x)))
-        (λ x. ⊎_elim (λ y. inl ((s f).1 (inr y))) (λ y. inr y.2) (narrower f x))
-        k)),
+          (λ x. inl ((s f).1 (inl x)))
+          (λ x. ⊎_elim (λ y. inl ((s f).1 (inr y))) (λ y. inr y.2) (narrower f x))
+          k)),
     )
 
     pub found_passed : ¬ ((c.what ≡ Reads) × (c.since < gap)) → HasSoFar old (i + 1)

@@ -35,6 +35,6 @@ module _ (calls : List Call) where
     pub put_apart : ¬ IsKeptIn calls rows row → AreApart calls rows → AreApart calls (left ++ row ∷ [])
     put_apart none apart = Pairwise-append Apart left (row ∷ []) (out.apart apart) ((λ y h. absurd (Contains-nil y h)), tt)
         (λ x y h k. ⊎_elim
-          (λ e. subst (Apart x) e ((out.each x h).1, (λ m. none (x, (out.each x h).0, m))))
-          (λ j. absurd (Contains-nil y j))
-          (Contains-cons_cases row [] y k))
+        (λ e. subst (Apart x) e ((out.each x h).1, (λ m. none (x, (out.each x h).0, m))))
+        (λ j. absurd (Contains-nil y j))
+        (Contains-cons_cases row [] y k))

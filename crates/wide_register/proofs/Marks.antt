@@ -80,17 +80,17 @@ module _ (marks : List Mark) (well : AreWellFormed marks) (calls : List Call) (a
     pub invoke_all : (deed : Deed) → Invokes deed → (made : List Row) → HasNextBy calls now deed row made → (f : LeanEnd) → Becomes marks e (Invoked id op) f → Has made (λ new. end_of more new ≡ f)
     invoke_all deed d made n f b = ⊎_elim
         (λ k.
-          let m : Has made (IsBegun id row) = subst (λ x. HasNextBy calls now x row made) k.1 n in
-          ⊎_elim
-            (λ j. (m.0, m.1, with_read_once e (end_of more m.0) f id (begun m.0 m.2) j.1))
-            (λ j. absurd (j.0 (reads_by op.name op.part k.0)))
-            b)
+        let m : Has made (IsBegun id row) = subst (λ x. HasNextBy calls now x row made) k.1 n in
+        ⊎_elim
+        (λ j. (m.0, m.1, with_read_once e (end_of more m.0) f id (begun m.0 m.2) j.1))
+        (λ j. absurd (j.0 (reads_by op.name op.part k.0)))
+        b)
         (λ k.
-          let m : Has made (IsSame row) = subst (λ x. HasNextBy calls now x row made) k.1 n in
-          ⊎_elim
-            (λ j. absurd (k.0 (by_reads op j.0)))
-            (λ j. (m.0, m.1, kept m.0 m.2 ∙ sym j.1))
-            b)
+        let m : Has made (IsSame row) = subst (λ x. HasNextBy calls now x row made) k.1 n in
+        ⊎_elim
+        (λ j. absurd (k.0 (by_reads op j.0)))
+        (λ j. (m.0, m.1, kept m.0 m.2 ∙ sym j.1))
+        b)
         d
 
   -- a fail
@@ -130,9 +130,9 @@ module _ (marks : List Mark) (well : AreWellFormed marks) (calls : List Call) (a
     not_read s c h q r = ⊎_elim
         (λ n. n c h q)
         (λ w.
-          let same : c.what ≡ w.0.what = ap (λ (x : Call). x.what) (same_call calls are.once c w.0 h w.2.0 (q ∙ sym w.2.1)) in
-          let e : Reads ≡ Writes w.1 = sym r ∙ same ∙ w.2.2 in
-          cc e)
+        let same : c.what ≡ w.0.what = ap (λ (x : Call). x.what) (same_call calls are.once c w.0 h w.2.0 (q ∙ sym w.2.1)) in
+        let e : Reads ≡ Writes w.1 = sym r ∙ same ∙ w.2.2 in
+        cc e)
         s
 
     pub crash_each : (deed : Deed) → IsDeed calls (Crashed id) deed → (new : Row) → IsNextBy calls now deed row new → Becomes marks e (Crashed id) (end_of left_ones new)
@@ -147,16 +147,16 @@ module _ (marks : List Mark) (well : AreWellFormed marks) (calls : List Call) (a
     pub crash_all : (deed : Deed) → IsDeed calls (Crashed id) deed → (made : List Row) → HasNextBy calls now deed row made → (f : LeanEnd) → Becomes marks e (Crashed id) f → Has made (λ new. end_of left_ones new ≡ f)
     crash_all deed d made n f b = ⊎_elim
         (λ k.
-          let m : Has made (IsWithoutId id row) = subst (λ x. HasNextBy calls now x row made) k.2 n in
-          ⊎_elim
-            (λ j. (m.0, m.1, without_once e (end_of left_ones m.0) f id (without_is id calls left_ones (without_read id calls (all_read k.0 k.1)) row m.0 m.2) j.1))
-            (λ j. absurd (j.0 (is_a_read k.0 k.1)))
-            b)
+        let m : Has made (IsWithoutId id row) = subst (λ x. HasNextBy calls now x row made) k.2 n in
+        ⊎_elim
+        (λ j. (m.0, m.1, without_once e (end_of left_ones m.0) f id (without_is id calls left_ones (without_read id calls (all_read k.0 k.1)) row m.0 m.2) j.1))
+        (λ j. absurd (j.0 (is_a_read k.0 k.1)))
+        b)
         (λ k.
-          let m : Has made (IsSame row) = subst (λ x. HasNextBy calls now x row made) k.1 n in
-          let s : IsSame row m.0 = m.2 in
-          ⊎_elim
-            (λ j. absurd (let c = read_of j.0 in not_read k.0 c.0 c.1.0 c.1.1 c.1.2))
-            (λ j. (m.0, m.1, same_row calls left_ones row (with_crash id calls row (not_read k.0)) m.0 s.state s.door s.needed s.finds ∙ sym j.1))
-            b)
+        let m : Has made (IsSame row) = subst (λ x. HasNextBy calls now x row made) k.1 n in
+        let s : IsSame row m.0 = m.2 in
+        ⊎_elim
+        (λ j. absurd (let c = read_of j.0 in not_read k.0 c.0 c.1.0 c.1.1 c.1.2))
+        (λ j. (m.0, m.1, same_row calls left_ones row (with_crash id calls row (not_read k.0)) m.0 s.state s.door s.needed s.finds ∙ sym j.1))
+        b)
         d

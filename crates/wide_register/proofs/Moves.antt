@@ -22,13 +22,13 @@ pub same_call : (calls : List Call) → Pairwise (λ (a b : Call). a.id ≢ b.id
 same_call [] p a b h k e = absurd (Contains-nil a h)
 same_call (x ∷ calls) p a b h k e = ⊎_elim
     (λ q. ⊎_elim
-      (λ r. sym q ∙ r)
-      (λ j. absurd (p.0 b j (ap (λ (c : Call). c.id) q ∙ e)))
-      (Contains-cons_cases x calls b k))
+    (λ r. sym q ∙ r)
+    (λ j. absurd (p.0 b j (ap (λ (c : Call). c.id) q ∙ e)))
+    (Contains-cons_cases x calls b k))
     (λ i. ⊎_elim
-      (λ r. absurd (p.0 a i (ap (λ (c : Call). c.id) r ∙ sym e)))
-      (λ j. same_call calls p.1 a b i j e)
-      (Contains-cons_cases x calls b k))
+    (λ r. absurd (p.0 a i (ap (λ (c : Call). c.id) r ∙ sym e)))
+    (λ j. same_call calls p.1 a b i j e)
+    (Contains-cons_cases x calls b k))
     (Contains-cons_cases x calls a h)
 
 -- those are these operations but one, as far as doors go
@@ -105,42 +105,42 @@ module _ (marks : List Mark) (well : AreWellFormed marks) (calls : List Call) (a
       );
       door = λ i. (
         (λ h. (let k = door_from those new i h in
-          let c = others.was k.0 k.1 in
-          let same : c.0.id ≡ i = c.2 ∙ k.2 in
-          let ne : i ≢ out = (λ q. c.4 (k.2 ∙ q)) in (
-            (b.door i).1 (
-              subst (λ z. MayRead marks z ⊎ ((u : ℤ) × MayWrite marks z u)) same (may_come c.0 c.0.what refl c.1),
-              (λ n. k.3.1 (subst (Contains new.needed.items) (sym k.2) ((p.needed i).1 (⊎_elim (λ q. inl q) (λ m. inr (needed_from calls row i m)) ((b.needed i).0 n), ne)))),
-            ),
-            ne,
-          ))),
+            let c = others.was k.0 k.1 in
+            let same : c.0.id ≡ i = c.2 ∙ k.2 in
+            let ne : i ≢ out = (λ q. c.4 (k.2 ∙ q)) in (
+              (b.door i).1 (
+                subst (λ z. MayRead marks z ⊎ ((u : ℤ) × MayWrite marks z u)) same (may_come c.0 c.0.what refl c.1),
+                (λ n. k.3.1 (subst (Contains new.needed.items) (sym k.2) ((p.needed i).1 (⊎_elim (λ q. inl q) (λ m. inr (needed_from calls row i m)) ((b.needed i).0 n), ne)))),
+              ),
+              ne,
+            ))),
         (λ h. (let k = (b.door i).0 h.0 in
-          let c = comes i k.0 in
-          let d = others.is c.0 c.1 (λ q. h.1 (sym c.2 ∙ q)) in
-          let late : d.0.since < length marks = subst (λ s. s < length marks) (sym d.3) (are.since c.0 c.1) in
-          door_to those new i (
-            d.0,
-            d.1,
-            d.2 ∙ c.2,
-            (
-              subst (λ s. d.0.since < s) (sym p.door) late,
-              (λ n. (let j = (p.needed i).0 (subst (Contains new.needed.items) (d.2 ∙ c.2) n) in k.1 ((b.needed i).1 (⊎_elim (λ q. inl q) (λ m. inr (needed_to calls row i m)) j.0)))),
-            ),
-          ))),
+            let c = comes i k.0 in
+            let d = others.is c.0 c.1 (λ q. h.1 (sym c.2 ∙ q)) in
+            let late : d.0.since < length marks = subst (λ s. s < length marks) (sym d.3) (are.since c.0 c.1) in
+            door_to those new i (
+              d.0,
+              d.1,
+              d.2 ∙ c.2,
+              (
+                subst (λ s. d.0.since < s) (sym p.door) late,
+                (λ n. (let j = (p.needed i).0 (subst (Contains new.needed.items) (d.2 ∙ c.2) n) in k.1 ((b.needed i).1 (⊎_elim (λ q. inl q) (λ m. inr (needed_to calls row i m)) j.0)))),
+              ),
+            ))),
       );
       finds = λ r u. (
         (λ h. (let k = (p.finds (record { read = r; value = u })).0 (finds_from those new r u h) in (
           (b.finds r u).1 (⊎_elim
-            (λ j. inl (finds_to calls row r u j))
-            (λ (j : IsFoundBy calls (length marks) v (record { read = r; value = u })). inr (subst (MayRead marks) j.1.4 (is_read j.1.0 j.1.1 j.1.2), j.0))
-            k.0),
+              (λ j. inl (finds_to calls row r u j))
+              (λ (j : IsFoundBy calls (length marks) v (record { read = r; value = u })). inr (subst (MayRead marks) j.1.4 (is_read j.1.0 j.1.1 j.1.2), j.0))
+              k.0),
           k.1,
         ))),
         (λ h. finds_to those new r u ((p.finds (record { read = r; value = u })).1 (
           ⊎_elim
-            (λ j. inl (finds_from calls row r u j))
-            (λ j. (let c = read_call r j.0 in inr (j.1, (c.0, c.1, c.3, are.since c.0 c.1, c.2))))
-            ((b.finds r u).0 h.0),
+              (λ j. inl (finds_from calls row r u j))
+              (λ j. (let c = read_call r j.0 in inr (j.1, (c.0, c.1, c.3, are.since c.0 c.1, c.2))))
+              ((b.finds r u).0 h.0),
           h.1,
         ))),
       );
@@ -155,42 +155,44 @@ module _ (marks : List Mark) (well : AreWellFormed marks) (calls : List Call) (a
       );
       door = λ i. (
         (λ h. (let k = door_from those new i h in
-          let d = door_was out calls those others row new i p.door (λ j m ne. (p.needed j).1 (inr m, ne)) h in (
-            (b.door i).1 (d.0, (λ q. k.3.1 (subst (Contains new.needed.items) (sym k.2) ((p.needed i).1 (inl q, d.1))))),
-            d.1,
-          ))),
+            let d = door_was out calls those others row new i p.door (λ j m ne. (p.needed j).1 (inr m, ne)) h in (
+              (b.door i).1 (d.0, (λ q. k.3.1 (subst (Contains new.needed.items) (sym k.2) ((p.needed i).1 (inl q, d.1))))),
+              d.1,
+            ))),
         (λ h. (let k = (b.door i).0 h.0 in
-          let c = door_from calls row i k.0 in
-          let d = others.is c.0 c.1 (λ q. h.1 (sym c.2 ∙ q)) in
-          let late : d.0.since < row.door = subst (λ s. s < row.door) (sym d.3) c.3.0 in
-          door_to those new i (
-            d.0,
-            d.1,
-            d.2 ∙ c.2,
-            (subst (λ s. d.0.since < s) (sym p.door) late,
-            (λ n. (let j = (p.needed i).0 (subst (Contains new.needed.items) (d.2 ∙ c.2) n) in ⊎_elim k.1 (λ m. c.3.1 (subst (Contains row.needed.items) (sym c.2) m)) j.0))),
-          ))),
+            let c = door_from calls row i k.0 in
+            let d = others.is c.0 c.1 (λ q. h.1 (sym c.2 ∙ q)) in
+            let late : d.0.since < row.door = subst (λ s. s < row.door) (sym d.3) c.3.0 in
+            door_to those new i (
+              d.0,
+              d.1,
+              d.2 ∙ c.2,
+              (
+                subst (λ s. d.0.since < s) (sym p.door) late,
+                (λ n. (let j = (p.needed i).0 (subst (Contains new.needed.items) (d.2 ∙ c.2) n) in ⊎_elim k.1 (λ m. c.3.1 (subst (Contains row.needed.items) (sym c.2) m)) j.0)),
+              ),
+            ))),
       );
       finds = λ r u. (
         (λ h. (let k = (p.finds (record { read = r; value = u })).0 (finds_from those new r u h) in (
           (b.finds r u).1 (⊎_elim
-            (λ j. inl (finds_to calls row r u j))
-            (λ (j : IsFoundBy calls row.door v (record { read = r; value = u })).
+              (λ j. inl (finds_to calls row r u j))
+              (λ (j : IsFoundBy calls row.door v (record { read = r; value = u })).
               let m = subst (MayRead marks) j.1.4 (is_read j.1.0 j.1.1 j.1.2) in
               inr (m, door_to calls row r (j.1.0, j.1.1, j.1.4, (j.1.3, (λ n. read_not_needed r m.0 (subst (Contains row.needed.items) j.1.4 n)))), j.0))
-            k.0),
+              k.0),
           k.1,
         ))),
         (λ h. finds_to those new r u ((p.finds (record { read = r; value = u })).1 (
           ⊎_elim
-            (λ j. inl (finds_from calls row r u j))
-            (λ j.
+              (λ j. inl (finds_from calls row r u j))
+              (λ j.
               let c = read_call r j.0 in
               let d = door_from calls row r j.1 in
               let same : d.0 ≡ c.0 = same_call calls are.once d.0 c.0 d.1 c.1 (d.2 ∙ sym c.2) in
               let early : c.0.since < row.door = subst (λ (x : Call). x.since < row.door) same d.3.0 in
               inr (j.2, (c.0, c.1, c.3, early, c.2)))
-            ((b.finds r u).0 h.0),
+              ((b.finds r u).0 h.0),
           h.1,
         ))),
       );

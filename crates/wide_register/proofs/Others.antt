@@ -61,10 +61,10 @@ outlives_write id c (Writes v) q n = ⊎_elim
 pub without_read : (id : ℕ) (calls : List Call) → ((c : Call) → Contains calls c → c.id ≡ id → c.what ≡ Reads) → AreOthers id calls (map (crashed id) (filter (outlives id) calls))
 without_read id calls reads = record {
   was = λ c h. (let k = map_from (crashed id) (filter (outlives id) calls) c h in
-    let was = was_in (outlives id) calls k.0 k.1 in
-    let i : k.0.id ≡ c.id = ap (λ (x : Call). x.id) k.2 in
-    let s : k.0.since ≡ c.since = ap (λ (x : Call). x.since) k.2 in
-    (k.0, was, i, s, (λ e. outlives_read id k.0 (reads k.0 was (i ∙ e)) (passes (outlives id) calls k.0 k.1) (i ∙ e))));
+      let was = was_in (outlives id) calls k.0 k.1 in
+      let i : k.0.id ≡ c.id = ap (λ (x : Call). x.id) k.2 in
+      let s : k.0.since ≡ c.since = ap (λ (x : Call). x.since) k.2 in
+      (k.0, was, i, s, (λ e. outlives_read id k.0 (reads k.0 was (i ∙ e)) (passes (outlives id) calls k.0 k.1) (i ∙ e))));
   is = λ c h ne. (crashed id c, map_to (crashed id) (filter (outlives id) calls) c (stays_in (outlives id) calls c h (outlives_to id c ne)), refl, refl);
 }
 
@@ -77,13 +77,13 @@ module _ (calls those : List Call) (row : Row) (doors : HaveDoors calls those ro
   pub door_alike : (new : Row) → new.door ≡ row.door → new.needed.items ≡ row.needed.items → (i : ℕ) → IsTrue ((end_of those new).door i) ↔ IsTrue ((end_of calls row).door i)
   door_alike new d n i = (
     (λ h. (let k = door_from those new i h in
-      let early : k.0.since < row.door = subst (λ s. k.0.since < s) d k.3.0 in
-      let b = doors.was k.0 k.1 early in
-      door_to calls row i (b.0, b.1, b.2 ∙ k.2, (subst (λ s. s < row.door) (sym b.3) early, (λ m. k.3.1 (subst (λ l. Contains l k.0.id) (sym n) (subst (Contains row.needed.items) b.2 m))))))),
+        let early : k.0.since < row.door = subst (λ s. k.0.since < s) d k.3.0 in
+        let b = doors.was k.0 k.1 early in
+        door_to calls row i (b.0, b.1, b.2 ∙ k.2, (subst (λ s. s < row.door) (sym b.3) early, (λ m. k.3.1 (subst (λ l. Contains l k.0.id) (sym n) (subst (Contains row.needed.items) b.2 m))))))),
     (λ h. (let k = door_from calls row i h in
-      let b = doors.is k.0 k.1 in
-      let early : b.0.since < row.door = subst (λ s. s < row.door) (sym b.3) k.3.0 in
-      door_to those new i (b.0, b.1, b.2 ∙ k.2, (subst (λ s. b.0.since < s) (sym d) early, (λ m. k.3.1 (subst (Contains row.needed.items) b.2 (subst (λ l. Contains l b.0.id) n m))))))),
+        let b = doors.is k.0 k.1 in
+        let early : b.0.since < row.door = subst (λ s. s < row.door) (sym b.3) k.3.0 in
+        door_to those new i (b.0, b.1, b.2 ∙ k.2, (subst (λ s. b.0.since < s) (sym d) early, (λ m. k.3.1 (subst (Contains row.needed.items) b.2 (subst (λ l. Contains l b.0.id) n m))))))),
   )
 
   pub same_row : (new : Row) → new.state ≡ row.state → new.door ≡ row.door → new.needed.items ≡ row.needed.items → new.finds.items ≡ row.finds.items → end_of those new ≡ end_of calls row
@@ -101,9 +101,9 @@ with_new calls now id None row low = record { was = λ c h e. (c, h, refl, refl)
 with_new calls now id (Some what) row low =
     let new : Call = record { id = id; what = what; since = now; is_open = true } in record {
       was = λ c h e. ⊎_elim
-        (λ k. (c, k, refl, refl))
-        (λ q. absurd (let s : now ≡ c.since = ap (λ (x : Call). x.since) q in omega arith))
-        (Contains-push_cases calls new c h);
+          (λ k. (c, k, refl, refl))
+          (λ q. absurd (let s : now ≡ c.since = ap (λ (x : Call). x.since) q in omega arith))
+          (Contains-push_cases calls new c h);
       is = λ c h. (c, Contains-append_left calls (new ∷ []) c h, refl, refl);
     }
 
@@ -114,7 +114,7 @@ with_crash id calls row none = record {
   is = λ c h. (
     crashed id c,
     map_to (crashed id) (filter (outlives id) calls) c (stays_in (outlives id) calls c h
-      (⊎_elim (λ t. ap (λ b. b || not (is_read c.what)) t) (λ n. outlives_write id c c.what refl (none c h (same_id id c n))) (cases_Bool (is_other id c)))),
+        (⊎_elim (λ t. ap (λ b. b || not (is_read c.what)) t) (λ n. outlives_write id c c.what refl (none c h (same_id id c n))) (cases_Bool (is_other id c)))),
     refl,
     refl,
   );

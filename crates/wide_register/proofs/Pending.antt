@@ -78,8 +78,8 @@ module _ (marks : List Mark) (calls : List Call) (are : AreCalls calls marks) wh
           is = λ c h. call_is c.id c.what (ne c h) (are.is c (was c h));
           is_open = λ c h. open_same c (was c h) (ne c h);
           all = λ x what h. (let k = are.all x what (call_was x what h) in
-            let other : k.0.id ≢ id = (λ e. none what (subst (λ z. IsCall longer z what) (sym k.2 ∙ e) h)) in
-            (k.0, stays_in (is_other id) calls k.0 k.1 (other_to id k.0 other), k.2, k.3));
+              let other : k.0.id ≢ id = (λ e. none what (subst (λ z. IsCall longer z what) (sym k.2 ∙ e) h)) in
+              (k.0, stays_in (is_other id) calls k.0 k.1 (other_to id k.0 other), k.2, k.3));
         }
 
   pub calls_returned : (id : ℕ) (answer : Answer) → AreCalls (filter (is_other id) calls) (marks ++ Returned id answer ∷ [])
@@ -131,7 +131,7 @@ module _ (marks : List Mark) (calls : List Call) (are : AreCalls calls marks) wh
       is = λ c h. (let k = map_from (crashed id) rest c h in subst (λ (x : Call). IsCall after x.id x.what) k.2 (crashed_is k.0 k.0.what refl k.1));
       is_open = λ c h. (let k = map_from (crashed id) rest c h in subst (λ (x : Call). (x.is_open ≡ true) ↔ IsOpen after x.id) k.2 (open_crashed k.0 (was_in (outlives id) calls k.0 k.1)));
       all = λ x what h. (let k = are.all x what (call_was (Crashed id) tt x what h) in
-        (crashed id k.0, map_to (crashed id) rest k.0 (stays_in (outlives id) calls k.0 k.1 (lives k.0 what k.3 (subst (λ z. IsCall after z what) (sym k.2) h))), k.2, k.3));
+          (crashed id k.0, map_to (crashed id) rest k.0 (stays_in (outlives id) calls k.0 k.1 (lives k.0 what k.3 (subst (λ z. IsCall after z what) (sym k.2) h))), k.2, k.3));
     }
 
   module _ (id : ℕ) (op : Op) (new : IsNew marks id) where
@@ -187,31 +187,31 @@ module _ (marks : List Mark) (calls : List Call) (are : AreCalls calls marks) wh
       is = λ c h. begun_is c.id c.what (are.is c h);
       is_open = still_open;
       all = λ x what h. ⊎_elim
-        (λ s. absurd (let bad : None ≡ Some what = sym q ∙ it_is what (subst (λ z. IsCall with' z what) s h) in let no : ⊥ = cc in no))
-        (λ ne. are.all x what (begun_was x what ne h))
-        (cases_eq x id);
+          (λ s. absurd (let bad : None ≡ Some what = sym q ∙ it_is what (subst (λ z. IsCall with' z what) s h) in let no : ⊥ = cc in no))
+          (λ ne. are.all x what (begun_was x what ne h))
+          (cases_eq x id);
     }
     invoked_by (Some what) q =
         let c : Call = record { id = id; what = what; since = length marks; is_open = true } in record {
           once = Pairwise-append Apart calls (c ∷ []) are.once ((λ y h. absurd (Contains-nil y h)), tt)
-            (λ x y h k. ⊎_elim (λ s. (λ e. not_new x h (e ∙ sym (ap (λ (z : Call). z.id) s)))) (λ j. absurd (Contains-nil y j)) (Contains-cons_cases c [] y k));
+              (λ x y h k. ⊎_elim (λ s. (λ e. not_new x h (e ∙ sym (ap (λ (z : Call). z.id) s)))) (λ j. absurd (Contains-nil y j)) (Contains-cons_cases c [] y k));
           since = λ x h. ⊎_elim
-            (later (Invoked id op) x)
-            (λ s. subst (λ (z : Call). z.since < length with') s (let l : length with' ≡ length marks + 1 = length-append marks (Invoked id op ∷ []) in omega arith))
-            (Contains-push_cases calls c x h);
+              (later (Invoked id op) x)
+              (λ s. subst (λ (z : Call). z.since < length with') s (let l : length with' ≡ length marks + 1 = length-append marks (Invoked id op ∷ []) in omega arith))
+              (Contains-push_cases calls c x h);
           is = λ x h. ⊎_elim
-            (λ k. begun_is x.id x.what (are.is x k))
-            (λ s. subst (λ (z : Call). IsCall with' z.id z.what) s (new_call what q))
-            (Contains-push_cases calls c x h);
+              (λ k. begun_is x.id x.what (are.is x k))
+              (λ s. subst (λ (z : Call). IsCall with' z.id z.what) s (new_call what q))
+              (Contains-push_cases calls c x h);
           is_open = λ x h. ⊎_elim
-            (still_open x)
-            (λ s. subst (λ (z : Call). (z.is_open ≡ true) ↔ IsOpen with' z.id) s ((λ e. new_is_open marks id op new), (λ o. refl)))
-            (Contains-push_cases calls c x h);
+              (still_open x)
+              (λ s. subst (λ (z : Call). (z.is_open ≡ true) ↔ IsOpen with' z.id) s ((λ e. new_is_open marks id op new), (λ o. refl)))
+              (Contains-push_cases calls c x h);
           all = λ x u h. ⊎_elim
-            (λ s. (let same : Some what ≡ Some u = sym q ∙ it_is u (subst (λ z. IsCall with' z u) s h) in
+              (λ s. (let same : Some what ≡ Some u = sym q ∙ it_is u (subst (λ z. IsCall with' z u) s h) in
               let s' : what ≡ u = cc in (c, Contains-push calls c, sym s, s')))
-            (λ ne. (let k = are.all x u (begun_was x u ne h) in (k.0, Contains-append_left calls (c ∷ []) k.0 k.1, k.2, k.3)))
-            (cases_eq x id);
+              (λ ne. (let k = are.all x u (begun_was x u ne h) in (k.0, Contains-append_left calls (c ∷ []) k.0 k.1, k.2, k.3)))
+              (cases_eq x id);
         }
 
     pub calls_invoked : AreCalls (calls_with calls (length marks) id (what_by op.name op.part)) with'

@@ -114,7 +114,13 @@ impl Kept {
     }
 
     // The operations that may still take place after the event.
-    fn calls_after(&self, alloc: Global, id: u32, kind: EventKind, op: &Op) -> Result<Vec<Call>, AllocError>
+    fn calls_after(
+        &self,
+        alloc: Global,
+        id: u32,
+        kind: EventKind,
+        op: &Op,
+    ) -> Result<Vec<Call>, AllocError>
         ensures { IfOk result (λ calls. calls.items
             ≡ calls_after self.now.calls.items self.now.moment (mark_by_act id id (act_by kind op.now))) }
     {
@@ -148,7 +154,13 @@ impl Kept {
     }
 
     /// What is kept after the event of an operation. The id is that of the operation, and the part of an ok is the answer.
-    pub fn after(&self, alloc: Global, id: u32, kind: EventKind, op: &Op) -> Result<Kept, AllocError>
+    pub fn after(
+        &self,
+        alloc: Global,
+        id: u32,
+        kind: EventKind,
+        op: &Op,
+    ) -> Result<Kept, AllocError>
         ensures { IfOk result (IsAfter (mark_by_act id id (act_by kind op.now)) self.now) }
     {
         let moment = self.next_moment()?;

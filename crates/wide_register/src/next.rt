@@ -142,7 +142,16 @@ fn end_write(
         made.push(row.without(write.id)?)?;
         Ok(())
     } else {
-        put_both(made, row, calls, moment, write.id, value, write.id, row.has_door(write))
+        put_both(
+            made,
+            row,
+            calls,
+            moment,
+            write.id,
+            value,
+            write.id,
+            row.has_door(write),
+        )
     }
 }
 

@@ -56,7 +56,12 @@ fn note(finds: &mut Vec<Found>, found: Found) -> Result<(), AllocError>
 }
 
 // Each open read that was invoked before the gap may find the value. Takes the time of the operations and of what is found.
-fn find_value(finds: &mut Vec<Found>, calls: &[Call], gap: u64, value: i64) -> Result<(), AllocError>
+fn find_value(
+    finds: &mut Vec<Found>,
+    calls: &[Call],
+    gap: u64,
+    value: i64,
+) -> Result<(), AllocError>
     ensures { OnOk result ((f : Found) → Contains finds.new.items f
         ↔ (Contains finds.old.items f ⊎ IsFoundBy calls.now gap value f)) }
 {

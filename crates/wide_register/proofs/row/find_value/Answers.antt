@@ -6,7 +6,7 @@ use Rattle.wide_register.proofs.row.find_value.Goals.{then-may_find+in_ok-note, 
 
 pub loop-call-preserved : goal.loop-call-preserved
 loop-call-preserved c = elim c.if-may_find.branch [
-  then-may_find+in_ok-note w ↦ rw w.finds-is (found_noted c.args.calls.now c.args.gap _ c.args.finds.now.items c.loop-call.call-index _ c.loop-call-test.true c.loop-call.finds.items c.loop-call.invariant _ (c.may_find.ensures.0 w.if-may_find.true) w.in_ok-note.ensures)
+  | then-may_find+in_ok-note w ↦ rw w.finds-is (found_noted c.args.calls.now c.args.gap _ c.args.finds.now.items c.loop-call.call-index _ c.loop-call-test.true c.loop-call.finds.items c.loop-call.invariant _ (c.may_find.ensures.0 w.if-may_find.true) w.in_ok-note.ensures)
   | else-may_find w ↦ rw w.finds-is (found_passed c.args.calls.now c.args.gap _ c.args.finds.now.items c.loop-call.call-index _ c.loop-call-test.true c.loop-call.finds.items c.loop-call.invariant (λ m. true≢false (sym (c.may_find.ensures.1 m) ∙ w.if-may_find.false)))
 ]
 

@@ -7,9 +7,9 @@ use Rattle.wide_register.proofs.kept.Kept.rows_after.Given as goal
 abbrev pub invariant-loop-row : goal.invariant-loop-row
 invariant-loop-row l = record {
   each : (r : Row) → Contains l.left.items r → (row : Row) × Contains (take l.row-index l.self.rows.items) row
-    × IsNextBy l.self.calls.items l.self.moment l.deed row r;
+      × IsNextBy l.self.calls.items l.self.moment l.deed row r;
   all : (row : Row) → Contains (take l.row-index l.self.rows.items) row → (made : List Row)
-    × HasNextBy l.self.calls.items l.self.moment l.deed row made
-    × ((r : Row) → Contains made r → IsKeptIn l.later l.left.items r);
+      × HasNextBy l.self.calls.items l.self.moment l.deed row made
+      × ((r : Row) → Contains made r → IsKeptIn l.later l.left.items r);
   apart : AreApart l.later l.left.items;
 }
