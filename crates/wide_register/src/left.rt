@@ -62,10 +62,16 @@ fn all_fit(calls: &[Call], row: &Row, other: &Row) -> bool
 pub fn is_at_most(calls: &[Call], row: &Row, other: &Row) -> bool
     ensures { IsTrue result ↔ IsAtMostBy calls.now row.now other.now }
 {
-    row.state == other.state
-        && has_ids(&row.needed, &other.needed)
-        && has_finds(&other.finds, &row.finds)
-        && all_fit(calls, row, other)
+    if row.state != other.state {
+        return false;
+    }
+    if !has_ids(&row.needed, &other.needed) {
+        return false;
+    }
+    if !has_finds(&other.finds, &row.finds) {
+        return false;
+    }
+    all_fit(calls, row, other)
 }
 
 // Whether the row is at most one of these.
