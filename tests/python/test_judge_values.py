@@ -94,6 +94,14 @@ class Values(Judged):
         self.assertIn("are different keys, and legal if they are one; say --values exact", self.judged(text).err)
         self.assertEqual([self.status(text, "--values", way) for way in ("exact", "text", "number")], [1, 0, 0])
 
+    def test_a_list_of_texts_is_the_list_that_was_written(self) -> None:
+        for name, form in FORMS.items():
+            for value in (["1"], ["a", 1], [["1"], 2]):
+                for way in ("exact", "text", "number"):
+                    with self.subTest(name, value=value, values=way):
+                        text = form(("write", value), ("read", value))
+                        self.assertEqual(self.status(text, "--values", way, "--model", "register", name=f"history.{name}"), 0)
+
     def test_groups(self) -> None:
         self.assertEqual(alike({0: "1", 1: '"1"', 2: "1.0", 3: '"a"', 4: '" a"', 5: "2", 6: "true", 7: ":a"}),
                          [["1", '"1"', "1.0", "true"], ['"a"', '" a"']])

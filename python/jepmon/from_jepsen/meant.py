@@ -32,9 +32,7 @@ class Meant(NamedTuple):
             return self.value(part)
         if name == ":cas":
             return Many(part.opened, tuple(map(self.value, part.members)))
-        if name in (":read", ":drain"):  # members of a set, of which none is a missing key
-            return Many(part.opened, tuple(map(self.alike, part.members)))
-        return part
+        return Many(part.opened, tuple(map(self.alike, part.members)))  # of which none is a missing key
 
     def value(self, value: Value) -> Value:
         if self.absent and isinstance(value, str) and value != "nil" and text_of(value) in self.absent:
