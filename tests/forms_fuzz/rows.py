@@ -95,7 +95,7 @@ def _event(mark: int, place: int, op: Op, side: int, ways: Variations) -> Row:
         row.update(missing_fields(op, "value", ways) if way == "value" else {})
     elif ways.get("nullvalue"):
         row["value"] = None
-    if side and ways.get("endsay"):  # the completion is an event "ok", and another field says how it ended
+    if side and ways.get("endsay") and ways.get("outcome") != "type":  # the completion is an event "ok", and another field says how it ended
         row["type"] = types[1]
         row.update({name: field for name, field in outcome_of(op, ways).items() if name != "type"})
     if ways.get("starts"):
