@@ -3,7 +3,7 @@ from __future__ import annotations
 
 import functools
 import random
-from typing import Dict, Iterator, List, NamedTuple, Optional, Sequence
+from typing import Dict, Iterator, List, NamedTuple, Optional, Sequence, Set
 
 from . import truth
 from .fields import Variations, options_of, ticks_of
@@ -66,16 +66,19 @@ def cases(seed: int, count: int, form: Optional[str] = None) -> Iterator[Case]:
 def _batch(chance: random.Random, count: int, form: Optional[str]) -> List[Case]:
     made = [_legal(chance, form or chance.choice(FORMS)) for _ in range(count)]
     by_model: Dict[str, List[int]] = {}
+    undecided: Set[int] = set()
     for place, case in enumerate(made):
         by_model.setdefault(case.model, []).append(place)
     for model, places in by_model.items():
         words = truth.verdicts(model, [made[place].ops for place in places])
-        assert set(words) == {"legal"}, "an atomic object gave a history that is not legal"
-        some = [place for place in places if chance.random() < 0.5]
+        assert "illegal" not in words, "an atomic object gave a history that is illegal"
+        known = [place for place, word in zip(places, words) if word == "legal"]  # and not over the budget
+        undecided.update(set(places) - set(known))
+        some = [place for place in known if chance.random() < 0.5]
         for place, ops in zip(some, truth.made_illegal(chance, model, [made[place].ops for place in some])):
             if ops is not None:
                 made[place] = made[place]._replace(ops=ops, right="illegal")
-    return made
+    return [case for place, case in enumerate(made) if place not in undecided]
 
 
 def _legal(chance: random.Random, form: str) -> Case:
