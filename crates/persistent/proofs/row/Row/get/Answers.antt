@@ -1,4 +1,4 @@
-use Rattle.std.proofs.Common.{◌≡◌, get_or, subst, sym, ap, length, arith}
+use Rattle.std.proofs.Common.{◌≡◌, get_or, subst, ap, length, arith}
 use Rattle.std.proofs.lemmas.List.{get_or_read}
 use Rattle.persistent.proofs.row.Row.get.Goals as goal
 
