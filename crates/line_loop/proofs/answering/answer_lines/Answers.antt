@@ -5,6 +5,7 @@ use Rattle.std.proofs.lemmas.Result.{err_from_is_err_and}
 use Rattle.edn.specs.declared.refusal.Refusal.TheVariants.{ReadFailed}
 use Rattle.line_loop.specs.BetweenReads.{between, Stands}
 use Rattle.line_loop.specs.Stopping.{IsPartlyAnswered, Finishes, Stops}
+use Rattle.line_loop.proofs.Refusing.{given_on, is_no_refusal, no_value, read_kind, read_of_it, never_wrote, write_kind, never_read, wrote_of_it, wrote_well}
 use Rattle.line_loop.proofs.LiveReads.{lives_first, lives_more}
 use Rattle.line_loop.proofs.Results.{if_err, if_err_at}
 use Rattle.line_loop.proofs.Running.{stands_first, stands_flushed, stopped_reading, halts_within, halts_ending, consumed_nothing, keeps_up, stopped_flushed}
@@ -187,3 +188,135 @@ returns-in-End-clause-done g c =
       answered = c.in_ok-finish-in-End.ensures.ok (m.state c.args.machine) (w.contents c.args.writer.now) seen so.stands;
     } in
     (m.state c.finish.new.self.machine, c.verdict-in-End.ensures, inl (finishes, c.in_ok-n.ensures.unfailed))
+
+pub returns-in_err-flush_all-clause-done : goal.returns-in_err-flush_all-clause-done
+returns-in_err-flush_all-clause-done g c = no_value _ _ (given_on _ _ c.from_residual.ensures.1) _
+
+pub returns-in_err-flush_all-clause-flushed : goal.returns-in_err-flush_all-clause-flushed
+returns-in_err-flush_all-clause-flushed g c = no_value _ _ (given_on _ _ c.from_residual.ensures.1) _
+
+pub returns-in_err-flush_all-clause-kinds : goal.returns-in_err-flush_all-clause-kinds
+returns-in_err-flush_all-clause-kinds g c = write_kind _ _ (given_on _ _ c.from_residual.ensures.1) _ (inr c.in_err-flush_all.ensures.cause)
+
+pub returns-in_err-flush_all-clause-kept_up : goal.returns-in_err-flush_all-clause-kept_up
+returns-in_err-flush_all-clause-kept_up g c = never_read _ _ (given_on _ _ c.from_residual.ensures.1) _ (inr c.in_err-flush_all.ensures.cause)
+
+pub returns-in_err-flush_all-clause-read : goal.returns-in_err-flush_all-clause-read
+returns-in_err-flush_all-clause-read g c = never_read _ _ (given_on _ _ c.from_residual.ensures.1) _ (inr c.in_err-flush_all.ensures.cause)
+
+pub returns-in_err-flush_all-clause-wrote : goal.returns-in_err-flush_all-clause-wrote
+returns-in_err-flush_all-clause-wrote g c = wrote_of_it _ _ (given_on _ _ c.from_residual.ensures.1) _ (inr c.in_err-flush_all.ensures.cause)
+
+pub returns-in_err-flush_all-clause-writes_well : goal.returns-in_err-flush_all-clause-writes_well
+returns-in_err-flush_all-clause-writes_well g c = wrote_well _ _ (given_on _ _ c.from_residual.ensures.1) _ (inr c.in_err-flush_all.ensures.cause)
+
+pub returns-in_err-flush_all-clause-reads_well : goal.returns-in_err-flush_all-clause-reads_well
+returns-in_err-flush_all-clause-reads_well g c = λ _. c.requires.reads
+
+pub returns-in_err-flush_all-clause-live : goal.returns-in_err-flush_all-clause-live
+returns-in_err-flush_all-clause-live g c = lives_first g.M.LineMachine.may_reply g.M.LineMachine.is_closed (g.M.LineMachine.state c.args.machine) (g.W.Write.contents c.args.writer.now) (g.R.Read.remaining c.args.reader.now) (g.R.ReadsBeside.log c.args.reader.now)
+
+pub returns-in_err-n-clause-done : goal.returns-in_err-n-clause-done
+returns-in_err-n-clause-done g c = no_value _ _ (given_on _ _ c.from_residual-in_err-n.ensures.1) _
+
+pub returns-in_err-n-clause-flushed : goal.returns-in_err-n-clause-flushed
+returns-in_err-n-clause-flushed g c = no_value _ _ (given_on _ _ c.from_residual-in_err-n.ensures.1) _
+
+pub returns-in_err-n-clause-kinds : goal.returns-in_err-n-clause-kinds
+returns-in_err-n-clause-kinds g c = read_kind _ _ (given_on _ _ c.from_residual-in_err-n.ensures.1) c.in_err-n.ensures.cause.0
+
+pub returns-in_err-n-clause-read : goal.returns-in_err-n-clause-read
+returns-in_err-n-clause-read g c = λ _. c.in_err-n.ensures.cause.1
+
+pub returns-in_err-n-clause-reads_well : goal.returns-in_err-n-clause-reads_well
+returns-in_err-n-clause-reads_well g c = read_of_it _ _ (given_on _ _ c.from_residual-in_err-n.ensures.1) c.in_err-n.ensures.cause.0
+
+pub returns-in_err-n-clause-wrote : goal.returns-in_err-n-clause-wrote
+returns-in_err-n-clause-wrote g c = never_wrote _ _ (given_on _ _ c.from_residual-in_err-n.ensures.1) c.in_err-n.ensures.cause.0
+
+pub returns-in_err-take_piece-in-Piece-clause-done : goal.returns-in_err-take_piece-in-Piece-clause-done
+returns-in_err-take_piece-in-Piece-clause-done g c = no_value _ _ (given_on _ _ c.from_residual-in_err-take_piece-in-Piece.ensures.1) _
+
+pub returns-in_err-take_piece-in-Piece-clause-flushed : goal.returns-in_err-take_piece-in-Piece-clause-flushed
+returns-in_err-take_piece-in-Piece-clause-flushed g c = no_value _ _ (given_on _ _ c.from_residual-in_err-take_piece-in-Piece.ensures.1) _
+
+pub returns-in_err-take_piece-in-Piece-clause-kinds : goal.returns-in_err-take_piece-in-Piece-clause-kinds
+returns-in_err-take_piece-in-Piece-clause-kinds g c = write_kind _ _ (given_on _ _ c.from_residual-in_err-take_piece-in-Piece.ensures.1) _ c.in_err-take_piece-in-Piece.ensures.cause
+
+pub returns-in_err-take_piece-in-Piece-clause-kept_up : goal.returns-in_err-take_piece-in-Piece-clause-kept_up
+returns-in_err-take_piece-in-Piece-clause-kept_up g c = never_read _ _ (given_on _ _ c.from_residual-in_err-take_piece-in-Piece.ensures.1) _ c.in_err-take_piece-in-Piece.ensures.cause
+
+pub returns-in_err-take_piece-in-Piece-clause-read : goal.returns-in_err-take_piece-in-Piece-clause-read
+returns-in_err-take_piece-in-Piece-clause-read g c = never_read _ _ (given_on _ _ c.from_residual-in_err-take_piece-in-Piece.ensures.1) _ c.in_err-take_piece-in-Piece.ensures.cause
+
+pub returns-in_err-take_piece-in-Piece-clause-wrote : goal.returns-in_err-take_piece-in-Piece-clause-wrote
+returns-in_err-take_piece-in-Piece-clause-wrote g c = wrote_of_it _ _ (given_on _ _ c.from_residual-in_err-take_piece-in-Piece.ensures.1) _ c.in_err-take_piece-in-Piece.ensures.cause
+
+pub returns-in_err-take_piece-in-Piece-clause-writes_well : goal.returns-in_err-take_piece-in-Piece-clause-writes_well
+returns-in_err-take_piece-in-Piece-clause-writes_well g c = wrote_well _ _ (given_on _ _ c.from_residual-in_err-take_piece-in-Piece.ensures.1) _ c.in_err-take_piece-in-Piece.ensures.cause
+
+pub returns-in_err-take_piece-in-Piece-clause-reads_well : goal.returns-in_err-take_piece-in-Piece-clause-reads_well
+returns-in_err-take_piece-in-Piece-clause-reads_well g c = λ _. c.in_ok-n.ensures.unfailed
+
+pub returns-in_err-finish-in-End-clause-done : goal.returns-in_err-finish-in-End-clause-done
+returns-in_err-finish-in-End-clause-done g c = no_value _ _ (given_on _ _ c.from_residual-in_err-finish-in-End.ensures.1) _
+
+pub returns-in_err-finish-in-End-clause-flushed : goal.returns-in_err-finish-in-End-clause-flushed
+returns-in_err-finish-in-End-clause-flushed g c = no_value _ _ (given_on _ _ c.from_residual-in_err-finish-in-End.ensures.1) _
+
+pub returns-in_err-finish-in-End-clause-kinds : goal.returns-in_err-finish-in-End-clause-kinds
+returns-in_err-finish-in-End-clause-kinds g c = write_kind _ _ (given_on _ _ c.from_residual-in_err-finish-in-End.ensures.1) _ c.in_err-finish-in-End.ensures.cause
+
+pub returns-in_err-finish-in-End-clause-kept_up : goal.returns-in_err-finish-in-End-clause-kept_up
+returns-in_err-finish-in-End-clause-kept_up g c = never_read _ _ (given_on _ _ c.from_residual-in_err-finish-in-End.ensures.1) _ c.in_err-finish-in-End.ensures.cause
+
+pub returns-in_err-finish-in-End-clause-read : goal.returns-in_err-finish-in-End-clause-read
+returns-in_err-finish-in-End-clause-read g c = never_read _ _ (given_on _ _ c.from_residual-in_err-finish-in-End.ensures.1) _ c.in_err-finish-in-End.ensures.cause
+
+pub returns-in_err-finish-in-End-clause-wrote : goal.returns-in_err-finish-in-End-clause-wrote
+returns-in_err-finish-in-End-clause-wrote g c = wrote_of_it _ _ (given_on _ _ c.from_residual-in_err-finish-in-End.ensures.1) _ c.in_err-finish-in-End.ensures.cause
+
+pub returns-in_err-finish-in-End-clause-writes_well : goal.returns-in_err-finish-in-End-clause-writes_well
+returns-in_err-finish-in-End-clause-writes_well g c = wrote_well _ _ (given_on _ _ c.from_residual-in_err-finish-in-End.ensures.1) _ c.in_err-finish-in-End.ensures.cause
+
+pub returns-in_err-finish-in-End-clause-reads_well : goal.returns-in_err-finish-in-End-clause-reads_well
+returns-in_err-finish-in-End-clause-reads_well g c = λ _. c.in_ok-n.ensures.unfailed
+
+pub returns-then-closed-clause-stopped : goal.returns-then-closed-clause-stopped
+returns-then-closed-clause-stopped g c = tt
+
+pub returns-then-closed-clause-kinds : goal.returns-then-closed-clause-kinds
+returns-then-closed-clause-kinds g c = tt
+
+pub returns-then-closed-clause-kept_up : goal.returns-then-closed-clause-kept_up
+returns-then-closed-clause-kept_up g c = is_no_refusal c.verdict.result _
+
+pub returns-then-closed-clause-read : goal.returns-then-closed-clause-read
+returns-then-closed-clause-read g c = is_no_refusal c.verdict.result _
+
+pub returns-then-closed-clause-wrote : goal.returns-then-closed-clause-wrote
+returns-then-closed-clause-wrote g c = is_no_refusal c.verdict.result _
+
+pub returns-in-End-clause-stopped : goal.returns-in-End-clause-stopped
+returns-in-End-clause-stopped g c = tt
+
+pub returns-in-End-clause-kinds : goal.returns-in-End-clause-kinds
+returns-in-End-clause-kinds g c = tt
+
+pub returns-in-End-clause-kept_up : goal.returns-in-End-clause-kept_up
+returns-in-End-clause-kept_up g c = is_no_refusal c.verdict-in-End.result _
+
+pub returns-in-End-clause-read : goal.returns-in-End-clause-read
+returns-in-End-clause-read g c = is_no_refusal c.verdict-in-End.result _
+
+pub returns-in-End-clause-wrote : goal.returns-in-End-clause-wrote
+returns-in-End-clause-wrote g c = is_no_refusal c.verdict-in-End.result _
+
+pub returns-in-End-clause-flushed : goal.returns-in-End-clause-flushed
+returns-in-End-clause-flushed g c = c.in_ok-finish-in-End.ensures.flushed
+
+pub returns-in-End-clause-reads_well : goal.returns-in-End-clause-reads_well
+returns-in-End-clause-reads_well g c = λ _. c.in_ok-n.ensures.unfailed
+
+pub returns-in-End-clause-writes_well : goal.returns-in-End-clause-writes_well
+returns-in-End-clause-writes_well g c = λ _. c.in_ok-finish-in-End.ensures.unfailed
