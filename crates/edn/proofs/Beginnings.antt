@@ -1,6 +1,7 @@
 -- An element by its first byte
 use Rattle.std.proofs.Common.{◌≡◌, ℕ, ◌+◌, ◌<◌, ◌≤◌, Bool, true, false, List, [], ◌∷◌, ◌++◌, length, refl, sym, ap, ap₂, ◌∙◌, subst, arith}
-use Rattle.edn.specs.Value.{Value, pairs, members, Values, Pairs, in_text, keys, AreDistinct}
+use Rattle.std.specs.Prelude.{IsUtf8}
+use Rattle.edn.specs.Value.{Value, vector, pairs, members, Values, Pairs, in_text, keys, AreDistinct}
 use Rattle.edn.specs.Bytes.{is_white, IsAtom, MayFollowAtom}
 use Rattle.edn.specs.Reading.{closes, IsToken}
 use Rattle.edn.specs.Text.{SkipsLine, SkipsGap, ReadsString, Reads, ReadsAll}
@@ -16,6 +17,14 @@ use Rattle.std.proofs.Common.{length-append}
 use Rattle.std.specs.Prelude.{◌||◌, ◌&&◌, ◌==◌}
 use Rattle.edn.proofs.Spellings.{begins_gap, begins_with, or_false, atom_starts}
 use Rattle.edn.proofs.Unique.{one_list}
+
+pub bracket_off : {d : ℕ} {t r : List ℕ} {v : Value} → Reads d (91 ∷ t) v r → (vs : Values) × (d < 32) × ReadsAll (d + 1) t vs (93 ∷ r)
+bracket_off (atom i f e) = absurd (no_atom 91 _ _ refl i e)
+bracket_off (in_brackets m h) = (_, m, h)
+
+pub quote_off : {d : ℕ} {t r : List ℕ} {v : Value} → Reads d (34 ∷ t) v r → (s : List ℕ) × ReadsString t s r × IsUtf8 s
+quote_off (atom i f e) = absurd (no_atom 34 _ _ refl i e)
+quote_off (in_quotes h u) = (_, h, u)
 
 pub brace_off : {d : ℕ} {t r : List ℕ} {v : Value} → Reads d (123 ∷ t) v r → (ps : Pairs) × (v ≡ pairs ps) × (d < 32) × ReadsAll (d + 1) t (in_text ps) (125 ∷ r) × AreDistinct (keys ps)
 brace_off (atom i f e) = absurd (no_atom 123 _ _ refl i e)

@@ -1,7 +1,9 @@
 -- What an answer says of the fact that it decides, and an error of what was called
-use Rattle.std.proofs.Common.{◌≡◌, Bool, true, false, IsTrue, refl, sym, ap, ◌∙◌, Result, Err}
-use Rattle.std.specs.Result.{IsErrOf}
+use Rattle.std.proofs.Common.{◌≡◌, ◌≢◌, ℕ, ◌+◌, ◌≤◌, arith, subst, Bool, true, false, IsTrue, refl, sym, ap, ◌∙◌, Result, Ok, Err}
+use Rattle.std.specs.Result.{IsErrOf, IsErrAnd, IfOk}
+use Rattle.std.proofs.lemmas.Result.{err_from_is_err_and}
 use Rattle.edn.specs.declared.read_error.ReadError.{ReadError}
+use Rattle.edn.specs.declared.read_error.ReadError.TheVariants.{Unreadable}
 
 pub off : (r : Bool) (P : Type 0) → r ≡ false → (P → IsTrue r) → P → ⊥
 off r P e f p = cc (f p)
@@ -17,3 +19,14 @@ same_error {X} {Y} {r} {a} {b} {c} e f h =
     let k : ◌≡◌ {A = Result X ReadError} (Err a) (Err c) = sym e ∙ h in
     let l : a ≡ c = cc in
     ap (λ x. Err x) (sym f ∙ l)
+
+-- fewer than so many, so one more still stands at most
+pub one_more : (few many : ℕ) → few ≤ many → few ≢ many → few + 1 ≤ many
+one_more few many within other = grind arith
+
+-- what was read is no refusal, and a refusal has no value
+pub was_read : {X : Type 0} {x : X} {P : Type 0} → IsErrOf (Ok x) Unreadable → P
+was_read e = absurd (cc e)
+
+pub no_value : {X : Type 0} (Q : ReadError → Type 0) (P : X → Type 0) (r : Result X ReadError) → IsErrAnd r Q → IfOk r P
+no_value Q P r h = let p = err_from_is_err_and r h in subst (λ x. IfOk x P) (sym p.1) tt

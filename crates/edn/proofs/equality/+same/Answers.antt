@@ -5,7 +5,7 @@ use Rattle.edn.specs.View.{value_of, values_of, entries_of}
 use Rattle.edn.specs.declared.value.Edn.{Edn}
 use Rattle.edn.proofs.Views.{view-Map}
 use Rattle.edn.proofs.Matching.{counts_none, counts_same, counts_less, counts_all, counts_enough, has_few, members_start, members_more, members_all, members_fail, members_length, order_start, order_more, order_all, order_fail, order_length}
-use Rattle.edn.proofs.Deciding.{off, none_here, all_here}
+use Rattle.edn.proofs.Deciding.{off, none_here, all_here, one_more}
 use Rattle.edn.proofs.PairMatching as paired
 use Rattle.edn.proofs.equality.+same.Goals as goal
 use Rattle.edn.proofs.equality.+same.Goals.{count_same-then-same, count_same-else-same, count_same_pairs-then-same_pair, count_same_pairs-else-same_pair, has_more_same-then-same+else-seen-count, has_more_same-else-same, has_more_same_pairs-then-same_pair+else-seen-count, has_more_same_pairs-else-same_pair}
@@ -44,7 +44,7 @@ has_more_same-loop-y-preserved t c =
       | has_more_same-then-same+else-seen-count w ↦
           let s = c.same.ensures.0 w.if-same.true in
           let more = counts_same c.args.elements.now c.loop-y.y-index c.y-item.result (value_of c.args.x.now) c.loop-y.seen c.loop-y-test.true c.y-item.is s c.loop-y.invariant.counted in
-          record { counted = rw w.seen-is more; few = grind arith; within = omega (arith, c.loop-y.invariant.within) }
+          record { counted = rw w.seen-is more; few = rw w.seen-is (one_more _ _ c.loop-y.invariant.few w.if-seen-count.false); within = omega (arith, c.loop-y.invariant.within) }
       | has_more_same-else-same w ↦
           let s = off c.same.result (Same (value_of c.args.x.now) (value_of c.y-item.result)) w.if-same.false c.same.ensures.1 in
           let less = counts_less c.args.elements.now c.loop-y.y-index c.y-item.result (value_of c.args.x.now) c.loop-y.seen c.loop-y-test.true c.y-item.is s c.loop-y.invariant.counted in
@@ -90,7 +90,7 @@ has_more_same_pairs-loop-y-preserved t c =
       | has_more_same_pairs-then-same_pair+else-seen-count w ↦
           let s = c.same_pair.ensures.0 w.if-same_pair.true in
           let more = paired.counts_same c.args.pairs.now c.loop-y.y-index c.y-item.result (value_of c.args.x.now.0) (value_of c.args.x.now.1) c.loop-y.seen c.loop-y-test.true c.y-item.is s c.loop-y.invariant.counted in
-          record { counted = rw w.seen-is more; few = grind arith; within = omega (arith, c.loop-y.invariant.within) }
+          record { counted = rw w.seen-is more; few = rw w.seen-is (one_more _ _ c.loop-y.invariant.few w.if-seen-count.false); within = omega (arith, c.loop-y.invariant.within) }
       | has_more_same_pairs-else-same_pair w ↦
           let s = off c.same_pair.result (Same (value_of c.args.x.now.0) (value_of c.y-item.result.0) × Same (value_of c.args.x.now.1) (value_of c.y-item.result.1)) w.if-same_pair.false c.same_pair.ensures.1 in
           let less = paired.counts_less c.args.pairs.now c.loop-y.y-index c.y-item.result (value_of c.args.x.now.0) (value_of c.args.x.now.1) c.loop-y.seen c.loop-y-test.true c.y-item.is s c.loop-y.invariant.counted in
@@ -103,7 +103,7 @@ has_more_same_pairs-returns t c =
     none_here _ (λ h. let n = paired.has_few (entries_of c.args.pairs.now) (value_of c.args.x.now.0) (value_of c.args.x.now.1) c.loop-y.seen (c.args.count + 1) all h in omega (arith, c.loop-y.invariant.few))
 
 pub same_members-returns-then-xs-ys : goal.same_members-returns-then-xs-ys
-same_members-returns-then-xs-ys t c = none_here _ (λ h. let n = members_length c.args.xs.now c.args.ys.now h in grind arith)
+same_members-returns-then-xs-ys t c = none_here _ (λ h. c.if-xs-ys.true (members_length c.args.xs.now c.args.ys.now h))
 
 pub same_members-loop-i-init : goal.same_members-loop-i-init
 same_members-loop-i-init t c = members_start c.args.xs.now c.args.ys.now
@@ -118,10 +118,10 @@ same_members-loop-i-preserved t c =
     members_more c.args.xs.now c.args.ys.now c.loop-i.i c.index-xs-i.result c.count_same-before.result c.loop-i-test.true c.index-xs-i.is c.loop-i.invariant c.count_same-before.ensures (c.has_more_same.ensures.0 c.if-not-has_more_same.false)
 
 pub same_members-returns : goal.same_members-returns
-same_members-returns t c = all_here _ (members_all c.args.xs.now c.args.ys.now c.loop-i.i (omega arith) (grind arith) c.loop-i.invariant)
+same_members-returns t c = all_here _ (members_all c.args.xs.now c.args.ys.now c.loop-i.i (omega arith) c.if-xs-ys.false c.loop-i.invariant)
 
 pub same_pairs-returns-then-xs-ys : goal.same_pairs-returns-then-xs-ys
-same_pairs-returns-then-xs-ys t c = none_here _ (λ h. let n = paired.pairs_length c.args.xs.now c.args.ys.now h in grind arith)
+same_pairs-returns-then-xs-ys t c = none_here _ (λ h. c.if-xs-ys.true (paired.pairs_length c.args.xs.now c.args.ys.now h))
 
 pub same_pairs-loop-i-init : goal.same_pairs-loop-i-init
 same_pairs-loop-i-init t c = paired.pairs_start c.args.xs.now c.args.ys.now
@@ -136,10 +136,10 @@ same_pairs-loop-i-preserved t c =
     paired.pairs_more c.args.xs.now c.args.ys.now c.loop-i.i c.index-xs-i.result c.count_same_pairs-before.result c.loop-i-test.true c.index-xs-i.is c.loop-i.invariant c.count_same_pairs-before.ensures (c.has_more_same_pairs.ensures.0 c.if-not-has_more_same_pairs.false)
 
 pub same_pairs-returns : goal.same_pairs-returns
-same_pairs-returns t c = all_here _ (paired.pairs_all c.args.xs.now c.args.ys.now c.loop-i.i (omega arith) (grind arith) c.loop-i.invariant)
+same_pairs-returns t c = all_here _ (paired.pairs_all c.args.xs.now c.args.ys.now c.loop-i.i (omega arith) c.if-xs-ys.false c.loop-i.invariant)
 
 pub same_in_order-returns-then-xs-ys : goal.same_in_order-returns-then-xs-ys
-same_in_order-returns-then-xs-ys t c = none_here _ (λ h. let n = order_length c.args.xs.now c.args.ys.now h in grind arith)
+same_in_order-returns-then-xs-ys t c = none_here _ (λ h. c.if-xs-ys.true (order_length c.args.xs.now c.args.ys.now h))
 
 pub same_in_order-loop-i-init : goal.same_in_order-loop-i-init
 same_in_order-loop-i-init t c = order_start c.args.xs.now c.args.ys.now
@@ -147,17 +147,17 @@ same_in_order-loop-i-init t c = order_start c.args.xs.now c.args.ys.now
 pub same_in_order-returns-then-not-same : goal.same_in_order-returns-then-not-same
 same_in_order-returns-then-not-same t c =
     let s = off c.same.result (Same (value_of c.index-xs-i.result) (value_of c.index-ys-i.result)) c.if-not-same.true c.same.ensures.1 in
-    let equal : length c.args.xs.now ≡ length c.args.ys.now = grind arith in
+    let equal : length c.args.xs.now ≡ length c.args.ys.now = c.if-xs-ys.false in
     none_here _ (λ h. order_fail c.args.xs.now c.args.ys.now c.loop-i.i c.index-xs-i.result c.index-ys-i.result c.loop-i-test.true (omega arith) c.index-xs-i.is c.index-ys-i.is s h)
 
 pub same_in_order-loop-i-preserved : goal.same_in_order-loop-i-preserved
 same_in_order-loop-i-preserved t c =
-    let equal : length c.args.xs.now ≡ length c.args.ys.now = grind arith in
+    let equal : length c.args.xs.now ≡ length c.args.ys.now = c.if-xs-ys.false in
     order_more c.args.xs.now c.args.ys.now c.loop-i.i c.index-xs-i.result c.index-ys-i.result c.loop-i-test.true (omega arith) c.index-xs-i.is c.index-ys-i.is c.loop-i.invariant (c.same.ensures.0 c.if-not-same.false)
 
 pub same_in_order-returns : goal.same_in_order-returns
 same_in_order-returns t c =
-    let equal : length c.args.xs.now ≡ length c.args.ys.now = grind arith in
+    let equal : length c.args.xs.now ≡ length c.args.ys.now = c.if-xs-ys.false in
     all_here _ (order_all c.args.xs.now c.args.ys.now c.loop-i.i (omega arith) (omega arith) c.loop-i.invariant)
 
 same_maps : (ps qs : Pairs) (v w : Value) (r : Bool) → v ≡ pairs ps → w ≡ pairs qs → (IsTrue r → SamePairs ps qs) × (SamePairs ps qs → IsTrue r) → (IsTrue r → Same v w) × (Same v w → IsTrue r)

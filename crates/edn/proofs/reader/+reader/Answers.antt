@@ -7,8 +7,8 @@ use Rattle.edn.specs.View.{value_of, values_of}
 use Rattle.edn.specs.Text.{Reads, ReadsAll}
 use Rattle.edn.specs.Text.Reads.{atom, in_quotes, in_brackets, in_braces, in_hash_braces}
 use Rattle.edn.specs.Reading.{FindsNext}
-use Rattle.edn.proofs.Beginnings.{OpensNothing, brace_off, hash_brace_off, no_element, other_close, no_piece, line_shorter, gap_shorter, reads_shorter}
-use Rattle.edn.proofs.Deciding.{same_error}
+use Rattle.edn.proofs.Beginnings.{OpensNothing, bracket_off, quote_off, brace_off, hash_brace_off, no_element, other_close, no_piece, line_shorter, gap_shorter, reads_shorter}
+use Rattle.edn.proofs.Deciding.{same_error, was_read, no_value}
 use Rattle.edn.proofs.Resume.{SoFar, so_far_next, so_far_done, GapSoFar, gap_white, gap_comment, gap_discard, gap_paid, gap_found, gap_done, gap_owing, gap_stuck}
 use Rattle.edn.proofs.Views.{view-Vector, view-Str, values_of-push}
 use Rattle.edn.proofs.reader.+reader.Goals as goal
@@ -165,3 +165,119 @@ next_element-returns-clause-ok t c =
     let none_owed : c.pieces.owed ≡ 0 = omega arith in
     let s = subst (λ k. GapSoFar c.args.depth c.args.text.now k c.pieces.rest.now) none_owed c.pieces.invariant.so_far in
     gap_done _ _ _ (sym c.pieces-test.ensures) s
+
+pub element-returns-in_err-found-clause-ok : goal.element-returns-in_err-found-clause-ok
+element-returns-in_err-found-clause-ok t c = no_value _ _ c.from_residual.result c.from_residual.ensures.1
+
+pub element-returns-in_err-found-clause-unreadable : goal.element-returns-in_err-found-clause-unreadable
+element-returns-in_err-found-clause-unreadable t c err v r h =
+    let p = err_from_is_err_and c.from_residual.result c.from_residual.ensures.1 in
+    let why = c.in_err-found.ensures.unreadable (same_error p.1 p.2 err) in
+    let o = bracket_off (subst (λ s. Reads c.args.depth s v r) c.in-Some.ensures.found h) in
+    why o.0 r (o.1, o.2)
+
+pub element-returns-in-Some-clause-unreadable : goal.element-returns-in-Some-clause-unreadable
+element-returns-in-Some-clause-unreadable t c = was_read
+
+pub element-returns-in_err-found-2-clause-ok : goal.element-returns-in_err-found-2-clause-ok
+element-returns-in_err-found-2-clause-ok t c = no_value _ _ c.from_residual-in_err-found-2.result c.from_residual-in_err-found-2.ensures.1
+
+pub element-returns-in_err-found-2-clause-unreadable : goal.element-returns-in_err-found-2-clause-unreadable
+element-returns-in_err-found-2-clause-unreadable t c err v r h =
+    let p = err_from_is_err_and c.from_residual-in_err-found-2.result c.from_residual-in_err-found-2.ensures.1 in
+    let why = c.in_err-found-2.ensures.unreadable (same_error p.1 p.2 err) in
+    let o = brace_off (subst (λ s. Reads c.args.depth s v r) c.in-Some-after.ensures.found h) in
+    why (in_text o.0) r (o.2, o.3)
+
+pub element-returns-in_err-map-clause-ok : goal.element-returns-in_err-map-clause-ok
+element-returns-in_err-map-clause-ok t c = no_value _ _ c.from_residual-in_err-map.result c.from_residual-in_err-map.ensures.1
+
+pub element-returns-in-Some-after-clause-unreadable : goal.element-returns-in-Some-after-clause-unreadable
+element-returns-in-Some-after-clause-unreadable t c = was_read
+
+pub element-returns-in_err-found-3-clause-ok : goal.element-returns-in_err-found-3-clause-ok
+element-returns-in_err-found-3-clause-ok t c = no_value _ _ c.from_residual-in_err-found-3.result c.from_residual-in_err-found-3.ensures.1
+
+pub element-returns-in_err-found-3-clause-unreadable : goal.element-returns-in_err-found-3-clause-unreadable
+element-returns-in_err-found-3-clause-unreadable t c err v r h =
+    let p = err_from_is_err_and c.from_residual-in_err-found-3.result c.from_residual-in_err-found-3.ensures.1 in
+    let why = c.in_err-found-3.ensures.unreadable (same_error p.1 p.2 err) in
+    let o = hash_brace_off (subst (λ s. Reads c.args.depth s v r) c.in-Some-after_set_opening.ensures.found h) in
+    why o.0 r (o.2, o.3)
+
+pub element-returns-in_err-set-clause-ok : goal.element-returns-in_err-set-clause-ok
+element-returns-in_err-set-clause-ok t c = no_value _ _ c.from_residual-in_err-set.result c.from_residual-in_err-set.ensures.1
+
+pub element-returns-in-Some-after_set_opening-clause-unreadable : goal.element-returns-in-Some-after_set_opening-clause-unreadable
+element-returns-in-Some-after_set_opening-clause-unreadable t c = was_read
+
+pub element-returns-in_err-string-clause-ok : goal.element-returns-in_err-string-clause-ok
+element-returns-in_err-string-clause-ok t c = no_value _ _ c.from_residual-in_err-string.result c.from_residual-in_err-string.ensures.1
+
+pub element-returns-in_err-string-clause-unreadable : goal.element-returns-in_err-string-clause-unreadable
+element-returns-in_err-string-clause-unreadable t c err v r h =
+    let p = err_from_is_err_and c.from_residual-in_err-string.result c.from_residual-in_err-string.ensures.1 in
+    let why = c.in_err-string.ensures.unreadable (same_error p.1 p.2 err) in
+    let o = quote_off (subst (λ s. Reads c.args.depth s v r) c.in-Some-after-2.ensures.found h) in
+    why o.0 r o.1 o.2
+
+pub element-returns-in-Some-after-2-clause-unreadable : goal.element-returns-in-Some-after-2-clause-unreadable
+element-returns-in-Some-after-2-clause-unreadable t c = was_read
+
+pub element-returns-in_err-atom-clause-ok : goal.element-returns-in_err-atom-clause-ok
+element-returns-in_err-atom-clause-ok t c = no_value _ _ c.from_residual-in_err-atom.result c.from_residual-in_err-atom.ensures.1
+
+pub element-returns-clause-unreadable : goal.element-returns-clause-unreadable
+element-returns-clause-unreadable t c = was_read
+
+pub collection-returns-in_err-found-clause-ok : goal.collection-returns-in_err-found-clause-ok
+collection-returns-in_err-found-clause-ok t c = no_value _ _ c.from_residual.result c.from_residual.ensures.1
+
+pub collection-returns-in_err-found-clause-unreadable : goal.collection-returns-in_err-found-clause-unreadable
+collection-returns-in_err-found-clause-unreadable t c err vs r h =
+    let p = err_from_is_err_and c.from_residual.result c.from_residual.ensures.1 in
+    let why = c.in_err-found.ensures.unreadable (same_error p.1 p.2 err) in
+    why vs (c.args.close ∷ r) c.requires h.1
+
+pub collection-returns-in-Some-clause-ok : goal.collection-returns-in-Some-clause-ok
+collection-returns-in-Some-clause-ok t c = (omega arith, subst (λ l. ReadsAll (c.args.depth + 1) c.args.text.now (values_of c.in_ok-found.found.items) l) c.in-Some.ensures.found c.in_ok-found.ensures.ok)
+
+pub collection-returns-in-Some-clause-unreadable : goal.collection-returns-in-Some-clause-unreadable
+collection-returns-in-Some-clause-unreadable t c = was_read
+
+pub inside-returns-in_err-next-clause-ok : goal.inside-returns-in_err-next-clause-ok
+inside-returns-in_err-next-clause-ok t c = no_value _ _ c.from_residual-in_err-next.result c.from_residual-in_err-next.ensures.1
+
+pub inside-returns-in_err-found-clause-ok : goal.inside-returns-in_err-found-clause-ok
+inside-returns-in_err-found-clause-ok t c = no_value _ _ c.from_residual.result c.from_residual.ensures.1
+
+pub inside-returns-in_err-push-in-Some-clause-ok : goal.inside-returns-in_err-push-in-Some-clause-ok
+inside-returns-in_err-push-in-Some-clause-ok t c = no_value _ _ c.from_residual-in_err-push-in-Some.result c.from_residual-in_err-push-in-Some.ensures.1
+
+pub inside-returns-in_err-next-clause-closed : goal.inside-returns-in_err-next-clause-closed
+inside-returns-in_err-next-clause-closed t c = no_value _ _ c.from_residual-in_err-next.result c.from_residual-in_err-next.ensures.1
+
+pub inside-returns-in_err-found-clause-closed : goal.inside-returns-in_err-found-clause-closed
+inside-returns-in_err-found-clause-closed t c = no_value _ _ c.from_residual.result c.from_residual.ensures.1
+
+pub inside-returns-in_err-push-in-Some-clause-closed : goal.inside-returns-in_err-push-in-Some-clause-closed
+inside-returns-in_err-push-in-Some-clause-closed t c = no_value _ _ c.from_residual-in_err-push-in-Some.result c.from_residual-in_err-push-in-Some.ensures.1
+
+pub inside-returns-in-None-clause-unreadable : goal.inside-returns-in-None-clause-unreadable
+inside-returns-in-None-clause-unreadable t c = was_read
+
+pub next_element-returns-in_err-value-clause-ok : goal.next_element-returns-in_err-value-clause-ok
+next_element-returns-in_err-value-clause-ok t c = no_value _ _ c.from_residual.result c.from_residual.ensures.1
+
+pub next_element-returns-then-owed-eq0-clause-unreadable : goal.next_element-returns-then-owed-eq0-clause-unreadable
+next_element-returns-then-owed-eq0-clause-unreadable t c = was_read
+
+pub next_element-returns-clause-unreadable : goal.next_element-returns-clause-unreadable
+next_element-returns-clause-unreadable t c = was_read
+
+pub inside-returns-in_err-next-clause-unreadable : goal.inside-returns-in_err-next-clause-unreadable
+inside-returns-in_err-next-clause-unreadable t c err vs r e h =
+    let p = err_from_is_err_and c.from_residual-in_err-next.result c.from_residual-in_err-next.ensures.1 in
+    let why = c.in_err-next.ensures.unreadable (same_error p.1 p.2 err) in
+    let rest = c.elements.invariant.complete vs r e h in
+    why rest.0 r e rest.2
