@@ -16,9 +16,11 @@ use Rattle.events.specs.ProcessRule.{MayAct, MayCome, busy_by, busy_after, IsHis
 use Rattle.linspec.specs.declared.verdict.KeyStatus.{KeyStatus}
 use Rattle.linspec.specs.declared.verdict.KeyStatus.TheVariants as status
 use Rattle.linspec.specs.MarkRule.{IsNew, MayFollow, AreWellFormed}
-use Rattle.linspec.specs.Ends.{HasMoreThan}
+use Rattle.linspec.specs.Ends.{Count}
+use Rattle.linspec.specs.Counts.{CountsMoreThan}
 use Rattle.linspec.specs.Orders.{IsLinearizable}
 use Rattle.linspec.specs.Verdicts.{IsKeyStatus, IsRising}
+use Rattle.linspec.proofs.ByKind.{counted_order}
 use Rattle.linspec.proofs.Fronts.{marks-append}
 use Rattle.linspec.proofs.Histories.{of_history}
 use Rattle.frontier.specs.declared.frontier.Step.{Step}
@@ -62,7 +64,7 @@ none_or_one : (i : ℕ) (last : ℕ → ℕ) (o : Option OpEvent) → (entries_b
 none_or_one i last None = inl refl
 none_or_one i last (Some e) = inr (entry_by i last e, refl)
 
-module _ (o : Object) (budget : ℕ) (events : List (ℕ × Event)) (x : ℕ × Event) (history : IsHistory (events ++ x ∷ [])) where
+module _ (kind : ModelKind) (budget : ℕ) (events : List (ℕ × Event)) (x : ℕ × Event) (history : IsHistory (events ++ x ∷ [])) where
   none_more : entries_by x.0 (invocation_of events) (op_event x.1) ≡ [] → entries_of (events ++ x ∷ []) ≡ entries_of events
   none_more none = entries_of-push events x ∙ ap (λ l. entries_of events ++ l) none ∙ append-nil (entries_of events)
 
@@ -73,21 +75,21 @@ module _ (o : Object) (budget : ℕ) (events : List (ℕ × Event)) (x : ℕ × 
   well_with e q = subst (λ l. AreWellFormed (marks l)) q (of_history (events ++ x ∷ []) history).1
 
   -- a key that is dead stays dead, and one that is over stays over
-  pub dead_after : (i : ℕ) → IsKeyStatus o budget (entries_of events) (status.Dead i) → IsKeyStatus o budget (entries_of (events ++ x ∷ [])) (status.Dead i)
+  pub dead_after : (i : ℕ) → IsKeyStatus kind budget (entries_of events) (status.Dead i) → IsKeyStatus kind budget (entries_of (events ++ x ∷ [])) (status.Dead i)
   dead_after i dead =
       ⊎_elim
-      (λ none. subst (λ l. IsKeyStatus o budget l (status.Dead i)) (sym (none_more none)) dead)
+      (λ none. subst (λ l. IsKeyStatus kind budget l (status.Dead i)) (sym (none_more none)) dead)
       (λ one. (let q : entries_of (events ++ x ∷ []) ≡ entries_of events ++ one.0 ∷ [] = one_more one.0 one.1 in
-      let r = dead_stays o budget (entries_of events) one.0 dead.1.0 (well_with one.0 q) dead.0 dead.1.1 in
-      subst (λ l. IsKeyStatus o budget l (status.Dead i)) (sym q) (r.0, (dead.1.0, r.1, dead.1.2))))
+      let r = dead_stays (CountsMoreThan kind) (object_of kind) budget (entries_of events) one.0 dead.1.0 (λ before. counted_order kind before budget) (well_with one.0 q) dead.0 dead.1.1 in
+      subst (λ l. IsKeyStatus kind budget l (status.Dead i)) (sym q) (r.0, (dead.1.0, r.1, dead.1.2))))
       (none_or_one x.0 (invocation_of events) (op_event x.1))
 
-  pub over_after : (i : ℕ) → IsKeyStatus o budget (entries_of events) (status.Over i) → IsKeyStatus o budget (entries_of (events ++ x ∷ [])) (status.Over i)
+  pub over_after : (i : ℕ) → IsKeyStatus kind budget (entries_of events) (status.Over i) → IsKeyStatus kind budget (entries_of (events ++ x ∷ [])) (status.Over i)
   over_after i over =
       ⊎_elim
-      (λ none. subst (λ l. IsKeyStatus o budget l (status.Over i)) (sym (none_more none)) over)
+      (λ none. subst (λ l. IsKeyStatus kind budget l (status.Over i)) (sym (none_more none)) over)
       (λ one. (let q : entries_of (events ++ x ∷ []) ≡ entries_of events ++ one.0 ∷ [] = one_more one.0 one.1 in
-      subst (λ l. IsKeyStatus o budget l (status.Over i)) (sym q) (over_stays o budget (entries_of events) one.0 i (subst IsRising q (of_history (events ++ x ∷ []) history).2) over)))
+      subst (λ l. IsKeyStatus kind budget l (status.Over i)) (sym q) (over_stays (CountsMoreThan kind) (object_of kind) budget (entries_of events) one.0 i (subst IsRising q (of_history (events ++ x ∷ []) history).2) over)))
       (none_or_one x.0 (invocation_of events) (op_event x.1))
 
 -- an invocation and an info kill nothing
@@ -96,24 +98,24 @@ pub record KillNothing (o : Object) : Type 0 where
   pub crash : (before : List Mark) (id : ℕ) → IsLinearizable o before → IsLinearizable o (before ++ Crashed id ∷ [])
 
 -- the answer is the step, where the history before was linearizable
-step_of_answer : (o : Object) → KillNothing o → (budget : ℕ) (before : List Mark) (mark : Mark) → MayFollow before mark → IsLinearizable o before → (step : Step) → IsAnswer o budget before mark step → IsStep o budget before mark step
-step_of_answer o kills budget before (Returned id answer) may lin step is = is
-step_of_answer o kills budget before (Failed id) may lin step is = is
-step_of_answer o kills budget before (Invoked id op) may lin step is = subst (IsStep o budget before (Invoked id op)) (sym is) ((λ none. none), kills.invocation before id op may lin)
-step_of_answer o kills budget before (Crashed id) may lin step is = subst (IsStep o budget before (Crashed id)) (sym is) ((λ none. none), kills.crash before id lin)
+step_of_answer : (more : Count) (o : Object) → KillNothing o → (budget : ℕ) (before : List Mark) (mark : Mark) → MayFollow before mark → IsLinearizable o before → (step : Step) → IsAnswer more o budget before mark step → IsStep more o budget before mark step
+step_of_answer more o kills budget before (Returned id answer) may lin step is = is
+step_of_answer more o kills budget before (Failed id) may lin step is = is
+step_of_answer more o kills budget before (Invoked id op) may lin step is = subst (IsStep more o budget before (Invoked id op)) (sym is) ((λ none. none), kills.invocation before id op may lin)
+step_of_answer more o kills budget before (Crashed id) may lin step is = subst (IsStep more o budget before (Crashed id)) (sym is) ((λ none. none), kills.crash before id lin)
 
 -- only an ok blows the budget
-blown_at : (o : Object) (budget : ℕ) (before : List Mark) (mark : Mark) → Blows o budget before mark → ((id : ℕ) × (answer : Answer) × (mark ≡ Returned id answer)) × HasMoreThan o before budget
-blown_at o budget before (Returned id answer) many = ((id, answer, refl), many)
-blown_at o budget before (Invoked id op) none = absurd none
-blown_at o budget before (Failed id) none = absurd none
-blown_at o budget before (Crashed id) none = absurd none
+blown_at : (more : Count) (budget : ℕ) (before : List Mark) (mark : Mark) → Blows more budget before mark → ((id : ℕ) × (answer : Answer) × (mark ≡ Returned id answer)) × more before budget
+blown_at more budget before (Returned id answer) many = ((id, answer, refl), many)
+blown_at more budget before (Invoked id op) none = absurd none
+blown_at more budget before (Failed id) none = absurd none
+blown_at more budget before (Crashed id) none = absurd none
 
 module _ (kind : ModelKind) (budget : ℕ) (events : List (ℕ × Event)) (index : ℕ) (event : Event) (live : LiveKey) (is_live : IsLiveKey kind budget events live) (alive : IsAlive kind budget events) (history : IsHistory (events ++ (index, event) ∷ [])) where
   -- an event that speaks of no operation leaves everything as it is
   pub silent_after : op_event event ≡ None → IsKeyState kind budget (events ++ (index, event) ∷ []) (Alive live)
   silent_after silent = (
-    subst (λ l. IsKeyStatus (object_of kind) budget l status.Alive) (sym same) alive,
+    subst (λ l. IsKeyStatus kind budget l status.Alive) (sym same) alive,
     record {
       stands = subst (λ l. (any_view_of live.frontier).stands (marks l)) (sym same) is_live.stands;
       kind_is = is_live.kind_is;
@@ -124,7 +126,7 @@ module _ (kind : ModelKind) (budget : ℕ) (events : List (ℕ × Event)) (index
   )
     where
       same : entries_of (events ++ (index, event) ∷ []) ≡ entries_of events
-      same = none_more (object_of kind) budget events (index, event) history (ap (entries_by index (invocation_of events)) silent)
+      same = none_more kind budget events (index, event) history (ap (entries_by index (invocation_of events)) silent)
 
   module _ (p : ℕ) (is_client : event.process ≡ processes.Client p) (op : Op) (is_op : event.body ≡ bodies.Op op) where
     speaks : op_event event ≡ Some (record { process = p; key = op.key; act = act_by event.kind op })
@@ -146,11 +148,11 @@ module _ (kind : ModelKind) (budget : ℕ) (events : List (ℕ × Event)) (index
     entry = entry_of index op.key (mark_by the_id event.kind op)
 
     entries : entries_of (events ++ (index, event) ∷ []) ≡ entries_of events ++ entry ∷ []
-    entries = one_more (object_of kind) budget events (index, event) history entry
+    entries = one_more kind budget events (index, event) history entry
         (ap (entries_by index (invocation_of events)) speaks ∙ ap (λ m. entry_of index op.key m ∷ []) (one_mark index (invocation_of events p) event.kind op))
 
     may_follow : MayFollow (marks (entries_of events)) (mark_by the_id event.kind op)
-    may_follow = well_with (object_of kind) budget events (index, event) history entry entries (marks (entries_of events)) [] (mark_by the_id event.kind op) (sym (marks-append (entries_of events) (entry ∷ [])))
+    may_follow = well_with kind budget events (index, event) history entry entries (marks (entries_of events)) [] (mark_by the_id event.kind op) (sym (marks-append (entries_of events) (entry ∷ [])))
 
     -- what is open after the event, and where it is noted
     busy_then : (q : ℕ) → busy_of (events ++ (index, event) ∷ []) q ≡ busy_by (busy_of events) p op.key (act_by event.kind op) q
@@ -182,19 +184,19 @@ module _ (kind : ModelKind) (budget : ℕ) (events : List (ℕ × Event)) (index
     marks_with : marks (entries_of events ++ entry ∷ []) ≡ marks (entries_of events) ++ mark_by the_id event.kind op ∷ []
     marks_with = marks-append (entries_of events) (entry ∷ [])
 
-    not_here : ¬ Blows (object_of kind) budget (marks (entries_of events)) (mark_by the_id event.kind op) → (id : ℕ) (answer : Answer) → entry.mark ≡ Returned id answer → ¬ HasMoreThan (object_of kind) (marks (entries_of events)) budget
-    not_here none id answer is = subst (λ m. ¬ Blows (object_of kind) budget (marks (entries_of events)) m) is none
+    not_here : ¬ Blows (CountsMoreThan kind) budget (marks (entries_of events)) (mark_by the_id event.kind op) → (id : ℕ) (answer : Answer) → entry.mark ≡ Returned id answer → ¬ CountsMoreThan kind (marks (entries_of events)) budget
+    not_here none id answer is = subst (λ m. ¬ Blows (CountsMoreThan kind) budget (marks (entries_of events)) m) is none
 
-    by_step : (step : Step) → IsStep (object_of kind) budget (marks (entries_of events)) (mark_by the_id event.kind op) step → IsKeyStatus (object_of kind) budget (entries_of (events ++ (index, event) ∷ [])) (status_at step)
+    by_step : (step : Step) → IsStep (CountsMoreThan kind) (object_of kind) budget (marks (entries_of events)) (mark_by the_id event.kind op) step → IsKeyStatus kind budget (entries_of (events ++ (index, event) ∷ [])) (status_at step)
     by_step steps.Alive s =
-        subst (λ l. IsKeyStatus (object_of kind) budget l status.Alive) (sym entries)
-        (alive_here (object_of kind) budget (entries_of events) entry (not_here s.0) alive.0 alive.1 (subst (IsLinearizable (object_of kind)) (sym marks_with) s.1))
+        subst (λ l. IsKeyStatus kind budget l status.Alive) (sym entries)
+        (alive_here (CountsMoreThan kind) (object_of kind) budget (entries_of events) entry (not_here s.0) alive.0 alive.1 (subst (IsLinearizable (object_of kind)) (sym marks_with) s.1))
     by_step steps.Dead s =
-        let r = dead_here (object_of kind) budget (entries_of events) entry (not_here s.0) alive.0 alive.1 (subst (λ l. ¬ IsLinearizable (object_of kind) l) (sym marks_with) s.1) in
-        subst (λ l. IsKeyStatus (object_of kind) budget l (status.Dead index)) (sym entries) (r.0, (entry, r.1, refl))
+        let r = dead_here (CountsMoreThan kind) (object_of kind) budget (entries_of events) entry (not_here s.0) alive.0 alive.1 (subst (λ l. ¬ IsLinearizable (object_of kind) l) (sym marks_with) s.1) in
+        subst (λ l. IsKeyStatus kind budget l (status.Dead index)) (sym entries) (r.0, (entry, r.1, refl))
     by_step steps.Over s =
-        let b = blown_at (object_of kind) budget (marks (entries_of events)) (mark_by the_id event.kind op) s in
-        subst (λ l. IsKeyStatus (object_of kind) budget l (status.Over index)) (sym entries) (over_here (object_of kind) budget (entries_of events) entry b.0.0 b.0.1 b.0.2 alive.0 b.1)
+        let b = blown_at (CountsMoreThan kind) budget (marks (entries_of events)) (mark_by the_id event.kind op) s in
+        subst (λ l. IsKeyStatus kind budget l (status.Over index)) (sym entries) (over_here (CountsMoreThan kind) (object_of kind) budget (entries_of events) entry b.0.0 b.0.1 b.0.2 alive.0 b.1)
 
     -- the same in the words of the code: the operation that was found, and what the step was
     module _ (found : Option ℕ) (finds : found ≡ id_by index event.kind (noted_of live.invocations p)) where
@@ -205,15 +207,15 @@ module _ (kind : ModelKind) (budget : ℕ) (events : List (ℕ × Event)) (index
         same_id : id ≡ the_id
         same_id = (let both : Some id ≡ Some the_id = sym is_id ∙ (finds ∙ finds_id) in cc)
 
-        pub status_stepped : Answers (object_of (kind_of_frontier live.frontier)) (any_view_of live.frontier).budget (any_view_of live.frontier).stands (mark_by id event.kind op) step → KillNothing (object_of kind)
-            → (s : Step) → step ≡ s → IsKeyStatus (object_of kind) budget (entries_of (events ++ (index, event) ∷ [])) (status_at s)
+        pub status_stepped : Answers (CountsMoreThan (kind_of_frontier live.frontier)) (object_of (kind_of_frontier live.frontier)) (any_view_of live.frontier).budget (any_view_of live.frontier).stands (mark_by id event.kind op) step → KillNothing (object_of kind)
+            → (s : Step) → step ≡ s → IsKeyStatus kind budget (entries_of (events ++ (index, event) ∷ [])) (status_at s)
         status_stepped answers kills s is =
             let before : IsLinearizable (object_of kind) (marks (entries_of events)) = alive.1 (entries_of events) ([], append-nil (entries_of events)) in
-            let here = subst (λ k. Answers (object_of k) budget (any_view_of live.frontier).stands (mark_by the_id event.kind op) step) is_live.kind_is
-            (subst (λ n. Answers (object_of (kind_of_frontier live.frontier)) n (any_view_of live.frontier).stands (mark_by the_id event.kind op) step) is_live.budget_is
-            (subst (λ n. Answers (object_of (kind_of_frontier live.frontier)) (any_view_of live.frontier).budget (any_view_of live.frontier).stands (mark_by n event.kind op) step) same_id answers)) in
-            subst (λ r. IsKeyStatus (object_of kind) budget (entries_of (events ++ (index, event) ∷ [])) (status_at r)) is
-            (by_step step (step_of_answer (object_of kind) kills budget (marks (entries_of events)) (mark_by the_id event.kind op) may_follow before step (here.right (marks (entries_of events)) is_live.stands may_follow)))
+            let here = subst (λ k. Answers (CountsMoreThan k) (object_of k) budget (any_view_of live.frontier).stands (mark_by the_id event.kind op) step) is_live.kind_is
+            (subst (λ n. Answers (CountsMoreThan (kind_of_frontier live.frontier)) (object_of (kind_of_frontier live.frontier)) n (any_view_of live.frontier).stands (mark_by the_id event.kind op) step) is_live.budget_is
+            (subst (λ n. Answers (CountsMoreThan (kind_of_frontier live.frontier)) (object_of (kind_of_frontier live.frontier)) (any_view_of live.frontier).budget (any_view_of live.frontier).stands (mark_by n event.kind op) step) same_id answers)) in
+            subst (λ r. IsKeyStatus kind budget (entries_of (events ++ (index, event) ∷ [])) (status_at r)) is
+            (by_step step (step_of_answer (CountsMoreThan kind) (object_of kind) kills budget (marks (entries_of events)) (mark_by the_id event.kind op) may_follow before step (here.right (marks (entries_of events)) is_live.stands may_follow)))
 
         -- what the frontier stands for after a step of Alive, now or once it is carried out
         pub marks_stepped : (next : List Mark → Type 0) → TakesUnlessOver (any_view_of live.frontier).stands next (mark_by id event.kind op) step → step ≡ steps.Alive → next (marks (entries_of (events ++ (index, event) ∷ [])))
@@ -222,22 +224,22 @@ module _ (kind : ModelKind) (budget : ℕ) (events : List (ℕ × Event)) (index
             subst next (sym (ap marks entries ∙ marks_with)) (same_kept.taken (λ e. cc) (marks (entries_of events)) is_live.stands may_follow)
 
 -- a key without events is alive
-pub alive_at_first : (o : Object) (budget : ℕ) → IsKeyStatus o budget [] status.Alive
-alive_at_first o budget = (none_blown o budget, fronts_of_none o (IsLinearizable-empty o))
+pub alive_at_first : (kind : ModelKind) (budget : ℕ) → IsKeyStatus kind budget [] status.Alive
+alive_at_first kind budget = (none_blown (CountsMoreThan kind) budget, fronts_of_none (object_of kind) (IsLinearizable-empty (object_of kind)))
 
 -- what is kept of a key that stands so
 module _ (kind : ModelKind) (budget : ℕ) (events : List (ℕ × Event)) (state : KeyState) (stands : IsKeyState kind budget events state) where
   pub is_alive : (live : LiveKey) → state ≡ Alive live → IsAlive kind budget events × IsLiveKey kind budget events live
   is_alive live is = subst (IsKeyState kind budget events) is stands
 
-  pub is_dead : (i : ℕ) → state ≡ Dead i → IsKeyStatus (object_of kind) budget (entries_of events) (status.Dead i)
+  pub is_dead : (i : ℕ) → state ≡ Dead i → IsKeyStatus kind budget (entries_of events) (status.Dead i)
   is_dead i is = subst (IsKeyState kind budget events) is stands
 
-  pub is_over : (i : ℕ) → state ≡ Over i → IsKeyStatus (object_of kind) budget (entries_of events) (status.Over i)
+  pub is_over : (i : ℕ) → state ≡ Over i → IsKeyStatus kind budget (entries_of events) (status.Over i)
   is_over i is = subst (IsKeyState kind budget events) is stands
 
 -- the status of the key is that of its events
-pub status_is : (kind : ModelKind) (budget : ℕ) (events : List (ℕ × Event)) (state : KeyState) → IsKeyState kind budget events state → IsKeyStatus (object_of kind) budget (entries_of events) (status_of state)
+pub status_is : (kind : ModelKind) (budget : ℕ) (events : List (ℕ × Event)) (state : KeyState) → IsKeyState kind budget events state → IsKeyStatus kind budget (entries_of events) (status_of state)
 status_is kind budget events (Alive live) stands = stands.0
 status_is kind budget events (Dead i) stands = stands
 status_is kind budget events (Over i) stands = stands

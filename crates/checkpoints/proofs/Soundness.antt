@@ -4,7 +4,6 @@ use Rattle.std.proofs.lemmas.List.{take_all, take-map, map-append}
 use Rattle.std.specs.declared.boxed.Box.{Box}
 use Rattle.std.specs.Global.{Global}
 use Rattle.models.specs.declared.model_kind.ModelKind.{ModelKind}
-use Rattle.models.specs.Objects.{object_of}
 use Rattle.events.specs.declared.event.Event.{Event}
 use Rattle.events.specs.Events.{entries_of}
 use Rattle.events.specs.ProcessRule.{IsHistory}
@@ -31,13 +30,13 @@ use Rattle.checkpoints.proofs.Cutting.{IsHistory-take, length-places}
 use Rattle.checkpoints.proofs.SavedStates.{AreSaved-take}
 
 -- the status of a state is that of what it was judged by
-pub status_right : (kind : ModelKind) (budget : ℕ) (events : List (ℕ × Event)) (state : KeyState) → IsKeyState kind budget events state → (s : KeyStatus) → s ≡ status_of state → IsKeyStatus (object_of kind) budget (entries_of events) s
-status_right kind budget events state stands s is = subst (IsKeyStatus (object_of kind) budget (entries_of events)) (sym is) (status_is kind budget events state stands)
+pub status_right : (kind : ModelKind) (budget : ℕ) (events : List (ℕ × Event)) (state : KeyState) → IsKeyState kind budget events state → (s : KeyStatus) → s ≡ status_of state → IsKeyStatus kind budget (entries_of events) s
+status_right kind budget events state stands s is = subst (IsKeyStatus kind budget (entries_of events)) (sym is) (status_is kind budget events state stands)
 
 -- the status of what a state becomes is that of what it is judged by then
-pub next_right : (kind : ModelKind) (budget : ℕ) (events : List (ℕ × Event)) (state : KeyState) (next : Next) → IsNext kind budget events state next → (s : KeyStatus) → s ≡ status_by state next → IsKeyStatus (object_of kind) budget (entries_of events) s
+pub next_right : (kind : ModelKind) (budget : ℕ) (events : List (ℕ × Event)) (state : KeyState) (next : Next) → IsNext kind budget events state next → (s : KeyStatus) → s ≡ status_by state next → IsKeyStatus kind budget (entries_of events) s
 next_right kind budget events state Stays is s eq = status_right kind budget events state is s eq
-next_right kind budget events (Alive live) Goes is s eq = subst (IsKeyStatus (object_of kind) budget (entries_of events)) (sym eq) is.0
+next_right kind budget events (Alive live) Goes is s eq = subst (IsKeyStatus kind budget (entries_of events)) (sym eq) is.0
 next_right kind budget events (Dead i) Goes is s eq = absurd is
 next_right kind budget events (Over i) Goes is s eq = absurd is
 next_right kind budget events state (Dies i) is s eq = status_right kind budget events (Dead i) is s eq
@@ -105,14 +104,14 @@ module _ (kind : ModelKind) (budget : ℕ) (events : List (ℕ × Event)) (prepa
   pub status_seen : (state : KeyState) → IsKeyState kind budget events state → (s : KeyStatus) → s ≡ status_of state → IsStatusOf line.now s
   status_seen state stands s is = subst (λ (v : KeyLineView). IsStatusOf v.now s) seen (status_right kind budget events state stands s is)
 
-  pub next_seen : (index : ℕ) (event : Event) (s : KeyStatus) → IsKeyStatus (object_of kind) budget (entries_of (events ++ (index, event) ∷ [])) s → IsStatusOf (with_pushed index event line.now) s
+  pub next_seen : (index : ℕ) (event : Event) (s : KeyStatus) → IsKeyStatus kind budget (entries_of (events ++ (index, event) ∷ [])) s → IsStatusOf (with_pushed index event line.now) s
   next_seen index event s h = subst (λ (v : KeyLineView). IsStatusOf (with_pushed index event v.now) s) seen h
 
-  pub cut_seen : (n k : ℕ) → take k events ≡ events_below n events → (s : KeyStatus) → IsKeyStatus (object_of kind) budget (entries_of (take k events)) s → IsStatusOf (cut_at n line.now) s
+  pub cut_seen : (n k : ℕ) → take k events ≡ events_below n events → (s : KeyStatus) → IsKeyStatus kind budget (entries_of (take k events)) s → IsStatusOf (cut_at n line.now) s
   cut_seen n k first s is =
-      subst (λ (v : KeyLineView). IsStatusOf (cut_at n v.now) s) seen (subst (λ l. IsKeyStatus (object_of kind) budget (entries_of l) s) first is)
+      subst (λ (v : KeyLineView). IsStatusOf (cut_at n v.now) s) seen (subst (λ l. IsKeyStatus kind budget (entries_of l) s) first is)
 
-  pub rebuilt_seen : (other : ModelKind) (new_budget : ℕ) (s : KeyStatus) → IsKeyStatus (object_of other) new_budget (entries_of events) s → IsStatusOf (judged_by other new_budget line.now) s
+  pub rebuilt_seen : (other : ModelKind) (new_budget : ℕ) (s : KeyStatus) → IsKeyStatus other new_budget (entries_of events) s → IsStatusOf (judged_by other new_budget line.now) s
   rebuilt_seen other new_budget s is = subst (λ (v : KeyLineView). IsStatusOf (judged_by other new_budget v.now) s) seen is
 
 module _ (kind : ModelKind) (budget : ℕ) (events : List (ℕ × Event)) (places : List ℕ) (state : KeyState) (saved : List KeyState) (room : ℕ) (prepared : Option Prepared) (sound : IsSoundLine kind budget events places state saved room prepared) where

@@ -9,14 +9,14 @@ use Rattle.events.specs.Events.{Mark, Entry, marks, IsFront}
 use Rattle.events.specs.Events.Mark.{Returned}
 use Rattle.linspec.specs.MarkRule.{AreWellFormed}
 use Rattle.linspec.specs.Orders.{IsLinearizable}
-use Rattle.linspec.specs.Ends.{End, IsEnd, HasMoreThan, IsBlownAt, IsBlownIndex, IsWithinBudget}
+use Rattle.linspec.specs.Ends.{Count, IsBlownAtBy, IsBlownIndexBy, IsWithinBudgetBy}
 use Rattle.linspec.specs.Verdicts.{EndsShortestBadFront, EveryFrontIsLinearizable, IsRising}
 use Rattle.linspec.proofs.Lists.{Contains-nil, Contains-head, snoc_cut, Pairwise-across}
-use Rattle.linspec.proofs.Fronts.{marks-append, IsLinearizable-end, IsLinearizable-front}
+use Rattle.linspec.proofs.Fronts.{marks-append, IsLinearizable-front}
 
 -- the empty list of entries
-pub none_blown : (o : Object) (budget : ℕ) → IsWithinBudget o budget []
-none_blown o budget i b = Contains-nil b.event (subst (λ l. Contains l b.event) b.cut (Contains-append_right b.before (b.event ∷ b.after) b.event (Contains-head b.event b.after)))
+pub none_blown : (more : Count) (budget : ℕ) → IsWithinBudgetBy more budget []
+none_blown more budget i b = Contains-nil b.event (subst (λ l. Contains l b.event) b.cut (Contains-append_right b.before (b.event ∷ b.after) b.event (Contains-head b.event b.after)))
 
 front_of_none : (xs rest : List Entry) → xs ++ rest ≡ [] → xs ≡ []
 front_of_none [] rest e = refl
@@ -44,14 +44,6 @@ IsLinearizable-empty o = (
 pub AreWellFormed-front : (front entries : List Entry) → IsFront front entries → AreWellFormed (marks entries) → AreWellFormed (marks front)
 AreWellFormed-front front entries is well before after m cut = well before (after ++ marks is.0) m (sym (append_assoc before (m ∷ after) (marks is.0)) ∙ ap (λ l. l ++ marks is.0) cut ∙ sym (marks-append front is.0) ∙ ap marks is.1)
 
--- who has an end is linearizable
-pub some_end : (o : Object) (marks : List Mark) (n : ℕ) → HasMoreThan o marks n → IsLinearizable o marks
-some_end o marks n h = by_list h.ends h.many h.each
-  where
-    by_list : (ends : List (End o.State)) → length ends ≡ n + 1 → ((e : End o.State) → Contains ends e → IsEnd o marks e) → IsLinearizable o marks
-    by_list [] many each = (let none : 0 ≡ n + 1 = many in absurd (omega arith))
-    by_list (e ∷ ends) many each = (IsLinearizable-end o marks).1 (e, each e (Contains-head e ends))
-
 -- a front of the entries with one more is all of them, or a front of the entries
 front_cases : (entries : List Entry) (e : Entry) (front : List Entry) → IsFront front (entries ++ e ∷ []) → (front ≡ entries ++ e ∷ []) ⊎ IsFront front entries
 front_cases entries e front is =
@@ -66,22 +58,22 @@ longer entries e front is = (is.0 ++ e ∷ [], sym (append_assoc front is.0 (e �
 length-front : (entries front : List Entry) → IsFront front entries → length front ≤ length entries
 length-front entries front is = (let a : length (front ++ is.0) ≡ length entries = ap length is.1 in let b : length (front ++ is.0) ≡ length front + length is.0 = length-append front is.0 in omega arith)
 
-module _ (o : Object) (budget : ℕ) (entries : List Entry) (e : Entry) where
+module _ (more : Count) (o : Object) (budget : ℕ) (entries : List Entry) (e : Entry) where
   -- an ok is that of the entries, or the last one
-  blown_cases : (i : ℕ) → IsBlownAt o budget (entries ++ e ∷ []) i → IsBlownAt o budget entries i ⊎ ((e.index ≡ i) × ((id : ℕ) × (answer : Answer) × (e.mark ≡ Returned id answer)) × HasMoreThan o (marks entries) budget)
+  blown_cases : (i : ℕ) → IsBlownAtBy more budget (entries ++ e ∷ []) i → IsBlownAtBy more budget entries i ⊎ ((e.index ≡ i) × ((id : ℕ) × (answer : Answer) × (e.mark ≡ Returned id answer)) × more (marks entries) budget)
   blown_cases i b =
       ⊎_elim
       (λ none. (let clash : b.event ∷ b.after ≡ [] = none in cc))
       (λ c. at_rest c.0 c.1 c.2)
       (snoc_cut b.before (b.event ∷ b.after) entries e b.cut)
     where
-      at_rest : (rest : List Entry) → b.event ∷ b.after ≡ rest ++ e ∷ [] → b.before ++ rest ≡ entries → IsBlownAt o budget entries i ⊎ ((e.index ≡ i) × ((id : ℕ) × (answer : Answer) × (e.mark ≡ Returned id answer)) × HasMoreThan o (marks entries) budget)
+      at_rest : (rest : List Entry) → b.event ∷ b.after ≡ rest ++ e ∷ [] → b.before ++ rest ≡ entries → IsBlownAtBy more budget entries i ⊎ ((e.index ≡ i) × ((id : ℕ) × (answer : Answer) × (e.mark ≡ Returned id answer)) × more (marks entries) budget)
       at_rest [] q r =
           let is : b.event ≡ e = cc in
           inr (
             ap (λ (w : Entry). w.index) (sym is) ∙ b.here,
             (b.is_ok.0, b.is_ok.1, ap (λ (w : Entry). w.mark) (sym is) ∙ b.is_ok.2),
-            subst (λ l. HasMoreThan o (marks l) budget) (sym (append-nil b.before) ∙ r) b.many,
+            subst (λ l. more (marks l) budget) (sym (append-nil b.before) ∙ r) b.many,
           )
       at_rest (x ∷ rest) q r =
           let is : x ≡ b.event = cc in
@@ -95,7 +87,7 @@ module _ (o : Object) (budget : ℕ) (entries : List Entry) (e : Entry) where
             many = b.many;
           })
 
-  blown_before : (i : ℕ) → IsBlownAt o budget entries i → IsBlownAt o budget (entries ++ e ∷ []) i
+  blown_before : (i : ℕ) → IsBlownAtBy more budget entries i → IsBlownAtBy more budget (entries ++ e ∷ []) i
   blown_before i b = record {
     before = b.before;
     event = b.event;
@@ -106,22 +98,22 @@ module _ (o : Object) (budget : ℕ) (entries : List Entry) (e : Entry) where
     many = b.many;
   }
 
-  -- the last entry is no ok that finds more ends than the budget
+  -- the last entry is no ok that finds more than the budget
   abbrev pub IsNotBlownHere : Type 0
-  IsNotBlownHere = (id : ℕ) (answer : Answer) → e.mark ≡ Returned id answer → ¬ HasMoreThan o (marks entries) budget
+  IsNotBlownHere = (id : ℕ) (answer : Answer) → e.mark ≡ Returned id answer → ¬ more (marks entries) budget
 
-  within : IsWithinBudget o budget entries → IsNotBlownHere → IsWithinBudget o budget (entries ++ e ∷ [])
+  within : IsWithinBudgetBy more budget entries → IsNotBlownHere → IsWithinBudgetBy more budget (entries ++ e ∷ [])
   within before here i b = ⊎_elim (before i) (λ c. here c.1.0 c.1.1 c.1.2 c.2) (blown_cases i b)
 
-  -- more ends than the budget, just before an ok: over at its index
-  pub over_here : (id : ℕ) (answer : Answer) → e.mark ≡ Returned id answer → IsWithinBudget o budget entries → HasMoreThan o (marks entries) budget → IsBlownIndex o budget (entries ++ e ∷ []) e.index
+  -- more than the budget, just before an ok: over at its index
+  pub over_here : (id : ℕ) (answer : Answer) → e.mark ≡ Returned id answer → IsWithinBudgetBy more budget entries → more (marks entries) budget → IsBlownIndexBy more budget (entries ++ e ∷ []) e.index
   over_here id answer is before many = record {
     blown = record { before = entries; event = e; after = []; cut = refl; here = refl; is_ok = (id, answer, is); many = many };
     least = λ j b. ⊎_elim (λ c. absurd (before j c)) (λ c. (let q : e.index ≡ j = c.0 in omega arith)) (blown_cases j b);
   }
 
   -- what is over stays over, since the index rises
-  pub over_stays : (i : ℕ) → IsRising (entries ++ e ∷ []) → IsBlownIndex o budget entries i → IsBlownIndex o budget (entries ++ e ∷ []) i
+  pub over_stays : (i : ℕ) → IsRising (entries ++ e ∷ []) → IsBlownIndexBy more budget entries i → IsBlownIndexBy more budget (entries ++ e ∷ []) i
   over_stays i rising over = record {
     blown = blown_before i over.blown;
     least = λ j b. ⊎_elim (over.least j) (λ c. (let q : e.index ≡ j = c.0 in let h : over.blown.event.index ≡ i = over.blown.here in let lt : over.blown.event.index < e.index = earlier in omega arith)) (blown_cases j b);
@@ -131,7 +123,7 @@ module _ (o : Object) (budget : ℕ) (entries : List Entry) (e : Entry) where
       earlier = Pairwise-across (λ (f g : Entry). f.index < g.index) entries (e ∷ []) rising over.blown.event e (subst (λ l. Contains l over.blown.event) over.blown.cut (Contains-append_right over.blown.before (over.blown.event ∷ over.blown.after) over.blown.event (Contains-head over.blown.event over.blown.after))) (Contains-head e [])
 
   -- no legal order is left: dead at the last entry
-  pub dead_here : IsNotBlownHere → IsWithinBudget o budget entries → EveryFrontIsLinearizable o entries → ¬ IsLinearizable o (marks (entries ++ e ∷ [])) → IsWithinBudget o budget (entries ++ e ∷ []) × EndsShortestBadFront o (entries ++ e ∷ []) e
+  pub dead_here : IsNotBlownHere → IsWithinBudgetBy more budget entries → EveryFrontIsLinearizable o entries → ¬ IsLinearizable o (marks (entries ++ e ∷ [])) → IsWithinBudgetBy more budget (entries ++ e ∷ []) × EndsShortestBadFront o (entries ++ e ∷ []) e
   dead_here here before fronts bad = (
     within before here,
     record {
@@ -146,16 +138,16 @@ module _ (o : Object) (budget : ℕ) (entries : List Entry) (e : Entry) where
   )
 
   -- a legal order is left: alive
-  pub alive_here : IsNotBlownHere → IsWithinBudget o budget entries → EveryFrontIsLinearizable o entries → IsLinearizable o (marks (entries ++ e ∷ [])) → IsWithinBudget o budget (entries ++ e ∷ []) × EveryFrontIsLinearizable o (entries ++ e ∷ [])
+  pub alive_here : IsNotBlownHere → IsWithinBudgetBy more budget entries → EveryFrontIsLinearizable o entries → IsLinearizable o (marks (entries ++ e ∷ [])) → IsWithinBudgetBy more budget (entries ++ e ∷ []) × EveryFrontIsLinearizable o (entries ++ e ∷ [])
   alive_here here before fronts all = (
     within before here,
     λ front is. ⊎_elim (λ q. subst (λ l. IsLinearizable o (marks l)) (sym q) all) (fronts front) (front_cases entries e front is),
   )
 
-  -- what is dead stays dead: with no legal order there is no end, so the budget is not blown later
-  pub dead_stays : (last : Entry) → AreWellFormed (marks (entries ++ e ∷ [])) → IsWithinBudget o budget entries → EndsShortestBadFront o entries last → IsWithinBudget o budget (entries ++ e ∷ []) × EndsShortestBadFront o (entries ++ e ∷ []) last
-  dead_stays last well before dead = (
-    within before (λ id answer is many. dead.bad (IsLinearizable-front o (dead.before ++ last ∷ []) entries (AreWellFormed-front entries (entries ++ e ∷ []) (e ∷ [], refl) well) dead.front (some_end o (marks entries) budget many))),
+  -- what is dead stays dead: with no legal order nothing is counted, so the budget is not blown later
+  pub dead_stays : (last : Entry) → ((before : List Mark) → more before budget → IsLinearizable o before) → AreWellFormed (marks (entries ++ e ∷ [])) → IsWithinBudgetBy more budget entries → EndsShortestBadFront o entries last → IsWithinBudgetBy more budget (entries ++ e ∷ []) × EndsShortestBadFront o (entries ++ e ∷ []) last
+  dead_stays last some_order well before dead = (
+    within before (λ id answer is many. dead.bad (IsLinearizable-front o (dead.before ++ last ∷ []) entries (AreWellFormed-front entries (entries ++ e ∷ []) (e ∷ [], refl) well) dead.front (some_order (marks entries) many))),
     record {
       before = dead.before;
       front = longer entries e (dead.before ++ last ∷ []) dead.front;

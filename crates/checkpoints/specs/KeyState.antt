@@ -1,7 +1,6 @@
 -- Invariant: how a key stands
 use Rattle.std.specs.Prelude.{ℕ, List}
 use Rattle.models.specs.declared.model_kind.ModelKind.{ModelKind}
-use Rattle.models.specs.Objects.{object_of}
 use Rattle.events.specs.declared.event.Event.{Event}
 use Rattle.events.specs.Events.{entries_of}
 use Rattle.linspec.specs.declared.verdict.KeyStatus.{KeyStatus}
@@ -18,7 +17,7 @@ status_of (Over i) = status.Over i
 
 -- the key is alive after the events
 abbrev pub IsAlive : ModelKind → ℕ → List (ℕ × Event) → Type 0
-IsAlive kind budget events = IsKeyStatus (object_of kind) budget (entries_of events) status.Alive
+IsAlive kind budget events = IsKeyStatus kind budget (entries_of events) status.Alive
 
 -- the key stands so after the events: its status is theirs, and while it is alive it keeps what they
 -- leave
@@ -26,6 +25,6 @@ abbrev pub IsKeyState : ModelKind → ℕ → List (ℕ × Event) → KeyState �
 IsKeyState kind budget events (Alive live) =
     IsAlive kind budget events × IsLiveKey kind budget events live
 IsKeyState kind budget events (Dead i) =
-    IsKeyStatus (object_of kind) budget (entries_of events) (status.Dead i)
+    IsKeyStatus kind budget (entries_of events) (status.Dead i)
 IsKeyState kind budget events (Over i) =
-    IsKeyStatus (object_of kind) budget (entries_of events) (status.Over i)
+    IsKeyStatus kind budget (entries_of events) (status.Over i)

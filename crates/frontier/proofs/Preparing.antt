@@ -5,6 +5,7 @@ use Rattle.models.specs.Objects.{Object}
 use Rattle.events.specs.Events.{Mark}
 use Rattle.events.specs.Events.Mark.{Crashed, Failed, Invoked, Returned}
 use Rattle.linspec.specs.MarkRule.{MayFollow}
+use Rattle.linspec.specs.Ends.{Count}
 use Rattle.frontier.specs.declared.change.Change.{Change}
 use Rattle.frontier.specs.declared.change.Change.TheVariants.{Nothing, Invoked as ToInvoked}
 use Rattle.frontier.specs.declared.change.Fresh.{Fresh}
@@ -116,7 +117,7 @@ module _ (o : Object) (old mid new : FrontierView) (committed : Commits mid new)
   costs_too (Failed id) cost = committed.applied ∙ cost
   costs_too (Crashed id) cost = committed.applied ∙ cost
 
-  pub observed : (mark : Mark) (step : Step) → Prepares old mid o mark (Ok step) → Observes old new o mark (Ok step)
+  pub observed : {more : Count} (mark : Mark) (step : Step) → Prepares old mid more o mark (Ok step) → Observes old new more o mark (Ok step)
   observed mark step p = record {
     step = p.step;
     kept = record {
@@ -127,7 +128,7 @@ module _ (o : Object) (old mid new : FrontierView) (committed : Commits mid new)
     cost = costs_too mark p.cost;
   }
 
-  pub noted : (mark : Mark) → ¬ IsReturn mark → (step : Step) → Prepares old mid o mark (Ok step) → TakesAlways old new mark (Ok tt)
+  pub noted : {more : Count} (mark : Mark) → ¬ IsReturn mark → (step : Step) → Prepares old mid more o mark (Ok step) → TakesAlways old new mark (Ok tt)
   noted mark none step p = record {
     kept = λ marks given may. committed.stands (marks ++ mark ∷ []) (p.next.taken (λ over. none (p.step.over_at_ok over)) marks given may);
     budget = committed.budget ∙ p.budget;

@@ -22,7 +22,7 @@ use Rattle.std.proofs.lemmas.Option.{get_or_from_slice_get, slice_get-map, slice
 use Rattle.models.specs.declared.operation.Op.{Op}
 use Rattle.models.specs.declared.finding.Found.{Found}
 use Rattle.linspec.specs.MarkRule.{IsNew}
-use Rattle.linspec.specs.Ends.{End, IsEnd}
+use Rattle.linspec.specs.Ends.{End, IsEnd, HasMoreThan}
 use Rattle.ends.proofs.Starting.{back, to}
 use Rattle.ends.proofs.Closing.{closed_again}
 use Rattle.frontier.specs.Kept.{IsStepOf, Lists, table_of}
@@ -134,7 +134,7 @@ shown_of t calls now ends kept a b h =
 
 -- the answer by whether ends are left
 module _ (o : Object) (ends : List (End o.State)) (n : ℕ) (long : n ≡ length ends) (some : Bool) (is_some : (some ≡ true) ↔ (0 < n)) (marks : List Mark) (mark : Mark) (gen : Generates o ends (marks ++ mark ∷ [])) where
-  pub step_by : (budget : ℕ) → ¬ Blows o budget marks mark → (step : Step) → IsStepOf some step → IsStep o budget marks mark step
+  pub step_by : (budget : ℕ) → ¬ Blows (HasMoreThan o) budget marks mark → (step : Step) → IsStepOf some step → IsStep (HasMoreThan o) o budget marks mark step
   step_by budget none Alive is =
       (none, some_left o ends (marks ++ mark ∷ []) gen (λ e. let lt = is_some.0 (is.alive.0 refl) in absurd (omega (arith, lt, long, e))))
   step_by budget none Dead is =

@@ -12,7 +12,7 @@ use Rattle.events.specs.Events.Mark.{Invoked, Returned, Failed, Crashed}
 use Rattle.linspec.specs.MarkRule.{MayFollow}
 use Rattle.linspec.specs.Operations.{IsOpen}
 use Rattle.linspec.specs.Orders.{IsLinearizable}
-use Rattle.linspec.specs.Ends.{HasCrashedBy, is_no_read, HasMoreThan}
+use Rattle.linspec.specs.Ends.{HasCrashedBy, is_no_read, Count}
 use Rattle.frontier.specs.declared.frontier.Step.{Step}
 use Rattle.frontier.specs.declared.frontier.Step.TheVariants.{Alive, Dead, Over}
 
@@ -24,29 +24,30 @@ mark_by id Ok op = Returned id (answer_of op.part)
 mark_by id Fail op = Failed id
 mark_by id Info op = Crashed id
 
--- the mark is an ok, and more ends than the budget stand just before it
-abbrev pub Blows : Object → ℕ → List Mark → Mark → Type 0
-Blows o budget marks (Returned id answer) = HasMoreThan o marks budget
-Blows o budget marks (Invoked id op) = ⊥
-Blows o budget marks (Failed id) = ⊥
-Blows o budget marks (Crashed id) = ⊥
+-- the mark is an ok, and more than the budget is counted just before it
+abbrev pub Blows : Count → ℕ → List Mark → Mark → Type 0
+Blows more budget marks (Returned id answer) = more marks budget
+Blows more budget marks (Invoked id op) = ⊥
+Blows more budget marks (Failed id) = ⊥
+Blows more budget marks (Crashed id) = ⊥
 
 -- Over where the mark blows the budget; else Alive where the history with it is linearizable, and
 -- Dead where it is not
-abbrev pub IsStep : Object → ℕ → List Mark → Mark → Step → Type 0
-IsStep o budget marks mark Over = Blows o budget marks mark
-IsStep o budget marks mark Alive =
-    (¬ Blows o budget marks mark) × IsLinearizable o (marks ++ mark ∷ [])
-IsStep o budget marks mark Dead =
-    (¬ Blows o budget marks mark) × (¬ IsLinearizable o (marks ++ mark ∷ []))
+abbrev pub IsStep : Count → Object → ℕ → List Mark → Mark → Step → Type 0
+IsStep more o budget marks mark Over = Blows more budget marks mark
+IsStep more o budget marks mark Alive =
+    (¬ Blows more budget marks mark) × IsLinearizable o (marks ++ mark ∷ [])
+IsStep more o budget marks mark Dead =
+    (¬ Blows more budget marks mark) × (¬ IsLinearizable o (marks ++ mark ∷ []))
 
 -- the answer that the mark gets after the history: an ok and a fail get their step. An invocation
 -- and a crash kill nothing, and get Alive
-abbrev pub IsAnswer : Object → ℕ → List Mark → Mark → Step → Type 0
-IsAnswer o budget marks (Returned id answer) step = IsStep o budget marks (Returned id answer) step
-IsAnswer o budget marks (Failed id) step = IsStep o budget marks (Failed id) step
-IsAnswer o budget marks (Invoked id op) step = step ≡ Alive
-IsAnswer o budget marks (Crashed id) step = step ≡ Alive
+abbrev pub IsAnswer : Count → Object → ℕ → List Mark → Mark → Step → Type 0
+IsAnswer more o budget marks (Returned id answer) step =
+    IsStep more o budget marks (Returned id answer) step
+IsAnswer more o budget marks (Failed id) step = IsStep more o budget marks (Failed id) step
+IsAnswer more o budget marks (Invoked id op) step = step ≡ Alive
+IsAnswer more o budget marks (Crashed id) step = step ≡ Alive
 
 -- an ok
 abbrev pub IsReturn : Mark → Type 0
@@ -87,15 +88,15 @@ module _ (old new : List Mark → Type 0) where
 
 -- the answer is right for each history that is stood for and that the mark may follow, and only an
 -- ok gets Over
-pub record Answers (o : Object) (budget : ℕ) (old : List Mark → Type 0) (mark : Mark) (step : Step)
-    : Type 0 where
+pub record Answers (more : Count) (o : Object) (budget : ℕ) (old : List Mark → Type 0) (mark : Mark)
+    (step : Step) : Type 0 where
   pub right : (marks : List Mark) → old marks → MayFollow marks mark
-      → IsAnswer o budget marks mark step
+      → IsAnswer more o budget marks mark step
   pub over_at_ok : step ≡ Over → IsReturn mark
 
 -- what is known of a frontier: the histories of one key that it stands for; those that it will stand for
--- once what is prepared is carried out; the greatest number of ends that an ok may meet; and how many
--- steps were made so far, each of which tries an operation in a state
+-- once what is prepared is carried out; the budget; and how many steps were made so far, each of which
+-- tries an operation in a state
 pub record FrontierView : Type 1 where
   pub stands : List Mark → Type 0
   pub will_stand : List Mark → Type 0
@@ -118,8 +119,9 @@ module _ (old new : FrontierView) where
 
   -- the answer is right, and the frontier takes the mark; after Over, and where there is no memory, it stands for what it stood
   -- for. The budget stays
-  pub record Observes (o : Object) (mark : Mark) (result : Result Step AllocError) : Type 0 where
-    pub step : IfOk result (Answers o old.budget old.stands mark)
+  pub record Observes (more : Count) (o : Object) (mark : Mark) (result : Result Step AllocError)
+      : Type 0 where
+    pub step : IfOk result (Answers more o old.budget old.stands mark)
     pub kept : MatchResult result (TakesUnlessOver old.stands new.stands mark)
         (λ _. Keeps old.stands new.stands)
     pub budget : new.budget ≡ old.budget
@@ -134,8 +136,9 @@ module _ (old new : FrontierView) where
 
   -- the answer is right, and the mark is prepared: the frontier stands for what it stood for, and will take the mark, or after Over
   -- will stand for the same. The budget stays
-  pub record Prepares (o : Object) (mark : Mark) (result : Result Step AllocError) : Type 0 where
-    pub step : IfOk result (Answers o old.budget old.stands mark)
+  pub record Prepares (more : Count) (o : Object) (mark : Mark) (result : Result Step AllocError)
+      : Type 0 where
+    pub step : IfOk result (Answers more o old.budget old.stands mark)
     pub now : Keeps old.stands new.stands
     pub next : IfOk result (TakesUnlessOver old.stands new.will_stand mark)
     pub budget : new.budget ≡ old.budget

@@ -1,6 +1,7 @@
 //! Frontiers of any kind of object.
 ghost use Rattle.std.specs.Prelude.{◌≡◌, IfOk};
 ghost use Rattle.models.specs.Objects.{object_of, of_table};
+ghost use Rattle.linspec.specs.Counts.{CountsMoreThan};
 ghost use Rattle.frontier.specs.AnyFrontier.{any_view_of, kind_of_frontier};
 ghost use Rattle.frontier.specs.Kept.{view_of};
 ghost use Rattle.frontier.specs.Meaning.{Commits, IsCopy, IsStart, Observes, Prepares, mark_by};
@@ -114,7 +115,8 @@ impl AnyFrontier {
     /// what it stood for. An invocation and an info are answered Alive, since they kill nothing.
     pub fn observe(&mut self, id: u32, kind: EventKind, op: &Op) -> Result<Step, AllocError>
         ensures observed { Observes (any_view_of self.old) (any_view_of self.new)
-            (object_of (kind_of_frontier self.old)) (mark_by id kind op.now) result }
+            (CountsMoreThan (kind_of_frontier self.old)) (object_of (kind_of_frontier self.old))
+            (mark_by id kind op.now) result }
         ensures kind { kind_of_frontier self.new ≡ kind_of_frontier self.old }
     {
         each_kind!(observe_of; self, id, kind, op)
@@ -125,7 +127,8 @@ impl AnyFrontier {
     /// follow. What was prepared before is dropped.
     pub fn prepare(&mut self, id: u32, kind: EventKind, op: &Op) -> Result<Step, AllocError>
         ensures prepared { Prepares (any_view_of self.old) (any_view_of self.new)
-            (object_of (kind_of_frontier self.old)) (mark_by id kind op.now) result }
+            (CountsMoreThan (kind_of_frontier self.old)) (object_of (kind_of_frontier self.old))
+            (mark_by id kind op.now) result }
         ensures kind { kind_of_frontier self.new ≡ kind_of_frontier self.old }
     {
         each_kind!(prepare_of; self, id, kind, op)

@@ -5,7 +5,7 @@ ghost use Rattle.std.specs.Vec.{vec_capacity, vec_len};
 ghost use Rattle.std.specs.List.{filter};
 ghost use Rattle.models.specs.Objects.{of_table};
 ghost use Rattle.events.specs.Events.Mark.{Invoked, Returned, Failed, Crashed};
-ghost use Rattle.linspec.specs.Ends.{End};
+ghost use Rattle.linspec.specs.Ends.{End, HasMoreThan};
 ghost use Rattle.ends.specs.EndSteps.{Along, Fails, is_other};
 ghost use Rattle.ends.specs.Tables.{AreShown, FindsLeft, HasEachOnce, IsOpenAt, OnlyTries, ShowTheSame, ShownWith};
 ghost use Rattle.ends.specs.Tables.{most_steps, rows_of, with_rows};
@@ -152,7 +152,8 @@ impl<M: SeqObject> Frontier<M> {
     /// products, or products rows. It is [`prepare`](Self::prepare) and [`commit`](Self::commit) in one.
     pub fn observe(&mut self, id: u32, kind: EventKind, op: &Op) -> Result<Step, AllocError>
         ensures { let object = of_table M.State M.start_state M.apply_to in
-            Observes (view_of object self.old) (view_of object self.new) object (mark_by id kind op.now) result }
+            Observes (view_of object self.old) (view_of object self.new) (HasMoreThan object) object
+            (mark_by id kind op.now) result }
     {
         let step = self.prepare(id, kind, op)?;
         self.commit();
@@ -165,7 +166,8 @@ impl<M: SeqObject> Frontier<M> {
     #[inline(always)]
     pub fn prepare(&mut self, id: u32, kind: EventKind, op: &Op) -> Result<Step, AllocError>
         ensures { let object = of_table M.State M.start_state M.apply_to in
-            Prepares (view_of object self.old) (view_of object self.new) object (mark_by id kind op.now) result }
+            Prepares (view_of object self.old) (view_of object self.new) (HasMoreThan object) object
+            (mark_by id kind op.now) result }
     {
         match kind {
             EventKind::Invoke => {
@@ -259,7 +261,8 @@ impl<M: SeqObject> Frontier<M> {
     #[inline(always)]
     fn prepare_invoke(&mut self, id: u32, op: Op) -> Result<Step, AllocError>
         ensures { let object = of_table M.State M.start_state M.apply_to in
-            Prepares (view_of object self.old) (view_of object self.new) object (Invoked id op) result }
+            Prepares (view_of object self.old) (view_of object self.new) (HasMoreThan object) object
+            (Invoked id op) result }
     {
         self.list_fresh()?;
         self.coming = Some(Fresh { id, op });
@@ -439,7 +442,8 @@ impl<M: SeqObject> Frontier<M> {
     /// Goes on with no end once these are more than the budget.
     pub fn ok(&mut self, id: u32, answer: &Answer) -> Result<Step, AllocError>
         ensures { let object = of_table M.State M.start_state M.apply_to in
-            Observes (view_of object self.old) (view_of object self.new) object (Returned id answer.now) result }
+            Observes (view_of object self.old) (view_of object self.new) (HasMoreThan object) object
+            (Returned id answer.now) result }
     {
         let step = self.prepare_ok(id, answer)?;
         self.commit();
@@ -450,7 +454,8 @@ impl<M: SeqObject> Frontier<M> {
     #[inline(always)]
     fn prepare_ok(&mut self, id: u32, answer: &Answer) -> Result<Step, AllocError>
         ensures { let object = of_table M.State M.start_state M.apply_to in
-            Prepares (view_of object self.old) (view_of object self.new) object (Returned id answer.now) result }
+            Prepares (view_of object self.old) (view_of object self.new) (HasMoreThan object) object
+            (Returned id answer.now) result }
     {
         self.list_fresh()?;
         self.ensure_single_outcome()?;
@@ -544,7 +549,8 @@ impl<M: SeqObject> Frontier<M> {
     /// without it, with the others.
     pub fn fail(&mut self, id: u32) -> Result<Step, AllocError>
         ensures { let object = of_table M.State M.start_state M.apply_to in
-            Observes (view_of object self.old) (view_of object self.new) object (Failed id) result }
+            Observes (view_of object self.old) (view_of object self.new) (HasMoreThan object) object
+            (Failed id) result }
     {
         let step = self.prepare_fail(id)?;
         self.commit();
@@ -555,7 +561,8 @@ impl<M: SeqObject> Frontier<M> {
     #[inline(never)]
     fn prepare_fail(&mut self, id: u32) -> Result<Step, AllocError>
         ensures { let object = of_table M.State M.start_state M.apply_to in
-            Prepares (view_of object self.old) (view_of object self.new) object (Failed id) result }
+            Prepares (view_of object self.old) (view_of object self.new) (HasMoreThan object) object
+            (Failed id) result }
     {
         self.list_fresh()?;
         self.find_failed(id)?;
@@ -603,7 +610,8 @@ impl<M: SeqObject> Frontier<M> {
     #[inline(never)]
     fn prepare_crash(&mut self, id: u32) -> Result<Step, AllocError>
         ensures { let object = of_table M.State M.start_state M.apply_to in
-            Prepares (view_of object self.old) (view_of object self.new) object (Crashed id) result }
+            Prepares (view_of object self.old) (view_of object self.new) (HasMoreThan object) object
+            (Crashed id) result }
     {
         self.list_as_rows()?;
         let counts = !ends::is_read(&self.calls, id);

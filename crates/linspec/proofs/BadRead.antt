@@ -12,7 +12,8 @@ use Rattle.events.specs.Events.{Mark, Entry, of_key, marks, IsFront}
 use Rattle.events.specs.Events.Mark.{Invoked, Returned}
 use Rattle.linspec.specs.Operations.{HasReturned}
 use Rattle.linspec.specs.Orders.{Taken, Run, IsLegalOrder, product}
-use Rattle.linspec.specs.Ends.{End, Leaves, HasMoreThan, IsBlown, IsWithinBudget}
+use Rattle.linspec.specs.Ends.{End, Leaves, HasMoreThan, IsBlownBy, IsWithinBudget}
+use Rattle.linspec.specs.Counts.{CountsMoreThan}
 use Rattle.linspec.specs.Verdicts.{EndsShortestBadFront, IsVerdict}
 use Rattle.linspec.specs.declared.verdict.Verdict.TheVariants.{Illegal, Unknown}
 use Rattle.linspec.specs.Examples.{read, all_entries, bad_read_beside_blown, queue_at_one}
@@ -94,7 +95,7 @@ no_other_ok : (x : Entry) → Contains (asks ∷ []) x → ¬ IsOk x
 no_other_ok x h = ⊎_elim (not_ok asks x 3 (read 2 Nil) refl) (λ n. absurd (Contains-nil x n)) (Contains-cons_cases asks [] x h)
 
 within : IsWithinBudget register 4 (asks ∷ answers ∷ [])
-within = within_at_last (asks ∷ []) answers no_other_ok register 4 few
+within = within_at_last (asks ∷ []) answers no_other_ok (HasMoreThan register) 4 few
 
 -- what all keys say
 abbrev entries : List Entry
@@ -112,17 +113,17 @@ none_of k not_one not_two =
     filter-none (λ (e : Entry). nat_eq e.key k) entries (λ x h. ne_eqb x.key k (λ e.
     ⊎_elim (λ one. (let q : k ≡ 1 = cc in not_one q)) (λ two. (let q : k ≡ 2 = cc in not_two q)) (of_two_keys x h)))
 
-not_blown : (k : ℕ) → k ≢ 1 → ¬ IsBlown (object_of (queue_at_one k)) 4 (of_key k entries)
+not_blown : (k : ℕ) → k ≢ 1 → ¬ IsBlownBy (CountsMoreThan (queue_at_one k)) 4 (of_key k entries)
 not_blown k not_one b =
     ⊎_elim
-    (λ two. (let c : IsBlown register 4 (asks ∷ answers ∷ []) = subst (λ (n : ℕ). IsBlown (object_of (queue_at_one n)) 4 (of_key n entries)) two b in within c.0 c.1))
-    (λ not_two. none_blown (object_of (queue_at_one k)) 4 (of_key k entries) (none_of k not_one not_two) b.0 b.1)
+    (λ two. (let c : IsBlownBy (HasMoreThan register) 4 (asks ∷ answers ∷ []) = subst (λ (n : ℕ). IsBlownBy (CountsMoreThan (queue_at_one n)) 4 (of_key n entries)) two b in within c.0 c.1))
+    (λ not_two. none_blown (CountsMoreThan (queue_at_one k)) 4 (of_key k entries) (none_of k not_one not_two) b.0 b.1)
     (cases_eq k 2)
 
-blown_is : (k : ℕ) → IsTrue (nat_eq k 1) ↔ IsBlown (object_of (queue_at_one k)) 4 (of_key k entries)
+blown_is : (k : ℕ) → IsTrue (nat_eq k 1) ↔ IsBlownBy (CountsMoreThan (queue_at_one k)) 4 (of_key k entries)
 blown_is k =
     ⊎_elim
-    (λ e. ((λ t. subst (λ (n : ℕ). IsBlown (object_of (queue_at_one n)) 4 (of_key n entries)) (sym e) (2, blown_at_four.blown)), (λ b. eq-eqb k 1 e)))
+    (λ e. ((λ t. subst (λ (n : ℕ). IsBlownBy (CountsMoreThan (queue_at_one n)) 4 (of_key n entries)) (sym e) (2, blown_at_four.blown)), (λ b. eq-eqb k 1 e)))
     (λ ne. ((λ t. absurd (ne (eqb-true k 1 t))), (λ b. absurd (not_blown k ne b))))
     (cases_eq k 1)
 

@@ -8,7 +8,7 @@ use Rattle.models.specs.Objects.{fifo_queue}
 use Rattle.events.specs.Events.{Entry, of_key}
 use Rattle.events.specs.Events.Mark.{Invoked, Returned}
 use Rattle.linspec.specs.Orders.{product}
-use Rattle.linspec.specs.Ends.{IsBlown, IsBlownIndex, IsWithinBudget}
+use Rattle.linspec.specs.Ends.{HasMoreThan, IsBlown, IsBlownIndex, IsWithinBudget}
 use Rattle.linspec.specs.Verdicts.{IsVerdict}
 use Rattle.linspec.specs.declared.verdict.Verdict.TheVariants.{Unknown}
 use Rattle.linspec.specs.Examples.{enqueue, all_entries, key_entries, two_enqueues_then_ok}
@@ -33,10 +33,10 @@ no_other_ok x h =
     (Contains-cons_cases first (second ∷ []) x h)
 
 pub blown_at_four : IsBlownIndex fifo_queue 4 (key_entries 1 two_enqueues_then_ok) 2
-blown_at_four = blown_at_last (first ∷ second ∷ []) ok no_other_ok fifo_queue 4 (0, Number (pos 5), refl) five_ends.0
+blown_at_four = blown_at_last (first ∷ second ∷ []) ok no_other_ok (HasMoreThan fifo_queue) 4 (0, Number (pos 5), refl) five_ends.0
 
 pub within_five : IsWithinBudget fifo_queue 5 (key_entries 1 two_enqueues_then_ok)
-within_five = within_at_last (first ∷ second ∷ []) ok no_other_ok fifo_queue 5 five_ends.1
+within_five = within_at_last (first ∷ second ∷ []) ok no_other_ok (HasMoreThan fifo_queue) 5 five_ends.1
 
 abbrev entries : List Entry
 entries = first ∷ second ∷ ok ∷ []
@@ -53,14 +53,14 @@ blown_is : (k : ℕ) → IsTrue (nat_eq k 1) ↔ IsBlown fifo_queue 4 (of_key k 
 blown_is k =
     ⊎_elim
     (λ e. ((λ t. subst (λ (n : ℕ). IsBlown fifo_queue 4 (of_key n entries)) (sym e) (2, blown_at_four.blown)), (λ b. eq-eqb k 1 e)))
-    (λ ne. ((λ t. absurd (ne (eqb-true k 1 t))), (λ b. absurd (none_blown fifo_queue 4 (of_key k entries) (none_of k ne) b.0 b.1))))
+    (λ ne. ((λ t. absurd (ne (eqb-true k 1 t))), (λ b. absurd (none_blown (HasMoreThan fifo_queue) 4 (of_key k entries) (none_of k ne) b.0 b.1))))
     (cases_eq k 1)
 
 least : (k i : ℕ) → IsBlownIndex fifo_queue 4 (of_key k entries) i → 2 ≤ i
 least k i b =
     ⊎_elim
     (λ e. blown_at_four.least i (subst (λ (n : ℕ). IsBlownIndex fifo_queue 4 (of_key n entries) i) e b).blown)
-    (λ ne. absurd (none_blown fifo_queue 4 (of_key k entries) (none_of k ne) i b.blown))
+    (λ ne. absurd (none_blown (HasMoreThan fifo_queue) 4 (of_key k entries) (none_of k ne) i b.blown))
     (cases_eq k 1)
 
 -- nothing is left beside the blown key

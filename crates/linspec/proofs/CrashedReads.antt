@@ -7,7 +7,7 @@ use Rattle.models.specs.Objects.{Object}
 use Rattle.events.specs.Events.{Mark, Entry}
 use Rattle.linspec.specs.Operations.{IsOpen}
 use Rattle.linspec.specs.Orders.{Taken, Includes, Pairwise}
-use Rattle.linspec.specs.Ends.{End, HasCrashedBy, every, is_no_read, LeavesBy, IsEndBy, HasMoreThanBy, IsBlownAtBy, IsBlownIndexBy, IsBlownBy}
+use Rattle.linspec.specs.Ends.{End, HasCrashedBy, every, is_no_read, LeavesBy, IsEndBy, HasMoreThan, HasMoreThanBy, HasMoreThanWithReads, Count, IsBlownAtBy, IsBlownIndexBy, IsBlownBy}
 use Rattle.linspec.specs.Verdicts.{IsBlownKeyBy, IsVerdictWithBy, IsVerdictBy}
 use Rattle.linspec.specs.declared.verdict.Verdict.{Verdict}
 use Rattle.linspec.specs.declared.verdict.Verdict.TheVariants.{Legal, Illegal, Unknown}
@@ -77,8 +77,15 @@ module _ (fewer more : Op → Bool) (less : CountsFewer fewer more) (o : Object)
         each = λ f k. (let e = all.3 f k in (e.2.0, e.2.2));
       }
 
-module _ (fewer more : Op → Bool) (less : CountsFewer fewer more) (o : Object) (budget : ℕ) (entries : List Entry) where
-  pub blown_at_by : (i : ℕ) → IsBlownAtBy fewer o budget entries i → IsBlownAtBy more o budget entries i
+-- what the one count has more than n of, the other has too
+abbrev pub CountsLess : Count → Count → Type 0
+CountsLess fewer more = (marks : List Mark) (n : ℕ) → fewer marks n → more marks n
+
+pub less_with_reads : (o : Object) → CountsLess (HasMoreThan o) (HasMoreThanWithReads o)
+less_with_reads o marks = more_by is_no_read every all_count o marks
+
+module _ (fewer more : Count) (less : CountsLess fewer more) (budget : ℕ) (entries : List Entry) where
+  pub blown_at_by : (i : ℕ) → IsBlownAtBy fewer budget entries i → IsBlownAtBy more budget entries i
   blown_at_by i b = record {
     before = b.before;
     event = b.event;
@@ -86,29 +93,29 @@ module _ (fewer more : Op → Bool) (less : CountsFewer fewer more) (o : Object)
     cut = b.cut;
     here = b.here;
     is_ok = b.is_ok;
-    many = more_by fewer more less o _ budget b.many;
+    many = less _ budget b.many;
   }
 
-  pub blown_by : IsBlownBy fewer o budget entries → IsBlownBy more o budget entries
+  pub blown_by : IsBlownBy fewer budget entries → IsBlownBy more budget entries
   blown_by b = (b.0, blown_at_by b.0 b.1)
 
-  pub no_later_by : (i j : ℕ) → IsBlownIndexBy fewer o budget entries i → IsBlownIndexBy more o budget entries j → j ≤ i
+  pub no_later_by : (i j : ℕ) → IsBlownIndexBy fewer budget entries i → IsBlownIndexBy more budget entries j → j ≤ i
   no_later_by i j b c = c.least i (blown_at_by i b.blown)
 
-module _ (fewer more : Op → Bool) (less : CountsFewer fewer more) (kinds : ℕ → ModelKind) (budgets : ℕ → ℕ) (entries : List Entry) where
-  abbrev NoneBy : (Op → Bool) → Type 0
-  NoneBy counts = (k : ℕ) → ¬ IsBlownKeyBy counts kinds budgets entries k
+module _ (fewer more : ModelKind → Count) (less : (kind : ModelKind) → CountsLess (fewer kind) (more kind)) (kinds : ℕ → ModelKind) (budgets : ℕ → ℕ) (entries : List Entry) where
+  abbrev NoneBy : (ModelKind → Count) → Type 0
+  NoneBy count = (k : ℕ) → ¬ IsBlownKeyBy count kinds budgets entries k
 
   none_by : NoneBy more → NoneBy fewer
-  none_by none k b = none k (blown_by fewer more less _ _ _ b)
+  none_by none k b = none k (blown_by _ _ (less (kinds k)) _ _ b)
 
-  -- where no key is blown, what counts does not matter
-  with_by : (c d : Op → Bool) → NoneBy c → NoneBy d → (blown : ℕ → Bool) (v : Verdict) → IsVerdictWithBy c kinds budgets entries blown v → IsVerdictWithBy d kinds budgets entries blown v
+  -- where no key is blown, what is counted does not matter
+  with_by : (c d : ModelKind → Count) → NoneBy c → NoneBy d → (blown : ℕ → Bool) (v : Verdict) → IsVerdictWithBy c kinds budgets entries blown v → IsVerdictWithBy d kinds budgets entries blown v
   with_by c d a b blown (Illegal key index) is = is
   with_by c d a b blown (Unknown key index) is = absurd (a key (index, is.1.blown))
   with_by c d a b blown Legal is = (is.0, b)
 
-  verdict_by : (c d : Op → Bool) → NoneBy c → NoneBy d → (v : Verdict) → IsVerdictBy c kinds budgets entries v → IsVerdictBy d kinds budgets entries v
+  verdict_by : (c d : ModelKind → Count) → NoneBy c → NoneBy d → (v : Verdict) → IsVerdictBy c kinds budgets entries v → IsVerdictBy d kinds budgets entries v
   verdict_by c d a b v is = (
     is.0,
     (λ k. (

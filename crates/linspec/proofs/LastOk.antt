@@ -1,5 +1,5 @@
 -- entries of which the last alone is an ok
-use Rattle.std.proofs.Common.{◌≡◌, ℕ, ⊎_elim, Bool, List, [], ◌∷◌, ◌++◌, refl, sym, ap, ◌∙◌, subst, arith}
+use Rattle.std.proofs.Common.{◌≡◌, ℕ, ⊎_elim, List, [], ◌∷◌, ◌++◌, refl, sym, ap, ◌∙◌, subst, arith}
 use Rattle.std.specs.List.{Contains}
 use Rattle.std.proofs.lemmas.List.{append-nil}
 use Rattle.std.proofs.lemmas.List.Elements.{Contains-append_right}
@@ -9,7 +9,7 @@ use Rattle.models.specs.Objects.{Object}
 use Rattle.events.specs.Events.{Entry, marks}
 use Rattle.events.specs.Events.Mark.{Invoked, Returned}
 use Rattle.linspec.specs.Orders.{IsLinearizable}
-use Rattle.linspec.specs.Ends.{HasMoreThanBy, IsBlownIndexBy, IsWithinBudgetBy}
+use Rattle.linspec.specs.Ends.{Count, IsBlownIndexBy, IsWithinBudgetBy}
 use Rattle.linspec.specs.Verdicts.{EveryFrontIsLinearizable}
 use Rattle.linspec.proofs.Lists.{Contains-nil, Contains-head, snoc_cut}
 use Rattle.linspec.proofs.Linearizable.{IsLinearizable-empty}
@@ -21,8 +21,8 @@ pub not_ok : (e x : Entry) (id : ℕ) (op : Op) → e.mark ≡ Invoked id op →
 not_ok e x id op m is ok = let q : Invoked id op ≡ Returned ok.0 ok.1 = sym m ∙ ap (λ (w : Entry). w.mark) is ∙ ok.2 in cc
 
 -- no entries: none is an ok, and each front is empty
-pub none_blown : {counts : Op → Bool} (o : Object) (budget : ℕ) (entries : List Entry) → entries ≡ [] → IsWithinBudgetBy counts o budget entries
-none_blown o budget entries none i b =
+pub none_blown : (more : Count) (budget : ℕ) (entries : List Entry) → entries ≡ [] → IsWithinBudgetBy more budget entries
+none_blown more budget entries none i b =
     Contains-nil b.event (subst (λ l. Contains l b.event) (b.cut ∙ none) (Contains-append_right b.before (b.event ∷ b.after) b.event (Contains-head b.event b.after)))
 
 front_of_none : (front rest : List Entry) → front ++ rest ≡ [] → front ≡ []
@@ -46,8 +46,8 @@ module _ (xs : List Entry) (last : Entry) (others : (x : Entry) → Contains xs 
           let is : y ≡ event = cc in
           absurd (others event (subst (λ l. Contains l event) (ap (λ w. before ++ w ∷ rest) (sym is) ∙ f) (Contains-append_right before (event ∷ rest) event (Contains-head event rest))) ok)
 
-  pub blown_at_last : {counts : Op → Bool} (o : Object) (budget : ℕ) → IsOk last → HasMoreThanBy counts o (marks xs) budget → IsBlownIndexBy counts o budget (xs ++ last ∷ []) last.index
-  blown_at_last o budget ok many = record {
+  pub blown_at_last : (more : Count) (budget : ℕ) → IsOk last → more (marks xs) budget → IsBlownIndexBy more budget (xs ++ last ∷ []) last.index
+  blown_at_last more budget ok many = record {
     blown = record { before = xs; event = last; after = []; cut = refl; here = refl; is_ok = ok; many = many };
     least = λ j b.
         let c = only_cut b.before b.after b.event b.cut b.is_ok in
@@ -55,6 +55,6 @@ module _ (xs : List Entry) (last : Entry) (others : (x : Entry) → Contains xs 
         omega arith;
   }
 
-  pub within_at_last : {counts : Op → Bool} (o : Object) (budget : ℕ) → ¬ HasMoreThanBy counts o (marks xs) budget → IsWithinBudgetBy counts o budget (xs ++ last ∷ [])
-  within_at_last {counts} o budget few j b =
-      few (subst (λ l. HasMoreThanBy counts o (marks l) budget) (only_cut b.before b.after b.event b.cut b.is_ok).0 b.many)
+  pub within_at_last : (more : Count) (budget : ℕ) → ¬ more (marks xs) budget → IsWithinBudgetBy more budget (xs ++ last ∷ [])
+  within_at_last more budget few j b =
+      few (subst (λ l. more (marks l) budget) (only_cut b.before b.after b.event b.cut b.is_ok).0 b.many)

@@ -32,3 +32,4 @@ pub mod BlownQueue
 pub mod BadRead
 pub mod WhatCounts
 pub mod CrashedReads
+pub mod ByKind

@@ -5,11 +5,11 @@ use Rattle.std.specs.List.{Contains}
 use Rattle.std.proofs.lemmas.Bool.{cases_order, eqb-true}
 use Rattle.std.proofs.lemmas.List.Elements.{Contains-append_right}
 use Rattle.models.specs.declared.model_kind.ModelKind.{ModelKind}
-use Rattle.models.specs.declared.operation.Op.{Op}
-use Rattle.models.specs.Objects.{Object, object_of}
+use Rattle.models.specs.Objects.{Object}
 use Rattle.events.specs.Events.{Entry, of_key}
 use Rattle.linspec.specs.Orders.{product}
-use Rattle.linspec.specs.Ends.{IsBlownAtBy, IsBlownIndexBy, is_no_read}
+use Rattle.linspec.specs.Ends.{Count, IsBlownAtBy, IsBlownIndexBy}
+use Rattle.linspec.specs.Counts.{CountsMoreThan}
 use Rattle.linspec.specs.Verdicts.{EndsShortestBadFront, EveryFrontIsLinearizable, IsKeyStatusBy, IsBlownKeyAtBy, set_aside, IsVerdictWithBy, IsVerdictBy, IsRising, IsVerdict}
 use Rattle.linspec.specs.declared.verdict.KeyStatus.{KeyStatus}
 use Rattle.linspec.specs.declared.verdict.KeyStatus.TheVariants.{Alive, Dead, Over}
@@ -50,28 +50,28 @@ one_bad_front o entries a b s t =
     (⊎_elim (λ lt. absurd (no_longer o entries a b s t lt)) (λ lt. absurd (no_longer o entries b a t s lt)))
     (cases_order (length s.before) (length t.before))
 
-one_blown_index : {counts : Op → Bool} (o : Object) (budget : ℕ) (entries : List Entry) (i j : ℕ) → IsBlownIndexBy counts o budget entries i → IsBlownIndexBy counts o budget entries j → i ≡ j
-one_blown_index o budget entries i j b c =
+one_blown_index : (more : Count) (budget : ℕ) (entries : List Entry) (i j : ℕ) → IsBlownIndexBy more budget entries i → IsBlownIndexBy more budget entries j → i ≡ j
+one_blown_index more budget entries i j b c =
     let h : i ≤ j = b.least j c.blown in
     let k : j ≤ i = c.least i b.blown in
     omega arith
 
-pub one_status : (counts : Op → Bool) (o : Object) (budget : ℕ) (entries : List Entry) (s t : KeyStatus) → IsKeyStatusBy counts o budget entries s → IsKeyStatusBy counts o budget entries t → s ≡ t
-one_status counts o budget entries (Over i) (Over j) h k = ap Over (one_blown_index o budget entries i j h k)
-one_status counts o budget entries (Over i) (Dead j) h k = absurd (k.0 i h.blown)
-one_status counts o budget entries (Over i) Alive h k = absurd (k.0 i h.blown)
-one_status counts o budget entries (Dead i) (Over j) h k = absurd (h.0 j k.blown)
-one_status counts o budget entries (Dead i) (Dead j) h k = ap Dead (sym h.1.2 ∙ ap (λ (e : Entry). e.index) (one_bad_front o entries h.1.0 k.1.0 h.1.1 k.1.1) ∙ k.1.2)
-one_status counts o budget entries (Dead i) Alive h k = absurd (bad_front h.1.0 h.1.1 k.1)
+pub one_status : (more : Count) (o : Object) (budget : ℕ) (entries : List Entry) (s t : KeyStatus) → IsKeyStatusBy more o budget entries s → IsKeyStatusBy more o budget entries t → s ≡ t
+one_status more o budget entries (Over i) (Over j) h k = ap Over (one_blown_index more budget entries i j h k)
+one_status more o budget entries (Over i) (Dead j) h k = absurd (k.0 i h.blown)
+one_status more o budget entries (Over i) Alive h k = absurd (k.0 i h.blown)
+one_status more o budget entries (Dead i) (Over j) h k = absurd (h.0 j k.blown)
+one_status more o budget entries (Dead i) (Dead j) h k = ap Dead (sym h.1.2 ∙ ap (λ (e : Entry). e.index) (one_bad_front o entries h.1.0 k.1.0 h.1.1 k.1.1) ∙ k.1.2)
+one_status more o budget entries (Dead i) Alive h k = absurd (bad_front h.1.0 h.1.1 k.1)
   where
     bad_front : (last : Entry) → EndsShortestBadFront o entries last → EveryFrontIsLinearizable o entries → ⊥
     bad_front last s every = s.bad (every (s.before ++ last ∷ []) s.front)
-one_status counts o budget entries Alive (Over j) h k = absurd (h.0 j k.blown)
-one_status counts o budget entries Alive (Dead j) h k = absurd (bad_front k.1.0 k.1.1 h.1)
+one_status more o budget entries Alive (Over j) h k = absurd (h.0 j k.blown)
+one_status more o budget entries Alive (Dead j) h k = absurd (bad_front k.1.0 k.1.1 h.1)
   where
     bad_front : (last : Entry) → EndsShortestBadFront o entries last → EveryFrontIsLinearizable o entries → ⊥
     bad_front last s every = s.bad (every (s.before ++ last ∷ []) s.front)
-one_status counts o budget entries Alive Alive h k = refl
+one_status more o budget entries Alive Alive h k = refl
 
 -- where the index rises, an index is of one entry
 one_entry : (entries : List Entry) → IsRising entries → (e f : Entry) → Contains entries e → Contains entries f → e.index ≡ f.index → e ≡ f
@@ -94,16 +94,16 @@ same_bool true false f g = sym (f refl)
 same_bool false true f g = g refl
 same_bool false false f g = refl
 
-module _ (counts : Op → Bool) (kinds : ℕ → ModelKind) (budgets : ℕ → ℕ) (entries : List Entry) (rising : IsRising entries) where
+module _ (more : ModelKind → Count) (kinds : ℕ → ModelKind) (budgets : ℕ → ℕ) (entries : List Entry) (rising : IsRising entries) where
   -- a key is blown at an index of its own
-  blown_entry : (k i : ℕ) → IsBlownKeyAtBy counts kinds budgets entries k i → (e : Entry) × Contains entries e × (e.key ≡ k) × (e.index ≡ i)
+  blown_entry : (k i : ℕ) → IsBlownKeyAtBy more kinds budgets entries k i → (e : Entry) × Contains entries e × (e.key ≡ k) × (e.index ≡ i)
   blown_entry k i b =
-      let at : IsBlownAtBy counts (object_of (kinds k)) (budgets k) (of_key k entries) i = b.blown in
+      let at : IsBlownAtBy (more (kinds k)) (budgets k) (of_key k entries) i = b.blown in
       let h : Contains (of_key k entries) at.event = subst (λ l. Contains l at.event) at.cut (Contains-append_right at.before (at.event ∷ at.after) at.event (Contains-head at.event at.after)) in
       let r : Contains entries at.event × (nat_eq at.event.key k ≡ true) = from_filter (λ (e : Entry). nat_eq e.key k) entries at.event h in
       (at.event, r.0, eqb-true at.event.key k r.1, at.here)
 
-  one_blown_key : (k l i : ℕ) → IsBlownKeyAtBy counts kinds budgets entries k i → IsBlownKeyAtBy counts kinds budgets entries l i → k ≡ l
+  one_blown_key : (k l i : ℕ) → IsBlownKeyAtBy more kinds budgets entries k i → IsBlownKeyAtBy more kinds budgets entries l i → k ≡ l
   one_blown_key k l i b c =
       let e = blown_entry k i b in
       let f = blown_entry l i c in
@@ -112,7 +112,7 @@ module _ (counts : Op → Bool) (kinds : ℕ → ModelKind) (budgets : ℕ → �
   every_not_bad : (blown : ℕ → Bool) (last : Entry) → EndsShortestBadFront (product kinds) (set_aside blown entries) last → EveryFrontIsLinearizable (product kinds) (set_aside blown entries) → ⊥
   every_not_bad blown last s every = s.bad (every (s.before ++ last ∷ []) s.front)
 
-  one_with : (blown : ℕ → Bool) (v w : Verdict) → IsVerdictWithBy counts kinds budgets entries blown v → IsVerdictWithBy counts kinds budgets entries blown w → v ≡ w
+  one_with : (blown : ℕ → Bool) (v w : Verdict) → IsVerdictWithBy more kinds budgets entries blown v → IsVerdictWithBy more kinds budgets entries blown w → v ≡ w
   one_with blown (Illegal k i) (Illegal l j) h g =
       let e : h.0 ≡ g.0 = one_bad_front (product kinds) (set_aside blown entries) h.0 g.0 h.1 g.1 in
       let keys : k ≡ l = sym h.2 ∙ ap (λ (w : Entry). w.key) e ∙ g.2 in
@@ -125,17 +125,17 @@ module _ (counts : Op → Bool) (kinds : ℕ → ModelKind) (budgets : ℕ → �
       let a : i ≤ j = h.2 l j g.1 in
       let b : j ≤ i = g.2 k i h.1 in
       let indices : i ≡ j = omega arith in
-      let keys : k ≡ l = one_blown_key k l i h.1 (subst (IsBlownKeyAtBy counts kinds budgets entries l) (sym indices) g.1) in
+      let keys : k ≡ l = one_blown_key k l i h.1 (subst (IsBlownKeyAtBy more kinds budgets entries l) (sym indices) g.1) in
       cc
   one_with blown (Unknown k i) Legal h g = absurd (g.1 k (i, h.1.blown))
   one_with blown Legal (Illegal l j) h g = absurd (every_not_bad blown g.0 g.1 h.0)
   one_with blown Legal (Unknown l j) h g = absurd (h.1 l (j, g.1.blown))
   one_with blown Legal Legal h g = refl
 
-  pub one_verdict_by : (v w : Verdict) → IsVerdictBy counts kinds budgets entries v → IsVerdictBy counts kinds budgets entries w → v ≡ w
+  pub one_verdict_by : (v w : Verdict) → IsVerdictBy more kinds budgets entries v → IsVerdictBy more kinds budgets entries w → v ≡ w
   one_verdict_by v w h g =
       let same : g.0 ≡ h.0 = fun_ext (λ k. same_bool (g.0 k) (h.0 k) (λ t. (h.1 k).1 ((g.1 k).0 t)) (λ t. (g.1 k).1 ((h.1 k).0 t))) in
-      one_with h.0 v w h.2 (subst (λ (blown : ℕ → Bool). IsVerdictWithBy counts kinds budgets entries blown w) same g.2)
+      one_with h.0 v w h.2 (subst (λ (blown : ℕ → Bool). IsVerdictWithBy more kinds budgets entries blown w) same g.2)
 
 pub one_verdict : (kinds : ℕ → ModelKind) (budgets : ℕ → ℕ) (entries : List Entry) → IsRising entries → (v w : Verdict) → IsVerdict kinds budgets entries v → IsVerdict kinds budgets entries w → v ≡ w
-one_verdict = one_verdict_by is_no_read
+one_verdict = one_verdict_by CountsMoreThan

@@ -54,29 +54,31 @@ pub record HasMoreThanBy (counts : Op → Bool) (o : Object) (marks : List Mark)
   pub distinct : Pairwise (λ e f. e ≢ f) ends
   pub each : (e : End o.State) → Contains ends e → IsEndBy counts o marks e
 
--- at index i an ok event finds more ends than the budget just before it
-pub record IsBlownAtBy (counts : Op → Bool) (o : Object) (budget : ℕ) (entries : List Entry) (i : ℕ)
-    : Type 0 where
+-- a count: which histories it says to have more than n
+abbrev pub Count : Type 1
+Count = List Mark → ℕ → Type 0
+
+-- at index i an ok event finds more than the budget just before it
+pub record IsBlownAtBy (more : Count) (budget : ℕ) (entries : List Entry) (i : ℕ) : Type 0 where
   pub before : List Entry
   pub event : Entry
   pub after : List Entry
   pub cut : before ++ event ∷ after ≡ entries
   pub here : event.index ≡ i
   pub is_ok : (id : ℕ) × (answer : Answer) × (event.mark ≡ Returned id answer)
-  pub many : HasMoreThanBy counts o (marks before) budget
+  pub many : more (marks before) budget
 
 -- the blown index is the least such
-pub record IsBlownIndexBy (counts : Op → Bool) (o : Object) (budget : ℕ) (entries : List Entry)
-    (i : ℕ) : Type 0 where
-  pub blown : IsBlownAtBy counts o budget entries i
-  pub least : (j : ℕ) → IsBlownAtBy counts o budget entries j → i ≤ j
+pub record IsBlownIndexBy (more : Count) (budget : ℕ) (entries : List Entry) (i : ℕ) : Type 0 where
+  pub blown : IsBlownAtBy more budget entries i
+  pub least : (j : ℕ) → IsBlownAtBy more budget entries j → i ≤ j
 
 -- the budget is blown where some ok event does so
-abbrev pub IsBlownBy : (Op → Bool) → Object → ℕ → List Entry → Type 0
-IsBlownBy counts o budget entries = (i : ℕ) × IsBlownAtBy counts o budget entries i
+abbrev pub IsBlownBy : Count → ℕ → List Entry → Type 0
+IsBlownBy more budget entries = (i : ℕ) × IsBlownAtBy more budget entries i
 
-abbrev pub IsWithinBudgetBy : (Op → Bool) → Object → ℕ → List Entry → Type 0
-IsWithinBudgetBy counts o budget entries = (i : ℕ) → ¬ IsBlownAtBy counts o budget entries i
+abbrev pub IsWithinBudgetBy : Count → ℕ → List Entry → Type 0
+IsWithinBudgetBy more budget entries = (i : ℕ) → ¬ IsBlownAtBy more budget entries i
 
 -- a crashed read decides nothing: it leaves the state as it was, and has no answer. Each other crashed operation counts
 abbrev pub is_no_read_name : Name → Bool
@@ -96,16 +98,16 @@ abbrev pub HasMoreThan : Object → List Mark → ℕ → Type 0
 HasMoreThan = HasMoreThanBy is_no_read
 
 abbrev pub IsBlownAt : Object → ℕ → List Entry → ℕ → Type 0
-IsBlownAt = IsBlownAtBy is_no_read
+IsBlownAt o = IsBlownAtBy (HasMoreThan o)
 
 abbrev pub IsBlownIndex : Object → ℕ → List Entry → ℕ → Type 0
-IsBlownIndex = IsBlownIndexBy is_no_read
+IsBlownIndex o = IsBlownIndexBy (HasMoreThan o)
 
 abbrev pub IsBlown : Object → ℕ → List Entry → Type 0
-IsBlown = IsBlownBy is_no_read
+IsBlown o = IsBlownBy (HasMoreThan o)
 
 abbrev pub IsWithinBudget : Object → ℕ → List Entry → Type 0
-IsWithinBudget = IsWithinBudgetBy is_no_read
+IsWithinBudget o = IsWithinBudgetBy (HasMoreThan o)
 
 -- the same words with reads, where each crashed operation counts
 abbrev pub every : Op → Bool
@@ -118,10 +120,10 @@ abbrev pub HasMoreThanWithReads : Object → List Mark → ℕ → Type 0
 HasMoreThanWithReads = HasMoreThanBy every
 
 abbrev pub IsBlownAtWithReads : Object → ℕ → List Entry → ℕ → Type 0
-IsBlownAtWithReads = IsBlownAtBy every
+IsBlownAtWithReads o = IsBlownAtBy (HasMoreThanWithReads o)
 
 abbrev pub IsBlownIndexWithReads : Object → ℕ → List Entry → ℕ → Type 0
-IsBlownIndexWithReads = IsBlownIndexBy every
+IsBlownIndexWithReads o = IsBlownIndexBy (HasMoreThanWithReads o)
 
 abbrev pub IsBlownWithReads : Object → ℕ → List Entry → Type 0
-IsBlownWithReads = IsBlownBy every
+IsBlownWithReads o = IsBlownBy (HasMoreThanWithReads o)

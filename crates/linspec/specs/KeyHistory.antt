@@ -2,7 +2,6 @@
 use Rattle.std.specs.Prelude.{ℕ, Bool, List, [], ◌∷◌, ◌++◌, length, nat_lt}
 use Rattle.std.specs.List.{filter}
 use Rattle.models.specs.declared.model_kind.ModelKind.{ModelKind}
-use Rattle.models.specs.Objects.{object_of}
 use Rattle.events.specs.declared.event.Event.{Event}
 use Rattle.events.specs.Events.{entries_of}
 use Rattle.linspec.specs.declared.verdict.KeyStatus.{KeyStatus}
@@ -21,7 +20,7 @@ without_events kind budget = record { kind = kind; budget = budget; events = [] 
 
 -- from scratch, how the key stands
 abbrev pub IsStatusOf : KeyHistory → KeyStatus → Type 0
-IsStatusOf h status = IsKeyStatus (object_of h.kind) h.budget (entries_of h.events) status
+IsStatusOf h status = IsKeyStatus h.kind h.budget (entries_of h.events) status
 
 -- the changes: one more event; only the events of index below n; another kind and budget
 abbrev pub with_pushed : ℕ → Event → KeyHistory → KeyHistory

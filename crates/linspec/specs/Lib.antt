@@ -1,6 +1,7 @@
 pub mod Operations
 pub mod Orders
 pub mod Ends
+pub mod Counts
 pub mod Verdicts
 pub mod MarkRule
 pub mod Examples

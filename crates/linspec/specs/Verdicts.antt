@@ -2,11 +2,11 @@
 use Rattle.std.specs.Prelude.{◌≡◌, ◌≢◌, ◌↔◌, ℕ, ◌≤◌, ◌<◌, Bool, not, List, [], ◌∷◌, ◌++◌, length, IsTrue}
 use Rattle.std.specs.List.{filter, Contains}
 use Rattle.models.specs.declared.model_kind.ModelKind.{ModelKind}
-use Rattle.models.specs.declared.operation.Op.{Op}
 use Rattle.models.specs.Objects.{Object, object_of}
 use Rattle.events.specs.Events.{Entry, marks, of_key, IsFront}
 use Rattle.linspec.specs.Orders.{Pairwise, IsLinearizable, product}
-use Rattle.linspec.specs.Ends.{every, is_no_read, IsBlownBy, IsBlownIndexBy, IsWithinBudgetBy}
+use Rattle.linspec.specs.Ends.{Count, IsBlownBy, IsBlownIndexBy, IsWithinBudgetBy}
+use Rattle.linspec.specs.Counts.{CountsMoreThan, CountsMoreThanWithReads}
 use Rattle.linspec.specs.declared.verdict.KeyStatus.{KeyStatus}
 use Rattle.linspec.specs.declared.verdict.KeyStatus.TheVariants.{Alive, Dead, Over}
 use Rattle.linspec.specs.declared.verdict.Verdict.{Verdict}
@@ -24,26 +24,27 @@ abbrev pub EveryFrontIsLinearizable : Object → List Entry → Type 0
 EveryFrontIsLinearizable o entries =
     (front : List Entry) → IsFront front entries → IsLinearizable o (marks front)
 
--- Over where the budget is blown; else Dead where some front is not linearizable; else Alive. Counts says which
--- crashed operations count among the ends
-abbrev pub IsKeyStatusBy : (Op → Bool) → Object → ℕ → List Entry → KeyStatus → Type 0
-IsKeyStatusBy counts o budget entries (Over i) = IsBlownIndexBy counts o budget entries i
-IsKeyStatusBy counts o budget entries (Dead i) =
-    IsWithinBudgetBy counts o budget entries
+-- Over where the budget is blown; else Dead where some front is not linearizable; else Alive. More says what is more than
+-- the budget
+abbrev pub IsKeyStatusBy : Count → Object → ℕ → List Entry → KeyStatus → Type 0
+IsKeyStatusBy more o budget entries (Over i) = IsBlownIndexBy more budget entries i
+IsKeyStatusBy more o budget entries (Dead i) =
+    IsWithinBudgetBy more budget entries
     × ((last : Entry) × EndsShortestBadFront o entries last × (last.index ≡ i))
-IsKeyStatusBy counts o budget entries Alive =
-    IsWithinBudgetBy counts o budget entries × EveryFrontIsLinearizable o entries
+IsKeyStatusBy more o budget entries Alive =
+    IsWithinBudgetBy more budget entries × EveryFrontIsLinearizable o entries
 
 -- the history without the events of the keys that blown says
 abbrev pub set_aside : (ℕ → Bool) → List Entry → List Entry
 set_aside blown entries = filter (λ e. not (blown e.key)) entries
 
-module _ (counts : Op → Bool) (kinds : ℕ → ModelKind) (budgets : ℕ → ℕ) (entries : List Entry) where
+module _ (more : ModelKind → Count) (kinds : ℕ → ModelKind) (budgets : ℕ → ℕ)
+    (entries : List Entry) where
   abbrev pub IsBlownKeyBy : ℕ → Type 0
-  IsBlownKeyBy k = IsBlownBy counts (object_of (kinds k)) (budgets k) (of_key k entries)
+  IsBlownKeyBy k = IsBlownBy (more (kinds k)) (budgets k) (of_key k entries)
 
   abbrev pub IsBlownKeyAtBy : ℕ → ℕ → Type 0
-  IsBlownKeyAtBy k i = IsBlownIndexBy counts (object_of (kinds k)) (budgets k) (of_key k entries) i
+  IsBlownKeyAtBy k i = IsBlownIndexBy (more (kinds k)) (budgets k) (of_key k entries) i
 
   -- the verdict, where blown says which keys are blown
   abbrev pub IsVerdictWithBy : (ℕ → Bool) → Verdict → Type 0
@@ -66,30 +67,30 @@ abbrev pub IsRising : List Entry → Type 0
 IsRising entries = Pairwise (λ e f. e.index < f.index) entries
 
 -- the statuses of the keys that have events, each once
-pub record AreStatusesBy (counts : Op → Bool) (kinds : ℕ → ModelKind) (budgets : ℕ → ℕ)
+pub record AreStatusesBy (more : ModelKind → Count) (kinds : ℕ → ModelKind) (budgets : ℕ → ℕ)
     (entries : List Entry) (statuses : List (ℕ × KeyStatus)) : Type 0 where
   pub each : (k : ℕ) (status : KeyStatus) → Contains statuses (k, status)
-      → IsKeyStatusBy counts (object_of (kinds k)) (budgets k) (of_key k entries) status
+      → IsKeyStatusBy (more (kinds k)) (object_of (kinds k)) (budgets k) (of_key k entries) status
   pub once : Pairwise (λ p q. p.0 ≢ q.0) statuses
   pub all : (e : Entry) → Contains entries e
       → (status : KeyStatus) × Contains statuses (e.key, status)
 
--- crashed reads are set aside
-abbrev pub IsKeyStatus : Object → ℕ → List Entry → KeyStatus → Type 0
-IsKeyStatus = IsKeyStatusBy is_no_read
+-- crashed reads are set aside, and each kind counts as it does
+abbrev pub IsKeyStatus : ModelKind → ℕ → List Entry → KeyStatus → Type 0
+IsKeyStatus kind = IsKeyStatusBy (CountsMoreThan kind) (object_of kind)
 
 abbrev pub IsVerdict : (ℕ → ModelKind) → (ℕ → ℕ) → List Entry → Verdict → Type 0
-IsVerdict = IsVerdictBy is_no_read
+IsVerdict = IsVerdictBy CountsMoreThan
 
 abbrev pub AreStatuses : (ℕ → ModelKind) → (ℕ → ℕ) → List Entry → List (ℕ × KeyStatus) → Type 0
-AreStatuses = AreStatusesBy is_no_read
+AreStatuses = AreStatusesBy CountsMoreThan
 
 -- the same words with reads, where each crashed operation counts
 abbrev pub IsBlownKeyWithReads : (ℕ → ModelKind) → (ℕ → ℕ) → List Entry → ℕ → Type 0
-IsBlownKeyWithReads = IsBlownKeyBy every
+IsBlownKeyWithReads = IsBlownKeyBy CountsMoreThanWithReads
 
 abbrev pub IsVerdictWithReads : (ℕ → ModelKind) → (ℕ → ℕ) → List Entry → Verdict → Type 0
-IsVerdictWithReads = IsVerdictBy every
+IsVerdictWithReads = IsVerdictBy CountsMoreThanWithReads
 
 -- what join promises: a pair of the list with the least Dead index, else one with the least Over index, else Legal
 abbrev pub IsJoin : List (ℕ × KeyStatus) → Verdict → Type 0

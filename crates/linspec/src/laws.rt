@@ -12,6 +12,7 @@ ghost use Rattle.linspec.specs.Orders.{IsLinearizable, product};
 ghost use Rattle.linspec.specs.Ends.{HasMoreThan, IsBlown, IsBlownAt, IsBlownIndex, IsWithinBudget};
 ghost use Rattle.linspec.specs.Ends.{HasMoreThanWithReads, IsBlownWithReads, IsBlownAtWithReads};
 ghost use Rattle.linspec.specs.Ends.{IsBlownIndexWithReads};
+ghost use Rattle.linspec.specs.Counts.{CountsMoreThanBy};
 ghost use Rattle.linspec.specs.Verdicts.{IsKeyStatusBy, IsVerdict, IsVerdictBy, IsRising};
 ghost use Rattle.linspec.specs.Verdicts.{IsBlownKeyWithReads, IsVerdictWithReads};
 ghost use Rattle.linspec.specs.Examples.{all_entries, key_entries, key_marks, queue_at_one};
@@ -70,12 +71,13 @@ pub fn never_kills_law()
 /// verdict.
 pub fn one_answer_law()
     ensures status { (counts : Op → Bool) (kind : ModelKind) (budget : ℕ) (entries : List Entry)
-        (s t : KeyStatus) → IsKeyStatusBy counts (object_of kind) budget entries s
-        → IsKeyStatusBy counts (object_of kind) budget entries t → s ≡ t }
+        (s t : KeyStatus) → let more = CountsMoreThanBy counts kind in
+        IsKeyStatusBy more (object_of kind) budget entries s
+        → IsKeyStatusBy more (object_of kind) budget entries t → s ≡ t }
     ensures verdict { (counts : Op → Bool) (kinds : ℕ → ModelKind) (budgets : ℕ → ℕ)
-        (entries : List Entry) (v w : Verdict) → IsRising entries
-        → IsVerdictBy counts kinds budgets entries v → IsVerdictBy counts kinds budgets entries w
-        → v ≡ w }
+        (entries : List Entry) (v w : Verdict) → let more = CountsMoreThanBy counts in
+        IsRising entries → IsVerdictBy more kinds budgets entries v
+        → IsVerdictBy more kinds budgets entries w → v ≡ w }
 {}
 
 /// What the process rule gives for the entries of a history.

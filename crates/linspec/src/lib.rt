@@ -2,8 +2,9 @@
 //! these.
 //!
 //! `specs/Orders.antt` has legal orders and linearizability, of one object and of many; `Ends.antt` what legal orders leave of one
-//! key, and when they are more than a budget; `Verdicts.antt` how a key stands and what joins the keys; `JudgedHistory.antt` all of
-//! this of a history of many keys with its kinds and budgets. [`brute`] computes linearizability by trying orders, for tests.
+//! key, and when they are more than a budget; `Counts.antt` what each kind counts against its budget; `Verdicts.antt` how a key
+//! stands and what joins the keys; `JudgedHistory.antt` all of this of a history of many keys with its kinds and budgets. [`brute`]
+//! computes linearizability by trying orders, for tests.
 //!
 //! A call takes memory only where its result can be `AllocError`, or a refusal for want of memory.
 #![tactic(auto)]

@@ -5,7 +5,6 @@ use Rattle.std.proofs.lemmas.Bool.{cases_eq, eqb-true, ne_eqb, true≢false}
 use Rattle.std.proofs.lemmas.List.{append-nil}
 use Rattle.std.proofs.lemmas.List.Elements.{Contains-append_left, Contains-append_right, Contains-push, filter-append}
 use Rattle.models.specs.declared.model_kind.ModelKind.{ModelKind}
-use Rattle.models.specs.declared.operation.Op.{Op}
 use Rattle.models.specs.Objects.{Object, object_of}
 use Rattle.events.specs.Events.{Entry, of_key, marks, IsFront}
 use Rattle.linspec.specs.declared.verdict.KeyStatus.{KeyStatus}
@@ -14,7 +13,7 @@ use Rattle.linspec.specs.declared.verdict.Verdict.{Verdict}
 use Rattle.linspec.specs.declared.verdict.Verdict.TheVariants.{Legal, Illegal, Unknown}
 use Rattle.linspec.specs.MarkRule.{AreWellFormed, IsKeyed}
 use Rattle.linspec.specs.Orders.{Pairwise, IsLinearizable}
-use Rattle.linspec.specs.Ends.{IsBlownAtBy, IsBlownIndexBy}
+use Rattle.linspec.specs.Ends.{Count, IsBlownAtBy, IsBlownIndexBy}
 use Rattle.linspec.specs.Verdicts.{EndsShortestBadFront, EveryFrontIsLinearizable}
 use Rattle.linspec.specs.Orders.{product}
 use Rattle.linspec.specs.Verdicts.{IsBlownKeyBy, IsBlownKeyAtBy, set_aside, IsVerdictWithBy, IsVerdictBy, IsRising, AreStatusesBy, IsJoin}
@@ -92,7 +91,7 @@ shorter_in us vs front r x e le h =
         let b : length (us ++ y ∷ r) ≡ length front = ap length e in
         absurd (omega arith)
 
-module _ (counts : Op → Bool) (kinds : ℕ → ModelKind) (budgets : ℕ → ℕ) (entries : List Entry) (statuses : List (ℕ × KeyStatus)) (keyed : IsKeyed entries) (well : AreWellFormed (marks entries)) (rising : IsRising entries) (are : AreStatusesBy counts kinds budgets entries statuses) where
+module _ (more : ModelKind → Count) (kinds : ℕ → ModelKind) (budgets : ℕ → ℕ) (entries : List Entry) (statuses : List (ℕ × KeyStatus)) (keyed : IsKeyed entries) (well : AreWellFormed (marks entries)) (rising : IsRising entries) (are : AreStatusesBy more kinds budgets entries statuses) where
   blown : ℕ → Bool
   blown k = over_by (look statuses k)
 
@@ -116,13 +115,13 @@ module _ (counts : Op → Bool) (kinds : ℕ → ModelKind) (budgets : ℕ → �
       by_look (inl r) e = by_status r.0 r.1 (ap over_by e)
       by_look (inr none) e = without (filter-none (λ (e : Entry). nat_eq e.key k) entries (λ x h. ne_eqb x.key k (λ q. (let a = are.all x h in none a.0 (subst (λ j. Contains statuses (j, a.0)) q a.1))))) (ap over_by e)
 
-  none_blown : (k i : ℕ) → of_key k entries ≡ [] → ¬ IsBlownAtBy counts (object_of (kinds k)) (budgets k) (of_key k entries) i
+  none_blown : (k i : ℕ) → of_key k entries ≡ [] → ¬ IsBlownAtBy (more (kinds k)) (budgets k) (of_key k entries) i
   none_blown k i none b = no_cut b.before b.after b.event (b.cut ∙ none)
 
-  blown_is : (k : ℕ) → IsTrue (blown k) ↔ IsBlownKeyBy counts kinds budgets entries k
+  blown_is : (k : ℕ) → IsTrue (blown k) ↔ IsBlownKeyBy more kinds budgets entries k
   blown_is k = by_case (case_of k)
     where
-      by_case : CaseOf k → IsTrue (blown k) ↔ IsBlownKeyBy counts kinds budgets entries k
+      by_case : CaseOf k → IsTrue (blown k) ↔ IsBlownKeyBy more kinds budgets entries k
       by_case (over i h e) = ((λ _. (i, (are.each k (Over i) h).blown)), (λ _. e))
       by_case (dead i h e) = ((λ t. absurd (true≢false (sym t ∙ e))), (λ b. absurd ((are.each k (Dead i) h).0 b.0 b.1)))
       by_case (alive h e) = ((λ t. absurd (true≢false (sym t ∙ e))), (λ b. absurd ((are.each k Alive h).0 b.0 b.1)))
@@ -166,21 +165,21 @@ module _ (counts : Op → Bool) (kinds : ℕ → ModelKind) (budgets : ℕ → �
       by_case (alive g e) = e
       by_case (without none e) = e
 
-  legal : IsJoin statuses Legal → IsVerdictWithBy counts kinds budgets entries blown Legal
+  legal : IsJoin statuses Legal → IsVerdictWithBy more kinds budgets entries blown Legal
   legal j = (no_dead_lin j.0, λ k. by_case k (case_of k))
     where
-      by_case : (k : ℕ) → CaseOf k → ¬ IsBlownKeyBy counts kinds budgets entries k
+      by_case : (k : ℕ) → CaseOf k → ¬ IsBlownKeyBy more kinds budgets entries k
       by_case k (over i h e) b = j.1 k i h
       by_case k (dead i h e) b = (are.each k (Dead i) h).0 b.0 b.1
       by_case k (alive h e) b = (are.each k Alive h).0 b.0 b.1
       by_case k (without none e) b = none_blown k b.0 none b.1
 
-  unknown : (key index : ℕ) → IsJoin statuses (Unknown key index) → IsVerdictWithBy counts kinds budgets entries blown (Unknown key index)
+  unknown : (key index : ℕ) → IsJoin statuses (Unknown key index) → IsVerdictWithBy more kinds budgets entries blown (Unknown key index)
   unknown key index j = (no_dead_lin j.0, are.each key (Over index) j.1, λ k i b. by_case k i (case_of k) b)
     where
-      by_case : (k i : ℕ) → CaseOf k → IsBlownKeyAtBy counts kinds budgets entries k i → index ≤ i
+      by_case : (k i : ℕ) → CaseOf k → IsBlownKeyAtBy more kinds budgets entries k i → index ≤ i
       by_case k i (over n h e) b =
-          let s : IsBlownIndexBy counts (object_of (kinds k)) (budgets k) (of_key k entries) n = are.each k (Over n) h in
+          let s : IsBlownIndexBy (more (kinds k)) (budgets k) (of_key k entries) n = are.each k (Over n) h in
           let c : n ≤ i = s.least i b.blown in
           let d : index ≤ n = j.2 k n h in
           omega arith
@@ -188,7 +187,7 @@ module _ (counts : Op → Bool) (kinds : ℕ → ModelKind) (budgets : ℕ → �
       by_case k i (alive h e) b = absurd ((are.each k Alive h).0 i b.blown)
       by_case k i (without none e) b = absurd (none_blown k i none b.blown)
 
-  illegal : (key index : ℕ) → IsJoin statuses (Illegal key index) → IsVerdictWithBy counts kinds budgets entries blown (Illegal key index)
+  illegal : (key index : ℕ) → IsJoin statuses (Illegal key index) → IsVerdictWithBy more kinds budgets entries blown (Illegal key index)
   illegal key index j =
       let d : (last : Entry) × EndsShortestBadFront (object_of (kinds key)) (of_key key entries) last × (last.index ≡ index) = (are.each key (Dead index) j.0).1 in
       let s : EndsShortestBadFront (object_of (kinds key)) (of_key key entries) d.0 = d.1 in
@@ -218,7 +217,7 @@ module _ (counts : Op → Bool) (kinds : ℕ → ModelKind) (budgets : ℕ → �
       )
 
   -- what join promises is the verdict
-  pub IsVerdict-join : (v : Verdict) → IsJoin statuses v → IsVerdictBy counts kinds budgets entries v
+  pub IsVerdict-join : (v : Verdict) → IsJoin statuses v → IsVerdictBy more kinds budgets entries v
   IsVerdict-join (Illegal key index) j = (blown, blown_is, illegal key index j)
   IsVerdict-join (Unknown key index) j = (blown, blown_is, unknown key index j)
   IsVerdict-join Legal j = (blown, blown_is, legal j)

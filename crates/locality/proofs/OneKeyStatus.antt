@@ -1,15 +1,15 @@
 -- where all entries are of one key, its status gives the verdict
-use Rattle.std.proofs.Common.{◌≡◌, ℕ, ⊎_elim, Bool, nat_eq, List, [], ◌∷◌, ◌++◌, refl, sym, ap, ◌∙◌, subst}
+use Rattle.std.proofs.Common.{◌≡◌, ℕ, ⊎_elim, nat_eq, List, [], ◌∷◌, ◌++◌, refl, sym, ap, ◌∙◌, subst}
 use Rattle.std.specs.List.{Contains}
 use Rattle.std.proofs.lemmas.Bool.{eq-eqb}
 use Rattle.models.specs.declared.model_kind.ModelKind.{ModelKind}
-use Rattle.models.specs.declared.operation.Op.{Op}
 use Rattle.models.specs.Objects.{object_of}
 use Rattle.events.specs.Events.{Entry, of_key, marks}
 use Rattle.linspec.specs.declared.verdict.KeyStatus.{KeyStatus}
 use Rattle.linspec.specs.declared.verdict.KeyStatus.TheVariants.{Alive, Dead, Over}
 use Rattle.linspec.specs.declared.verdict.Verdict.TheVariants.{Legal}
 use Rattle.linspec.specs.MarkRule.{AreWellFormed, IsKeyed}
+use Rattle.linspec.specs.Ends.{Count}
 use Rattle.linspec.specs.Verdicts.{IsKeyStatusBy, IsRising, AreStatusesBy, IsJoin, IsVerdictBy}
 use Rattle.linspec.proofs.Lists.{Contains-nil, Contains-head, Contains-tail, Contains-cons_cases}
 use Rattle.linspec.proofs.Filters.{filter-yes}
@@ -26,13 +26,13 @@ of_key-all key (e ∷ entries) all =
     ∙ ap (λ l. e ∷ l) (of_key-all key entries (λ x h. all x (Contains-tail e entries x h)))
 
 -- the statuses of all keys are that of this key alone
-AreStatuses-one : (counts : Op → Bool) (kinds : ℕ → ModelKind) (budgets : ℕ → ℕ) (key : ℕ) (entries : List Entry) (status : KeyStatus) → IsOfKey key entries
-    → IsKeyStatusBy counts (object_of (kinds key)) (budgets key) entries status → AreStatusesBy counts kinds budgets entries ((key, status) ∷ [])
-AreStatuses-one counts kinds budgets key entries status all is = record {
+AreStatuses-one : (more : ModelKind → Count) (kinds : ℕ → ModelKind) (budgets : ℕ → ℕ) (key : ℕ) (entries : List Entry) (status : KeyStatus) → IsOfKey key entries
+    → IsKeyStatusBy (more (kinds key)) (object_of (kinds key)) (budgets key) entries status → AreStatusesBy more kinds budgets entries ((key, status) ∷ [])
+AreStatuses-one more kinds budgets key entries status all is = record {
   each = λ k s h. ⊎_elim
       (λ (e : ◌≡◌ {A = ℕ × KeyStatus} (key, status) (k, s)).
-      subst (λ (p : ℕ × KeyStatus). IsKeyStatusBy counts (object_of (kinds p.0)) (budgets p.0) (of_key p.0 entries) p.1) e
-      (subst (λ (l : List Entry). IsKeyStatusBy counts (object_of (kinds key)) (budgets key) l status) (sym (of_key-all key entries all)) is))
+      subst (λ (p : ℕ × KeyStatus). IsKeyStatusBy (more (kinds p.0)) (object_of (kinds p.0)) (budgets p.0) (of_key p.0 entries) p.1) e
+      (subst (λ (l : List Entry). IsKeyStatusBy (more (kinds key)) (object_of (kinds key)) (budgets key) l status) (sym (of_key-all key entries all)) is))
       (λ n. absurd (Contains-nil (k, s) n))
       (Contains-cons_cases (key, status) [] (k, s) h);
   once = ((λ p h. absurd (Contains-nil p h)), tt);
@@ -44,15 +44,15 @@ IsJoin-one key Alive = IsJoin-alive [] key Legal IsJoin-none
 IsJoin-one key (Dead index) = IsJoin-dead_legal [] key index IsJoin-none
 IsJoin-one key (Over index) = IsJoin-over_legal [] key index IsJoin-none
 
-pub IsVerdict-one : (counts : Op → Bool) (kinds : ℕ → ModelKind) (budgets : ℕ → ℕ) (key : ℕ) (entries : List Entry) (status : KeyStatus)
+pub IsVerdict-one : (more : ModelKind → Count) (kinds : ℕ → ModelKind) (budgets : ℕ → ℕ) (key : ℕ) (entries : List Entry) (status : KeyStatus)
     → IsKeyed entries → AreWellFormed (marks entries) → IsRising entries → IsOfKey key entries
-    → IsKeyStatusBy counts (object_of (kinds key)) (budgets key) entries status → IsVerdictBy counts kinds budgets entries (verdict_of key status)
-IsVerdict-one counts kinds budgets key entries status keyed well rising all is =
-    IsVerdict-join counts kinds budgets entries ((key, status) ∷ []) keyed well rising (AreStatuses-one counts kinds budgets key entries status all is) (verdict_of key status) (IsJoin-one key status)
+    → IsKeyStatusBy (more (kinds key)) (object_of (kinds key)) (budgets key) entries status → IsVerdictBy more kinds budgets entries (verdict_of key status)
+IsVerdict-one more kinds budgets key entries status keyed well rising all is =
+    IsVerdict-join more kinds budgets entries ((key, status) ∷ []) keyed well rising (AreStatuses-one more kinds budgets key entries status all is) (verdict_of key status) (IsJoin-one key status)
 
-pub IsVerdict-none : (counts : Op → Bool) (kinds : ℕ → ModelKind) (budgets : ℕ → ℕ) → IsVerdictBy counts kinds budgets [] Legal
-IsVerdict-none counts kinds budgets =
-    IsVerdict-join counts kinds budgets [] []
+pub IsVerdict-none : (more : ModelKind → Count) (kinds : ℕ → ModelKind) (budgets : ℕ → ℕ) → IsVerdictBy more kinds budgets [] Legal
+IsVerdict-none more kinds budgets =
+    IsVerdict-join more kinds budgets [] []
     (record { op_key = λ e id op h. absurd (Contains-nil e h); one_key = λ e f h. absurd (Contains-nil e h) })
     (λ before after m cut. absurd (no_cut before after m cut)) tt
     (record { each = λ k s h. absurd (Contains-nil (k, s) h); once = tt; all = λ e h. absurd (Contains-nil e h) })

@@ -8,6 +8,7 @@ ghost use Rattle.linspec.specs.declared.verdict.KeyStatus.{KeyStatus};
 ghost use Rattle.linspec.specs.declared.verdict.Verdict.{Verdict};
 ghost use Rattle.linspec.specs.MarkRule.{IsKeyed, AreWellFormed};
 ghost use Rattle.linspec.specs.Orders.{IsLinearizable, product};
+ghost use Rattle.linspec.specs.Counts.{CountsMoreThanBy};
 ghost use Rattle.linspec.specs.Verdicts.{IsVerdict, IsVerdictBy, IsRising, IsKeyStatusBy, AreStatuses, AreStatusesBy, IsJoin};
 ghost use Rattle.locality.specs.OneKey.{IsOfKey, verdict_of};
 ghost use Rattle.locality.specs.BadKeys.{HaveSameBadKeys};
@@ -35,20 +36,20 @@ pub fn join_law_by()
     ensures { (counts : Op → Bool) (kinds : ℕ → ModelKind) (budgets : ℕ → ℕ)
         (entries : List Entry) (statuses : List (ℕ × KeyStatus)) (v : Verdict) →
         IsKeyed entries → AreWellFormed (marks entries) → IsRising entries
-        → AreStatusesBy counts kinds budgets entries statuses → IsJoin statuses v
-        → IsVerdictBy counts kinds budgets entries v }
+        → AreStatusesBy (CountsMoreThanBy counts) kinds budgets entries statuses → IsJoin statuses v
+        → IsVerdictBy (CountsMoreThanBy counts) kinds budgets entries v }
 {}
 
 /// Where all operations are of one key, the verdict is that key's status; where there is none, it is Legal; whichever
 /// crashed operations count.
 pub fn one_key_law()
     ensures one { (counts : Op → Bool) (kinds : ℕ → ModelKind) (budgets : ℕ → ℕ) (key : ℕ)
-        (entries : List Entry) (status : KeyStatus) →
+        (entries : List Entry) (status : KeyStatus) → let more = CountsMoreThanBy counts in
         IsKeyed entries → AreWellFormed (marks entries) → IsRising entries → IsOfKey key entries
-        → IsKeyStatusBy counts (object_of (kinds key)) (budgets key) entries status
-        → IsVerdictBy counts kinds budgets entries (verdict_of key status) }
+        → IsKeyStatusBy (more (kinds key)) (object_of (kinds key)) (budgets key) entries status
+        → IsVerdictBy more kinds budgets entries (verdict_of key status) }
     ensures none { (counts : Op → Bool) (kinds : ℕ → ModelKind) (budgets : ℕ → ℕ) →
-        IsVerdictBy counts kinds budgets [] Verdict.Legal }
+        IsVerdictBy (CountsMoreThanBy counts) kinds budgets [] Verdict.Legal }
 {}
 
 /// The verdict of no statuses is Legal.

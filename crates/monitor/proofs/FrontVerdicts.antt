@@ -1,28 +1,29 @@
 -- each front of a history has a verdict, where it is known how each key stands at the end
-use Rattle.std.proofs.Common.{◌≡◌, ◌≢◌, ◌⊎◌, inl, inr, ⊎_elim, ℕ, ◌+◌, ◌<◌, ◌≤◌, Bool, nat_eq, List, [], ◌∷◌, ◌++◌, map, length, take, drop, refl, sym, ap, ◌∙◌, subst, append_assoc, append-nil, length-append, All, arith}
+use Rattle.std.proofs.Common.{◌≡◌, ◌≢◌, ◌⊎◌, inl, inr, ⊎_elim, ℕ, ◌+◌, ◌<◌, ◌≤◌, nat_eq, List, [], ◌∷◌, ◌++◌, map, length, take, drop, refl, sym, ap, ◌∙◌, subst, append_assoc, append-nil, length-append, All, arith}
 use Rattle.std.specs.List.{Contains}
 use Rattle.std.specs.Map.{keys_of}
 use Rattle.std.proofs.lemmas.Bool.{cases_lt}
 use Rattle.std.proofs.lemmas.List.{take-append-drop}
 use Rattle.std.proofs.lemmas.List.Elements.{All-head, All-tail, Contains-append_left, Contains-append_right, filter-append}
 use Rattle.models.specs.declared.model_kind.ModelKind.{ModelKind}
-use Rattle.models.specs.declared.operation.Op.{Op}
 use Rattle.models.specs.Objects.{Object, object_of}
 use Rattle.events.specs.declared.event.Event.{Event}
 use Rattle.events.specs.ProcessRule.{IsHistory}
 use Rattle.history.specs.WellFormed.{IsHistoryOf}
-use Rattle.events.specs.Events.{Entry, op_event, entries_by, entries_from, entries_of, last_after, indexed_from, of_key, marks, IsFront}
+use Rattle.events.specs.Events.{Mark, Entry, op_event, entries_by, entries_from, entries_of, last_after, indexed_from, of_key, marks, IsFront}
 use Rattle.linspec.specs.declared.verdict.KeyStatus.{KeyStatus}
 use Rattle.linspec.specs.declared.verdict.KeyStatus.TheVariants.{Alive, Dead, Over}
 use Rattle.linspec.specs.declared.verdict.Verdict.{Verdict}
 use Rattle.linspec.specs.declared.verdict.Verdict.TheVariants.{Legal, Illegal, Unknown}
 use Rattle.linspec.specs.MarkRule.{IsKeyed, AreWellFormed}
 use Rattle.linspec.specs.Orders.{IsLinearizable, Pairwise}
-use Rattle.linspec.specs.Ends.{End, IsEndBy, HasMoreThanBy, IsBlownAtBy, IsWithinBudgetBy, is_no_read}
-use Rattle.linspec.specs.Verdicts.{IsKeyStatusBy, IsRising, AreStatusesBy, IsJoin}
+use Rattle.linspec.specs.Ends.{Count, IsBlownAtBy, IsWithinBudgetBy}
+use Rattle.linspec.specs.Counts.{CountsMoreThan}
+use Rattle.linspec.specs.Verdicts.{IsKeyStatusBy, IsKeyStatus, IsRising, AreStatuses, IsJoin}
 use Rattle.linspec.proofs.Lists.{Contains-nil, Contains-head, Contains-tail, Contains-cons_cases, Pairwise-across}
 use Rattle.linspec.proofs.Filters.{Pairwise-filter, to_map, from_map}
-use Rattle.linspec.proofs.Fronts.{IsLinearizable-end_by, IsLinearizable-front}
+use Rattle.linspec.proofs.ByKind.{counted_order}
+use Rattle.linspec.proofs.Fronts.{IsLinearizable-front}
 use Rattle.locality.proofs.BadKeys.{IsJoin-none}
 use Rattle.locality.proofs.MoreStatuses.{IsJoin-alive, IsJoin-dead_later, IsJoin-dead_earlier, IsJoin-dead_unknown, IsJoin-dead_legal, IsJoin-over_illegal, IsJoin-over_later, IsJoin-over_earlier, IsJoin-over_legal}
 use Rattle.locality.proofs.SetAside.{AreWellFormed-front, AreWellFormed-filter}
@@ -57,8 +58,8 @@ stops_or_passes (y ∷ front) rest (b ∷ before) after x h =
     (stops_or_passes front rest before after x tail)
 
 -- how a key stands at a front of its history
-module _ (counts : Op → Bool) (o : Object) (budget : ℕ) (front entries : List Entry) (is : IsFront front entries) where
-  blown_later : (i : ℕ) → IsBlownAtBy counts o budget front i → IsBlownAtBy counts o budget entries i
+module _ (more : Count) (o : Object) (budget : ℕ) (some_order : (before : List Mark) → more before budget → IsLinearizable o before) (front entries : List Entry) (is : IsFront front entries) where
+  blown_later : (i : ℕ) → IsBlownAtBy more budget front i → IsBlownAtBy more budget entries i
   blown_later i b = record {
     before = b.before;
     event = b.event;
@@ -69,18 +70,10 @@ module _ (counts : Op → Bool) (o : Object) (budget : ℕ) (front entries : Lis
     many = b.many;
   }
 
-  within : IsWithinBudgetBy counts o budget entries → IsWithinBudgetBy counts o budget front
+  within : IsWithinBudgetBy more budget entries → IsWithinBudgetBy more budget front
   within h i b = h i (blown_later i b)
 
-  -- there are more ends than none, so there is a legal order
-  some_order : (marks_before : List Entry) → HasMoreThanBy counts o (marks marks_before) budget → IsLinearizable o (marks marks_before)
-  some_order before many = first many.ends many.many many.each
-    where
-      first : (ends : List (End o.State)) → length ends ≡ budget + 1 → ((e : End o.State) → Contains ends e → IsEndBy counts o (marks before) e) → IsLinearizable o (marks before)
-      first [] long each = absurd (omega arith)
-      first (e ∷ ends) long each = (IsLinearizable-end_by counts o (marks before)).1 (e, each e (Contains-head e ends))
-
-  pub front_status : AreWellFormed (marks entries) → IsRising entries → (s : KeyStatus) → IsKeyStatusBy counts o budget entries s → (t : KeyStatus) × IsKeyStatusBy counts o budget front t
+  pub front_status : AreWellFormed (marks entries) → IsRising entries → (s : KeyStatus) → IsKeyStatusBy more o budget entries s → (t : KeyStatus) × IsKeyStatusBy more o budget front t
   front_status well rising Alive h = (Alive, (within h.0, λ f g. h.1 f (front_of_front f front entries g is)))
   front_status well rising (Dead i) h =
       let last = h.1.0 in
@@ -99,7 +92,7 @@ module _ (counts : Op → Bool) (o : Object) (budget : ℕ) (front entries : Lis
         Alive,
         (
           λ j x. (let sooner : j < i = earlier f j x in let later : i ≤ j = h.least j (blown_later j x) in omega arith),
-          λ g k. IsLinearizable-front o g b.before (AreWellFormed-front b.before entries (b.event ∷ b.after, b.cut) well) (front_of_front g front b.before k f) (some_order b.before b.many),
+          λ g k. IsLinearizable-front o g b.before (AreWellFormed-front b.before entries (b.event ∷ b.after, b.cut) well) (front_of_front g front b.before k f) (some_order (marks b.before) b.many),
         ),
       ))
       (λ (f : IsFront (b.before ++ b.event ∷ []) front). (
@@ -119,7 +112,7 @@ module _ (counts : Op → Bool) (o : Object) (budget : ℕ) (front entries : Lis
       ))
       (stops_or_passes front is.0 b.before b.after b.event (is.1 ∙ sym b.cut))
     where
-      earlier : IsFront front h.blown.before → (j : ℕ) → IsBlownAtBy counts o budget front j → j < i
+      earlier : IsFront front h.blown.before → (j : ℕ) → IsBlownAtBy more budget front j → j < i
       earlier f j x =
           let b = h.blown in
           let x_in : Contains b.before x.event = in_front front b.before x.event f (subst (λ l. Contains l x.event) x.cut (Contains-append_right x.before (x.event ∷ x.after) x.event (Contains-head x.event x.after))) in
@@ -128,9 +121,9 @@ module _ (counts : Op → Bool) (o : Object) (budget : ℕ) (front entries : Lis
           omega (arith, x.here, b.here)
 
 -- how each of the keys stands at a front of the history
-module _ (counts : Op → Bool) (kinds : ℕ → ModelKind) (budgets : ℕ → ℕ) (front entries : List Entry) (is : IsFront front entries) where
+module _ (kinds : ℕ → ModelKind) (budgets : ℕ → ℕ) (front entries : List Entry) (is : IsFront front entries) where
   abbrev StandsSo : ℕ × KeyStatus → Type 0
-  StandsSo s = IsKeyStatusBy counts (object_of (kinds s.0)) (budgets s.0) (of_key s.0 front) s.1
+  StandsSo s = IsKeyStatus (kinds s.0) (budgets s.0) (of_key s.0 front) s.1
 
   key_front : (k : ℕ) → IsFront (of_key k front) (of_key k entries)
   key_front k = (of_key k is.0, sym (filter-append (λ (e : Entry). nat_eq e.key k) front is.0) ∙ ap (of_key k) is.1)
@@ -156,8 +149,8 @@ module _ (counts : Op → Bool) (kinds : ℕ → ModelKind) (budgets : ℕ → �
     keys_once statuses h.1,
   )
 
-  pub front_statuses : IsKeyed entries → AreWellFormed (marks entries) → IsRising entries → (statuses : List (ℕ × KeyStatus)) → AreStatusesBy counts kinds budgets entries statuses
-      → (new : List (ℕ × KeyStatus)) × AreStatusesBy counts kinds budgets front new
+  pub front_statuses : IsKeyed entries → AreWellFormed (marks entries) → IsRising entries → (statuses : List (ℕ × KeyStatus)) → AreStatuses kinds budgets entries statuses
+      → (new : List (ℕ × KeyStatus)) × AreStatuses kinds budgets front new
   front_statuses keyed well rising statuses are =
       let new = each_status statuses (λ s h. status_of s.0 s.1 (are.each s.0 s.1 h)) in (
         new.0,
@@ -168,9 +161,9 @@ module _ (counts : Op → Bool) (kinds : ℕ → ModelKind) (budgets : ℕ → �
         },
       )
     where
-      status_of : (k : ℕ) (s : KeyStatus) → IsKeyStatusBy counts (object_of (kinds k)) (budgets k) (of_key k entries) s → (t : KeyStatus) × StandsSo (k, t)
+      status_of : (k : ℕ) (s : KeyStatus) → IsKeyStatus (kinds k) (budgets k) (of_key k entries) s → (t : KeyStatus) × StandsSo (k, t)
       status_of k s h =
-          front_status counts (object_of (kinds k)) (budgets k) (of_key k front) (of_key k entries) (key_front k)
+          front_status (CountsMoreThan (kinds k)) (object_of (kinds k)) (budgets k) (λ before. counted_order (kinds k) before (budgets k)) (of_key k front) (of_key k entries) (key_front k)
           (AreWellFormed-filter (λ (e : Entry). nat_eq e.key k) (λ e f same. ap (λ j. nat_eq j k) same) entries keyed well)
           (Pairwise-filter (λ (e : Entry). nat_eq e.key k) (λ e f. e.index < f.index) entries rising) s h
 
@@ -234,7 +227,7 @@ pub verdict_at : Laws → (h : JudgedHistory) (statuses : List (ℕ × KeyStatus
 verdict_at laws h statuses may are n =
     let whole : IsHistory (indexed_from 0 h.events) = laws.rule h.concurrency h.events may in
     let part : IsHistory (indexed_from 0 (take n h.events)) = laws.rule h.concurrency (take n h.events) (history-take h.concurrency n h.events may) in
-    let new = front_statuses is_no_read (kind_of h) (budget_of h) (entries_in (rewound n h)) (entries_in h) (entries_taken n h.events)
+    let new = front_statuses (kind_of h) (budget_of h) (entries_in (rewound n h)) (entries_in h) (entries_taken n h.events)
     (laws.keyed _ whole) (laws.well _ whole) (laws.rising _ whole) statuses (statuses_of_keys laws h statuses may are) in
     let join = has_join new.0 in
     (join.0, laws.join (kind_of h) (budget_of h) (entries_in (rewound n h)) new.0 join.0 (laws.keyed _ part) (laws.well _ part) (laws.rising _ part) new.1 join.1)

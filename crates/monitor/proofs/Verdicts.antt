@@ -2,7 +2,6 @@
 use Rattle.std.proofs.Common.{◌≡◌, ◌≢◌, ℕ, Some, List, [], ◌∷◌, ◌++◌, length, sym, ap, ◌∙◌, subst}
 use Rattle.std.specs.List.{Contains, filter_map}
 use Rattle.models.specs.declared.model_kind.ModelKind.{ModelKind}
-use Rattle.models.specs.Objects.{object_of}
 use Rattle.events.specs.declared.event.Event.{Event}
 use Rattle.events.specs.Events.{Entry, key_of, marks, of_key, entries_of, indexed_from, events_of_key}
 use Rattle.events.specs.ProcessRule.{IsHistory}
@@ -47,7 +46,7 @@ pub statuses_of_keys : Laws → (h : JudgedHistory) (statuses : List (ℕ × Key
 statuses_of_keys laws h statuses may are = record {
   each = λ k s has.
       let row = status_row (rows_of h) statuses k s are has in
-      subst (λ (l : List Entry). IsKeyStatus (object_of (kind_of h k)) (budget_of h k) l s) (laws.entries k (indexed_from 0 h.events) (laws.rule h.concurrency h.events may))
+      subst (λ (l : List Entry). IsKeyStatus (kind_of h k) (budget_of h k) l s) (laws.entries k (indexed_from 0 h.events) (laws.rule h.concurrency h.events may))
       (subst (λ (x : KeyHistory). IsStatusOf x s) (sym (row_history h k row.0 row.1)) row.2);
   once = keys_apart statuses
       (subst (Pairwise (λ i j. i ≢ j)) (sym (status_keys (rows_of h) statuses are ∙ keys_of-rows_by (history_of_key h) (keys_in_order h.events))) (each_once-apart (filter_map key_of h.events)));

@@ -16,6 +16,6 @@ returns-in-Alive-clause-next c kind budget events stands history =
 pub returns-in-Dead-clause-next : goal.returns-in-Dead-clause-next
 returns-in-Dead-clause-next c kind budget events stands history =
     ⊎_elim
-    (λ dead. subst (IsKeyState kind budget (events ++ (c.args.index, c.args.event.now) ∷ [])) (sym dead.1) (dead_after _ budget events _ history _ (is_dead kind budget events _ stands dead.0 dead.1)))
-    (λ over. subst (IsKeyState kind budget (events ++ (c.args.index, c.args.event.now) ∷ [])) (sym over.1) (over_after _ budget events _ history _ (is_over kind budget events _ stands over.0 over.1)))
+    (λ dead. subst (IsKeyState kind budget (events ++ (c.args.index, c.args.event.now) ∷ [])) (sym dead.1) (dead_after kind budget events _ history _ (is_dead kind budget events _ stands dead.0 dead.1)))
+    (λ over. subst (IsKeyState kind budget (events ++ (c.args.index, c.args.event.now) ∷ [])) (sym over.1) (over_after kind budget events _ history _ (is_over kind budget events _ stands over.0 over.1)))
     c.in-Dead.is

@@ -3,6 +3,7 @@ use Rattle.std.specs.List.{filter}
 use Rattle.models.specs.Objects.{of_table}
 use Rattle.events.specs.Events.Mark.{Failed}
 use Rattle.frontier.specs.declared.change.Change.TheVariants.{Done}
+use Rattle.linspec.specs.Ends.{HasMoreThan}
 use Rattle.ends.specs.EndSteps.{is_other}
 use Rattle.ends.specs.Tables.{with_rows}
 use Rattle.frontier.specs.Kept.{StandsFor, left_of, table_of}
@@ -35,7 +36,7 @@ returns g c =
           let id = c.args.id in
           let left = left_of c.find_failed.new.self in
           let t = with_rows (table_of f) left in
-          subst (λ b. Answers o b (StandsFor o c.args.self.now) (Failed id) c.step_of.result) c.in_ok-list_fresh.ensures.counts.budget
+          subst (λ b. Answers (HasMoreThan o) o b (StandsFor o c.args.self.now) (Failed id) c.step_of.result) c.in_ok-list_fresh.ensures.counts.budget
           (record {
             right = λ marks given is_open.
                 let l = c.in_ok-list_fresh.ensures.listed marks given in

@@ -3,6 +3,7 @@ use Rattle.std.specs.List.{filter}
 use Rattle.std.specs.Vec.{vec_len}
 use Rattle.models.specs.Objects.{of_table}
 use Rattle.events.specs.Events.Mark.{Returned}
+use Rattle.linspec.specs.Ends.{HasMoreThan}
 use Rattle.ends.specs.EndSteps.{is_other}
 use Rattle.ends.specs.Tables.{with_rows}
 use Rattle.frontier.specs.declared.frontier.Step.TheVariants.{Over}
@@ -35,7 +36,7 @@ returns-then-not-within_budget g c =
     record {
       step =
           let f = c.ensure_single_outcome.new.self in
-          subst (λ b. Answers o b (StandsFor o c.args.self.now) (Returned c.args.id c.args.answer.now) Over) (c.ensure_single_outcome.ensures.counts.budget ∙ c.in_ok-list_fresh.ensures.counts.budget)
+          subst (λ b. Answers (HasMoreThan o) o b (StandsFor o c.args.self.now) (Returned c.args.id c.args.answer.now) Over) (c.ensure_single_outcome.ensures.counts.budget ∙ c.in_ok-list_fresh.ensures.counts.budget)
           (record {
             right = λ marks given is_open.
                 too_many_by o f marks (c.ensure_single_outcome.ensures.keeps marks (c.in_ok-list_fresh.ensures.listed marks given)).lists f.calls.items refl f.budget
@@ -71,7 +72,7 @@ returns g c =
           let answer = c.args.answer.now in
           let left = left_of c.advance.new.self in
           let t = with_rows (table_of c.advance.new.self) left in
-          subst (λ b. Answers o b (StandsFor o c.args.self.now) (Returned id answer) c.step_of.result) (c.ensure_single_outcome.ensures.counts.budget ∙ c.in_ok-list_fresh.ensures.counts.budget)
+          subst (λ b. Answers (HasMoreThan o) o b (StandsFor o c.args.self.now) (Returned id answer) c.step_of.result) (c.ensure_single_outcome.ensures.counts.budget ∙ c.in_ok-list_fresh.ensures.counts.budget)
           (record {
             right = λ marks given is_open.
                 let l = c.ensure_single_outcome.ensures.keeps marks (c.in_ok-list_fresh.ensures.listed marks given) in

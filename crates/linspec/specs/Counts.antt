@@ -1,0 +1,26 @@
+-- Promise: what is counted against the budget of a key, by the kind of its object (this project's own)
+use Rattle.std.specs.Prelude.{ℕ, Bool, List}
+use Rattle.models.specs.declared.model_kind.ModelKind.{ModelKind}
+use Rattle.models.specs.declared.model_kind.ModelKind.TheVariants.{Register, CasRegister, Mutex, FifoQueue, Set, UnorderedQueue}
+use Rattle.models.specs.declared.operation.Op.{Op}
+use Rattle.models.specs.Objects.{object_of}
+use Rattle.events.specs.Events.{Mark}
+use Rattle.linspec.specs.Ends.{every, is_no_read, HasMoreThanBy}
+
+-- the history of a key of this kind has more than n of what is counted. Each of these kinds counts its ends, where counts
+-- says which crashed operations count
+abbrev pub CountsMoreThanBy : (Op → Bool) → ModelKind → List Mark → ℕ → Type 0
+CountsMoreThanBy counts Register = HasMoreThanBy counts (object_of Register)
+CountsMoreThanBy counts CasRegister = HasMoreThanBy counts (object_of CasRegister)
+CountsMoreThanBy counts Mutex = HasMoreThanBy counts (object_of Mutex)
+CountsMoreThanBy counts FifoQueue = HasMoreThanBy counts (object_of FifoQueue)
+CountsMoreThanBy counts Set = HasMoreThanBy counts (object_of Set)
+CountsMoreThanBy counts UnorderedQueue = HasMoreThanBy counts (object_of UnorderedQueue)
+
+-- crashed reads are set aside
+abbrev pub CountsMoreThan : ModelKind → List Mark → ℕ → Type 0
+CountsMoreThan = CountsMoreThanBy is_no_read
+
+-- the same words with reads, where each crashed operation counts
+abbrev pub CountsMoreThanWithReads : ModelKind → List Mark → ℕ → Type 0
+CountsMoreThanWithReads = CountsMoreThanBy every
