@@ -18,3 +18,7 @@ returns-in_ok-push-clause-more c kind budget before x all stands are =
     subst (AreSaved kind budget (before ++ x ∷ [])) (sym c.in_ok-push.ensures.items)
     (AreSaved-with kind budget before (saved ++ c.in_ok-copy.copy ∷ [])
     (AreSaved-more kind budget before saved are c.in_ok-copy.copy due (c.in_ok-copy.ensures kind budget before stands)) x (omega arith))
+
+pub returns-else-len-event_count-clause-more : goal.returns-else-len-event_count-clause-more
+returns-else-len-event_count-clause-more c kind budget before x all stands are =
+    AreSaved-with kind budget before c.args.saved.now.items are x (omega (arith, c.if-len-event_count.false, all))

@@ -11,6 +11,15 @@ use Rattle.checkpoints.proofs.Soundness.{cut_brought, all_stand, lent_seen, cut_
 use Rattle.checkpoints.proofs.key_line.KeyLine.prepare_cut.Goals as goal
 use Rattle.checkpoints.proofs.key_line.KeyLine.prepare_cut.Goals.{then-kept-len+in_ok-state+in_ok-new, else-kept-len}
 
+pub gone_back-requires-clause-are : goal.gone_back-requires-clause-are
+gone_back-requires-clause-are c = (
+  c.self.inside.told.events,
+  record {
+    places_are = c.deref-then-kept-len.ensures.value ∙ c.self.invariant.now.places_are;
+    are_lent = lent_seen _ _ _ _ _ _ c.self.view_is c.args.lent.now c.requires;
+  },
+)
+
 within : (c : goal.After-keep) → c.count_below-kept.result ≤ length c.self.inside.places.items
 within c = subst (λ l. c.count_below-kept.result ≤ length l) c.deref.ensures.value c.count_below-kept.ensures.within
 

@@ -9,6 +9,15 @@ use Rattle.checkpoints.specs.Saves.{saved_by}
 use Rattle.checkpoints.specs.declared.next.Next.TheVariants.{Becomes}
 use Rattle.checkpoints.proofs.key_line.KeyLine.prepare_rebuild.Goals as goal
 
+pub judged_anew-requires : goal.judged_anew-requires
+judged_anew-requires c = (
+  c.self.inside.told.events,
+  record {
+    places_are = c.deref.ensures.value ∙ c.self.invariant.now.places_are;
+    are_lent = lent_seen _ _ _ _ _ _ c.self.view_is c.args.lent.now c.requires;
+  },
+)
+
 at : (c : goal.After-keep) → AreAt c.args.lent.now c.deref.result.now c.self.inside.told.events
 at c = record {
   places_are = c.deref.ensures.value ∙ c.self.invariant.now.places_are;
