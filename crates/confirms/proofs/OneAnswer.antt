@@ -1,15 +1,14 @@
 -- the bytes of a history and of an order have one answer
-use Rattle.std.proofs.Common.{◌≡◌, ℕ, ◌↔◌, ◌^◌, pos, List, [], ◌∷◌, ◌++◌, refl, sym, ap, ◌∙◌, subst, arith}
+use Rattle.std.proofs.Common.{◌≡◌, ℕ, ◌^◌, pos, List, [], ◌∷◌, ◌++◌, refl, sym, ap, ◌∙◌, subst}
 use Rattle.edn.specs.Value.{Value, int, Values, none, more}
 use Rattle.edn.proofs.Unique.{one_text}
 use Rattle.models.specs.declared.model_kind.ModelKind.{ModelKind}
 use Rattle.events.specs.declared.event.Event.{Event}
 use Rattle.events.specs.Spelling.{IsNumber}
 use Rattle.events.proofs.OneEvent.{spell_one}
-use Rattle.witness.specs.Orders.{IsWitness}
 use Rattle.witness.specs.declared.confirming.Confirmation.{Confirmation}
 use Rattle.witness.specs.declared.confirming.Confirmation.TheVariants.{Linearizable, NoOrder}
-use Rattle.witness.specs.declared.misfit.Unfit.{Unfit}
+use Rattle.witness.proofs.OneReason.{one_unfit}
 use Rattle.checks.specs.Reading.{PushesAll}
 use Rattle.confirms.specs.Listing.{AreIndices, listed_in, ListsAll, IsOrderText}
 use Rattle.confirms.specs.Found.{ComesTo, IsWhole, Shows}
@@ -42,31 +41,17 @@ pub one_order : (bytes ids others : List ℕ) → IsOrderText bytes ids → IsOr
 one_order bytes ids others a b =
     lists_one b.0 ids others (subst (λ vs. ListsAll vs ids) (one_text bytes a.0 b.0 a.1 b.1) a.2) b.2
 
--- what is said to be one is none for another answer
-no_other : (c : ℕ) (kind : ModelKind) (bytes order : List ℕ) (said other : Confirmation) → ComesTo c kind bytes order (Shown said)
-    → ComesTo c kind bytes order (Shown other) → said ≡ Linearizable → other ≡ Linearizable
-no_other c kind bytes order said Linearizable a b is = refl
-no_other c kind bytes order Linearizable (NoOrder unfit) a b is =
-    absurd (b.2.2.0 (subst (λ ids. IsWitness kind b.0 ids) (one_order order a.2.0 b.2.0 a.2.1 b.2.1)
-    (subst (λ events. IsWitness kind events a.2.0) (one_history c bytes a.0 b.0 a.1 b.1) a.2.2.0)))
-no_other c kind bytes order (NoOrder unfit) (NoOrder other) a b is = cc
+-- one thing is said of an order
+said_one : (kind : ModelKind) (events : List Event) (ids : List ℕ) (said other : Confirmation) → Shows kind events ids said → Shows kind events ids other → said ≡ other
+said_one kind events ids Linearizable Linearizable a b = refl
+said_one kind events ids Linearizable (NoOrder unfit) a b = absurd (b.0 a.0)
+said_one kind events ids (NoOrder unfit) Linearizable a b = absurd (a.0 b.0)
+said_one kind events ids (NoOrder unfit) (NoOrder other) a b = ap NoOrder (one_unfit kind events ids unfit other a.1 a.2 b.1 b.2)
 
 pub one_answer_law : (c : ℕ) (kind : ModelKind) (bytes order : List ℕ) (said other : Confirmation) → ComesTo c kind bytes order (Shown said)
-    → ComesTo c kind bytes order (Shown other) → (said ≡ Linearizable) ↔ (other ≡ Linearizable)
+    → ComesTo c kind bytes order (Shown other) → said ≡ other
 one_answer_law c kind bytes order said other a b =
-    (no_other c kind bytes order said other a b, no_other c kind bytes order other said b a)
-
--- so there is one least place at which something does not fit
-one_place : (kind : ModelKind) (events : List Event) (ids : List ℕ) (unfit other : Unfit) → Shows kind events ids (NoOrder unfit) → Shows kind events ids (NoOrder other) → unfit.place ≡ other.place
-one_place kind events ids unfit other a b =
-    let l = a.2 other b.1 in
-    let g = b.2 unfit a.1 in
-    omega (arith, l, g)
-
-pub one_place_law : (c : ℕ) (kind : ModelKind) (bytes order : List ℕ) (unfit other : Unfit) → ComesTo c kind bytes order (Shown (NoOrder unfit))
-    → ComesTo c kind bytes order (Shown (NoOrder other)) → unfit.place ≡ other.place
-one_place_law c kind bytes order unfit other a b =
-    one_place kind b.0 b.2.0 unfit other
-    (subst (λ ids. Shows kind b.0 ids (NoOrder unfit)) (one_order order a.2.0 b.2.0 a.2.1 b.2.1)
-    (subst (λ events. Shows kind events a.2.0 (NoOrder unfit)) (one_history c bytes a.0 b.0 a.1 b.1) a.2.2))
+    said_one kind b.0 b.2.0 said other
+    (subst (λ ids. Shows kind b.0 ids said) (one_order order a.2.0 b.2.0 a.2.1 b.2.1)
+    (subst (λ events. Shows kind events a.2.0 said) (one_history c bytes a.0 b.0 a.1 b.1) a.2.2))
     b.2.2

@@ -1,16 +1,14 @@
 //! Laws of the definitions.
-ghost use Rattle.std.specs.Prelude.{◌≡◌, ◌↔◌, ℕ, List};
+ghost use Rattle.std.specs.Prelude.{◌≡◌, ℕ, List};
 ghost use Rattle.models.specs.declared.model_kind.ModelKind.{ModelKind};
 ghost use Rattle.events.specs.declared.event.Event.{Event};
 ghost use Rattle.witness.specs.declared.confirming.Confirmation.{Confirmation};
-ghost use Rattle.witness.specs.declared.misfit.Unfit.{Unfit};
 ghost use Rattle.confirms.specs.Listing.{IsOrderText};
 ghost use Rattle.confirms.specs.Found.{ComesTo, IsWhole};
 ghost use Rattle.confirms.specs.declared.found.Found.{Found};
 
-/// The bytes of a history and those of an order determine the events and the order, whether it is one, and else the place that is
-/// told. So no input is said to be linearizable and no order, and what [`confirm_text`](crate::confirm_text) says is said of all
-/// that was read.
+/// The bytes of a history and those of an order determine the events and the order, and all that is said of it: whether it is one,
+/// and else the place, the event and the reason, so the line and the exit status too.
 pub fn one_answer()
     ensures history { (c : ℕ) (bytes : List ℕ) (events others : List Event) →
         IsWhole c bytes events → IsWhole c bytes others → events ≡ others }
@@ -19,9 +17,5 @@ pub fn one_answer()
     ensures answer { (c : ℕ) (kind : ModelKind) (bytes order : List ℕ) (said other : Confirmation) →
         ComesTo c kind bytes order (Found.Shown said)
         → ComesTo c kind bytes order (Found.Shown other)
-        → (said ≡ Confirmation.Linearizable) ↔ (other ≡ Confirmation.Linearizable) }
-    ensures place { (c : ℕ) (kind : ModelKind) (bytes order : List ℕ) (unfit other : Unfit) →
-        ComesTo c kind bytes order (Found.Shown (Confirmation.NoOrder unfit))
-        → ComesTo c kind bytes order (Found.Shown (Confirmation.NoOrder other))
-        → unfit.place ≡ other.place }
+        → said ≡ other }
 {}

@@ -52,15 +52,16 @@ pub unmet : (calls : List Call) (needs : Needs) → AreNeeds calls needs → ¬ 
 unmet calls needs are some r = let n = (are []).0 r in some (let e = n.has_more in omega (arith, e))
 
 -- the fewest calls that can't take place
-pub halt_of : (calls : List Call) (at : ℕ) (c : Call) → at < length calls → c ≡ get_or calls at c → CanRun unordered_queue (take at calls) [] → ¬ CanRun unordered_queue (take (at + 1) calls) [] → IsHalt unordered_queue calls at AnotherAnswer
-halt_of calls at c fits is can_run halts = record {
+pub halt_of : (calls : List Call) (at : ℕ) (c : Call) → at < length calls → c ≡ get_or calls at c → CanRun unordered_queue (take at calls) [] → CanRun unordered_queue (take at calls ++ unanswered c ∷ []) []
+    → ¬ CanRun unordered_queue (take (at + 1) calls) [] → IsHalt unordered_queue calls at AnotherAnswer
+halt_of calls at c fits is can_run stands halts = record {
   before = take at calls;
   call = c;
   after = drop (at + 1) calls;
   cut = cut_at calls at c fits is;
   place = length-take-le at calls (omega arith);
   can_run = can_run;
-  halts = λ r. halts (subst (λ l. CanRun unordered_queue l []) (sym (take_more calls at c fits ∙ ap (λ x. take at calls ++ x ∷ []) (sym is))) r);
+  halts = (stands, λ r. halts (subst (λ l. CanRun unordered_queue l []) (sym (take_more calls at c fits ∙ ap (λ x. take at calls ++ x ∷ []) (sym is))) r));
 }
 
 pub stop_of : (calls : List Call) (at : ℕ) (c : Call) → at < length calls → c ≡ get_or calls at c → CanRun unordered_queue (take at calls) [] → ¬ CanRun unordered_queue (take at calls ++ unanswered c ∷ []) [] → IsHalt unordered_queue calls at CannotTakePlace

@@ -6,7 +6,6 @@ use Rattle.std.proofs.lemmas.List.{length-take, take-append-le, take-append-drop
 use Rattle.std.proofs.lemmas.Option.{slice_get_within, slice_get-get_or, get_or_from_slice_get}
 use Rattle.std.proofs.lemmas.List.Elements.{Contains-append_left, Contains-append_right, Contains-push, Contains-push_cases}
 use Rattle.models.specs.declared.model_kind.ModelKind.{ModelKind}
-use Rattle.models.specs.declared.finding.Answer.{Answer}
 use Rattle.models.specs.Objects.{Object, object_of}
 use Rattle.events.specs.declared.event.Event.{Event}
 use Rattle.linspec.specs.Orders.{Pairwise}
@@ -19,12 +18,13 @@ use Rattle.witness.specs.declared.misfit.Misfit.TheVariants.{NoEvent, NoInvocati
 use Rattle.witness.specs.declared.misfit.Unfit.{Unfit}
 use Rattle.witness.specs.declared.placing.Stand.{Stand}
 use Rattle.witness.specs.Calls.{CanRun}
-use Rattle.witness.specs.Orders.{marks_in, is_of, among, HasAnswer, IsCall, AreCalls, IsTooLate, HaltsThere, IsMisfit, StandsFirst}
+use Rattle.witness.specs.Orders.{marks_in, is_of, among, AreCalls, IsTooLate, HaltsThere, IsMisfit, StandsFirst}
 use Rattle.witness.specs.Fates.{fate_at, AreFates}
 use Rattle.witness.specs.Placing.{MayStand, StopsFor, Stops, AreAll, ArePlaced}
 use Rattle.witness.specs.KeyOrders.{ids_of, on_key, IsBefore, AreInTime, IsCallBy, AreCallsBy, KeyFits, Judges, FindsAll}
 use Rattle.witness.proofs.Runs.{CanRun-left, no_halt}
-use Rattle.witness.proofs.Sound.{IsSound, one_op, one_answer, may, invoked_within, from_precedes}
+use Rattle.witness.proofs.Sound.{IsSound, may, invoked_within, from_precedes}
+use Rattle.witness.proofs.OneCall.{call_one, calls_one}
 use Rattle.witness.proofs.Witnesses.{is_call, are_calls}
 use Rattle.witness.proofs.Cuts.{cut_there, key_cut, in_rest, front_of}
 use Rattle.witness.proofs.Reasons.{get_in, standing, of_key, reason}
@@ -74,27 +74,6 @@ long_by fates order ids place None all le n lt within = (let e = ap length all.a
 long_by fates order ids place (Some s) stops le n lt within = stop_long fates order ids s.place s.event s.why stops n (omega (arith, le)) within
 
 module _ (events : List Event) (sound : IsSound events) (fates : List Fate) (are : AreFates events fates) where
-  -- an operation has one call
-  answers_one : (id : ℕ) (a b : Option Answer) → HasAnswer (marks_in events) id a → HasAnswer (marks_in events) id b → a ≡ b
-  answers_one id None None h k = refl
-  answers_one id None (Some b) h k = absurd (h (b, k))
-  answers_one id (Some a) None h k = absurd (k (a, h))
-  answers_one id (Some a) (Some b) h k = ap Some (one_answer events sound fates are id a b h k)
-
-  call_one : (id : ℕ) (c d : Call) → IsCall (marks_in events) id c → IsCall (marks_in events) id d → c ≡ d
-  call_one id c d h k =
-      let op : c.op ≡ d.op = one_op events sound id c.op d.op h.invoked k.invoked in
-      let answer : c.answer ≡ d.answer = answers_one id c.answer d.answer h.answered k.answered in
-      ap (λ o. record { op = o; answer = c.answer }) op ∙ ap (λ a. record { op = d.op; answer = a }) answer
-
-  calls_one : (ids : List ℕ) (cs ds : List Call) → AreCalls (marks_in events) ids cs → AreCalls (marks_in events) ids ds → cs ≡ ds
-  calls_one [] [] [] h k = refl
-  calls_one [] [] (d ∷ ds) h k = absurd k
-  calls_one [] (c ∷ cs) ds h k = absurd h
-  calls_one (id ∷ ids) [] ds h k = absurd h
-  calls_one (id ∷ ids) (c ∷ cs) [] h k = absurd k
-  calls_one (id ∷ ids) (c ∷ cs) (d ∷ ds) h k = ap (λ x. x ∷ cs) (call_one id c d h.0 k.0) ∙ ap (λ l. d ∷ l) (calls_one ids cs ds h.1 k.1)
-
   module _ (order : List ℕ) (stands : List Stand) (stop : Option Unfit) (placed : ArePlaced events fates order stands stop) (kind : ModelKind) (u : Unfit) (f : FindsAll kind events fates stop stands (Some u)) where
     abbrev ids : List ℕ
     ids = placed.ids
@@ -195,8 +174,8 @@ module _ (events : List Event) (sound : IsSound events) (fates : List Fate) (are
           let runs : CanRun o (c.first ++ c.call ∷ []) o.start = CanRun-left o (c.first ++ c.call ∷ []) c.rest o.start (subst (λ l. CanRun o l o.start) (sym c.cut) run.can_run) in
           let may_before : (i : ℕ) → Contains b i → MayStand (fate_at fates i) = λ i k. placed.may i (subst (λ l. Contains l i) (take-append-drop place ids)
           (Contains-append_left (take place ids) (drop place ids) i (from_filter (λ j. is_of h.key (slice_get events j)) (take place ids) i k).0)) in
-          let first_is : c.first ≡ h.calls = calls_one b c.first h.calls (are_calls events sound fates are b c.first may_before c.are) (subst (λ l. AreCalls (marks_in events) (among events h.key l) h.calls) front_is h.are) in
-          let call_is : c.call ≡ h.call = call_one id c.call h.call (is_call events sound fates are id c.call may_stand c.is) h.is in
+          let first_is : c.first ≡ h.calls = calls_one events sound b c.first h.calls (are_calls events sound fates are b c.first may_before c.are) (subst (λ l. AreCalls (marks_in events) (among events h.key l) h.calls) front_is h.are) in
+          let call_is : c.call ≡ h.call = call_one events sound id c.call h.call (is_call events sound fates are id c.call may_stand c.is) h.is in
           no_halt o h.calls h.call why (subst (λ l. CanRun o (l ++ h.call ∷ []) o.start) first_is (subst (λ d. CanRun o (c.first ++ d ∷ []) o.start) call_is runs)) h.halts
 
     not_before : (p q : ℕ) → (p < q → ⊥) → q ≤ p
@@ -204,10 +183,9 @@ module _ (events : List Event) (sound : IsSound events) (fates : List Fate) (are
 
     first_of : (place id : ℕ) (why : Misfit) → IsMisfit kind events order place id why → u.place ≤ place
     first_of place id NoEvent m = not_before place u.place (λ lt.
-        let l = invoked_within events sound fates are id (may events sound fates are id (may_stand place id lt m.0)).0 in
-        let n = are.long in
+        let l = invoked_within events sound id (may events sound fates are id (may_stand place id lt m.0)).0 in
         let past = m.1 in
-        omega (arith, l, n, past))
+        omega (arith, l, past))
     first_of place id NoInvocation m = not_before place u.place (λ lt. m.1 (may events sound fates are id (may_stand place id lt m.0)).0)
     first_of place id Twice m = not_before place u.place (λ lt. alone place id lt m.0 m.1)
     first_of place id Failed m = not_before place u.place (λ lt. (may events sound fates are id (may_stand place id lt m.0)).1 m.1)
@@ -215,9 +193,9 @@ module _ (events : List Event) (sound : IsSound events) (fates : List Fate) (are
     first_of place id CannotTakePlace m = not_before place u.place (λ lt. not_halted place id lt m.0 CannotTakePlace m.1)
     first_of place id AnotherAnswer m = not_before place u.place (λ lt. not_halted place id lt m.0 AnotherAnswer m.1)
     first_of place id LeftOut m =
-        let within = place_within kind events order u.place u.event u.why (reason events sound fates are order stands stop placed kind u f) in
+        let within = place_within kind events order u.place u.event u.why (reason events sound fates are order stands stop placed kind u f).is_so in
         let e = m.0 in
         omega (arith, within, e)
 
     pub first : StandsFirst kind events order u
-    first other m = first_of other.place other.event other.why m
+    first = first_of

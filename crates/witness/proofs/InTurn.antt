@@ -29,7 +29,7 @@ one_more kind front c state next after takes =
 -- and none more
 halts : (kind : ModelKind) (front : List Call) (c : Call) (state : AnyState) (why : Misfit) (after : IsAfter kind front state) → HaltsIn (object_of kind) after.left c why → HaltsBehind (object_of kind) front c why
 halts kind front c state CannotTakePlace after h = λ r. h ((after.ahead (unanswered c ∷ [])).0 r)
-halts kind front c state AnotherAnswer after h = λ r. h ((after.ahead (c ∷ [])).0 r)
+halts kind front c state AnotherAnswer after h = ((after.ahead (unanswered c ∷ [])).1 h.0, λ r. h.1 ((after.ahead (c ∷ [])).0 r))
 halts kind front c state NoEvent after h = absurd h
 halts kind front c state NoInvocation after h = absurd h
 halts kind front c state Twice after h = absurd h

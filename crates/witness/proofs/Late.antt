@@ -7,7 +7,7 @@ use Rattle.std.proofs.lemmas.List.Elements.{Contains-append_left, Contains-push,
 use Rattle.events.specs.declared.event.Event.{Event}
 use Rattle.models.specs.declared.model_kind.ModelKind.{ModelKind}
 use Rattle.models.specs.Objects.{object_of}
-use Rattle.linspec.proofs.Lists.{Contains-nil, Contains-cons_cases, Pairwise-append, Pairwise-left}
+use Rattle.linspec.proofs.Lists.{Contains-nil, Contains-head, Contains-cons_cases, Pairwise-append, Pairwise-left, Pairwise-across}
 use Rattle.witness.specs.declared.calls.Call.{Call}
 use Rattle.witness.specs.declared.fates.Fate.{Fate}
 use Rattle.witness.specs.declared.misfit.Misfit.{Misfit}
@@ -82,17 +82,25 @@ in_time_front fates front rest stands cut in_time =
     Pairwise-left (λ x y. ¬ IsBefore fates y x) (ids_of front) (ids_of rest)
     (subst (AreInTime fates) (map-append (λ (s : Stand). s.id) front rest) (subst (λ l. AreInTime fates (ids_of l)) (sym cut) in_time))
 
+-- and none of the first comes behind a later one
+after_none : (fates : List Fate) (front : List Stand) (here : Stand) (rest stands : List Stand) → front ++ here ∷ rest ≡ stands → AreInTime fates (ids_of stands)
+    → (other : ℕ) → Contains (ids_of front) other → ¬ IsBefore fates here.id other
+after_none fates front here rest stands cut in_time other h =
+    Pairwise-across (λ x y. ¬ IsBefore fates y x) (ids_of front) (here.id ∷ ids_of rest)
+    (subst (AreInTime fates) (map-append (λ (s : Stand). s.id) front (here ∷ rest)) (subst (λ l. AreInTime fates (ids_of l)) (sym cut) in_time))
+    other here.id h (Contains-head here.id (ids_of rest))
+
 -- a halt of the calls is one of the operations
 halts_for : (kind : ModelKind) (events : List Event) (fates : List Fate) (before : List ℕ) (id : ℕ) (calls : List Call) (c : Call) (why : Misfit) → AreCallsBy events fates before calls → IsCallBy events fates id c
-    → HaltsBehind (object_of kind) calls c why → IsUnfitFor kind events fates before id why
-halts_for kind events fates before id calls c CannotTakePlace are is h = record { calls = calls; call = c; are = are; is = is; halts = h }
-halts_for kind events fates before id calls c AnotherAnswer are is h = record { calls = calls; call = c; are = are; is = is; halts = h }
-halts_for kind events fates before id calls c NoEvent are is h = absurd h
-halts_for kind events fates before id calls c NoInvocation are is h = absurd h
-halts_for kind events fates before id calls c Twice are is h = absurd h
-halts_for kind events fates before id calls c Failed are is h = absurd h
-halts_for kind events fates before id calls c TooLate are is h = absurd h
-halts_for kind events fates before id calls c LeftOut are is h = absurd h
+    → ((other : ℕ) → Contains before other → ¬ IsBefore fates id other) → HaltsBehind (object_of kind) calls c why → IsUnfitFor kind events fates before id why
+halts_for kind events fates before id calls c CannotTakePlace are is in_time h = record { calls = calls; call = c; are = are; is = is; halts = h; in_time = in_time }
+halts_for kind events fates before id calls c AnotherAnswer are is in_time h = record { calls = calls; call = c; are = are; is = is; halts = h; in_time = in_time }
+halts_for kind events fates before id calls c NoEvent are is in_time h = absurd h
+halts_for kind events fates before id calls c NoInvocation are is in_time h = absurd h
+halts_for kind events fates before id calls c Twice are is in_time h = absurd h
+halts_for kind events fates before id calls c Failed are is in_time h = absurd h
+halts_for kind events fates before id calls c TooLate are is in_time h = absurd h
+halts_for kind events fates before id calls c LeftOut are is in_time h = absurd h
 
 module _ (kind : ModelKind) (events : List Event) (fates : List Fate) (stands : List Stand) where
   pub halt_within : (calls : List Call) (at : ℕ) (why : Misfit) → AreCallsBy events fates (ids_of stands) calls → IsHalt (object_of kind) calls at why → at < length stands
@@ -122,7 +130,7 @@ module _ (kind : ModelKind) (events : List Event) (fates : List Fate) (stands : 
           in_time = in_time_front fates k.front (k.here ∷ k.rest) stands k.cut in_time;
           can_run = record { calls = h.before; are = k.are; can_run = h.can_run };
         };
-        unfit_for = subst (IsUnfitFor kind events fates (ids_of k.front) k.here.id) (sym b.2) (halts_for kind events fates (ids_of k.front) k.here.id h.before h.call why k.are k.is h.halts);
+        unfit_for = subst (IsUnfitFor kind events fates (ids_of k.front) k.here.id) (sym b.2) (halts_for kind events fates (ids_of k.front) k.here.id h.before h.call why k.are k.is (after_none fates k.front k.here k.rest stands k.cut in_time) h.halts);
       }
 
   -- what is unfit among the first is so among all

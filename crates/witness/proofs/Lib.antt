@@ -14,6 +14,8 @@ pub mod ByKeys
 pub mod Placings
 pub mod Cuts
 pub mod Witnesses
+pub mod OneCall
 pub mod Reasons
 pub mod Refuting
 pub mod Firsts
+pub mod OneReason

@@ -68,6 +68,9 @@ module _ (kind : ModelKind) (s : (object_of kind).State) (c : Call) where
       ),
     )
 
+    pub one_stands : CanRun (object_of kind) (unanswered c ∷ []) s
+    one_stands = (x.1, the_step.0, the_step.2, tt, tt)
+
     pub one_unfit : ¬ FitsIf x.1 c.answer → ¬ CanRun (object_of kind) (c ∷ []) s
     one_unfit unfit h = unfit (subst (λ f. FitsIf f c.answer) (no_other h.1 h.0 h.2).1 h.3)
 
@@ -79,7 +82,7 @@ only_last (y ∷ front) x h = let l = length-append front (x ∷ []) in absurd (
 settle : (kind : ModelKind) (s : (object_of kind).State) (c : Call) (x : AnyState × Found) (r : Result AnyState Misfit) → outcomes_of kind s c.op ≡ x ∷ []
     → MatchResult r (λ next. (next ≡ x.0) × FitsIf x.1 c.answer) (λ why. (why ≡ AnotherAnswer) × ¬ FitsIf x.1 c.answer) → Takes kind s c r
 settle kind s c x (Ok next) one h = let t = one_taken kind s c x one h.1 in (t.0, h.0 ∙ t.1, t.2)
-settle kind s c x (Err why) one h = subst (HaltsIn (object_of kind) s c) (sym h.0) (one_unfit kind s c x one h.1)
+settle kind s c x (Err why) one h = subst (HaltsIn (object_of kind) s c) (sym h.0) (one_stands kind s c x one, one_unfit kind s c x one h.1)
 
 pub taken : (kind : ModelKind) (s : (object_of kind).State) (c : Call) → kind ≢ UnorderedQueue → (front : List (AnyState × Found)) (last : Option (AnyState × Found)) (r : Result AnyState Misfit)
     → MatchOption last (outcomes_of kind s c.op ≡ []) (λ x. outcomes_of kind s c.op ≡ front ++ x ∷ [])

@@ -103,13 +103,15 @@ module _ (events : List Event) (fates : List Fate) (order : List ℕ) (place : �
   in_order id = subst (λ l. (get_or taken id false ≡ true) ↔ Contains l id) whole (h.marked id)
 
   at_end : (stop : Option Unfit) → MatchOption stop ((id : ℕ) → MustStand (fate_at fates id) → get_or taken id false ≡ true)
-      (λ unfit. (unfit.place ≡ length order) × (unfit.why ≡ LeftOut) × MustStand (fate_at fates unfit.event) × (get_or taken unfit.event false ≡ false))
+      (λ unfit. (unfit.place ≡ length order) × (unfit.why ≡ LeftOut) × MustStand (fate_at fates unfit.event) × (get_or taken unfit.event false ≡ false)
+      × ((id : ℕ) → id < unfit.event → MustStand (fate_at fates id) → get_or taken id false ≡ true))
       → MatchOption stop (AreAll fates order (take place order)) (Stops fates order (take place order))
   at_end None m = record { all = whole; each = λ id k. (in_order id).0 (m id k) }
-  at_end (Some u) m = subst (StopsFor fates order (take place order) u.place u.event) (sym m.1) (whole, m.0, m.2, λ c. true≢false (sym ((in_order u.event).1 c) ∙ m.3))
+  at_end (Some u) m = subst (StopsFor fates order (take place order) u.place u.event) (sym m.1) (whole, m.0, m.2, (λ c. true≢false (sym ((in_order u.event).1 c) ∙ m.3)), λ id lt k. (in_order id).0 (m.4 id lt k))
 
   pub all_placed : (stop : Option Unfit) → MatchOption stop ((id : ℕ) → MustStand (fate_at fates id) → get_or taken id false ≡ true)
-      (λ unfit. (unfit.place ≡ length order) × (unfit.why ≡ LeftOut) × MustStand (fate_at fates unfit.event) × (get_or taken unfit.event false ≡ false))
+      (λ unfit. (unfit.place ≡ length order) × (unfit.why ≡ LeftOut) × MustStand (fate_at fates unfit.event) × (get_or taken unfit.event false ≡ false)
+      × ((id : ℕ) → id < unfit.event → MustStand (fate_at fates id) → get_or taken id false ≡ true))
       → ArePlaced events fates order stands stop
   all_placed stop m = record {
     ids = take place order;

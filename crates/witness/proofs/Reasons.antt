@@ -1,25 +1,31 @@
 -- the reason why an order is no witness
-use Rattle.std.proofs.Common.{◌≡◌, ◌≢◌, ℕ, zero, suc, ◌+◌, ⊎_elim, true, nat_eq, Option, Some, None, MatchOption, List, [], ◌∷◌, ◌++◌, take, drop, slice_get, sym, ap, ◌∙◌, subst, arith}
+use Rattle.std.proofs.Common.{◌≡◌, ◌≢◌, ℕ, zero, suc, ◌+◌, ◌<◌, ⊎_elim, true, nat_eq, Option, Some, None, MatchOption, List, [], ◌∷◌, ◌++◌, length, take, drop, slice_get, refl, sym, ap, ◌∙◌, subst, arith}
 use Rattle.std.specs.List.{Contains}
 use Rattle.std.proofs.lemmas.List.{map-append, take-append-le}
 use Rattle.std.proofs.lemmas.Option.{slice_get_within, get_or_from_slice_get}
 use Rattle.std.proofs.lemmas.List.Elements.{Contains-append_left, Contains-append_right}
 use Rattle.models.specs.declared.model_kind.ModelKind.{ModelKind}
+use Rattle.models.specs.Objects.{object_of}
 use Rattle.events.specs.declared.event.Event.{Event}
-use Rattle.linspec.proofs.Lists.{Contains-nil, Contains-head, Contains-cons_cases}
+use Rattle.events.specs.Events.{Mark}
+use Rattle.linspec.proofs.Lists.{Contains-nil, Contains-head, Contains-cons_cases, Pairwise-across}
+use Rattle.linspec.specs.Operations.{IsInvoked}
 use Rattle.linspec.specs.Orders.{Pairwise}
 use Rattle.linspec.proofs.Filters.{from_filter, from_map, Pairwise-filter}
-use Rattle.witness.proofs.Cuts.{key_cut, one_cut}
+use Rattle.witness.proofs.Cuts.{cut_there, key_cut, one_cut}
+use Rattle.witness.specs.declared.calls.Call.{Call}
 use Rattle.witness.specs.declared.fates.Fate.{Fate}
 use Rattle.witness.specs.declared.misfit.Misfit.{Misfit}
 use Rattle.witness.specs.declared.misfit.Misfit.TheVariants.{NoEvent, NoInvocation, Twice, Failed, TooLate, CannotTakePlace, AnotherAnswer, LeftOut}
 use Rattle.witness.specs.declared.misfit.Unfit.{Unfit}
 use Rattle.witness.specs.declared.placing.Stand.{Stand}
-use Rattle.witness.specs.Orders.{marks_in, is_of, among, AreCalls, before_on_key, IsMisfit, IsUnfit, IsWitness}
+use Rattle.witness.specs.Calls.{CanRun, unanswered}
+use Rattle.witness.specs.Orders.{marks_in, is_of, among, IsCall, AreCalls, before_on_key, IsTooLate, HaltsThere, IsMisfit, rank_of, NoneOfLesserRank, IsUnfit, IsWitness}
 use Rattle.witness.specs.Fates.{fate_at, AreFates}
 use Rattle.witness.specs.Placing.{MayStand, key_at, stands_from, StopsFor, Stops, AreAll, ArePlaced}
-use Rattle.witness.specs.KeyOrders.{ids_of, on_key, AreThere, KeyFits, IsUnfitFor, FindsAll}
-use Rattle.witness.proofs.Sound.{IsSound, is_there, may, returned, not_invoked, has_failed, to_precedes}
+use Rattle.witness.specs.KeyOrders.{ids_of, on_key, IsBefore, IsCallBy, AreCallsBy, AreThere, KeyFits, IsUnfitFor, FindsAll}
+use Rattle.witness.proofs.Sound.{IsSound, is_there, one_key, invoked_within, may, must, returned, not_invoked, failed, to_precedes, from_precedes}
+use Rattle.witness.proofs.OneCall.{call_one, calls_one}
 use Rattle.witness.proofs.Witnesses.{ids_on_key, is_of_there, is_call, are_calls, witness_of}
 
 -- what stands at a place
@@ -68,16 +74,61 @@ module _ (events : List Event) (sound : IsSound events) (fates : List Fate) (are
       ends.each
       (λ key. subst (λ l. KeyFits kind events fates (among events key l)) all (subst (KeyFits kind events fates) (of_key key) (f.1 key)))
 
+  -- what may stand is not kept from it
+  none_barring : (kind : ModelKind) (place id : ℕ) (other : Misfit) → rank_of other < 3 → MayStand (fate_at fates id) → ¬ IsMisfit kind events order place id other
+  none_barring kind place id NoEvent lt may_be m =
+      let within = invoked_within events sound id (may events sound fates are id may_be).0 in
+      let past = m.1 in
+      omega (arith, within, past)
+  none_barring kind place id NoInvocation lt may_be m = m.1 (may events sound fates are id may_be).0
+  none_barring kind place id Failed lt may_be m = (may events sound fates are id may_be).1 m.1
+  none_barring kind place id other lt may_be m = absurd (omega (arith, lt))
+
+  -- behind the last place nothing stands
+  none_behind : (kind : ModelKind) (place id : ℕ) (other : Misfit) → rank_of other < 7 → place ≡ length order → ¬ IsMisfit kind events order place id other
+  none_behind kind place id LeftOut lt is m = absurd (omega (arith, lt))
+  none_behind kind place id other lt is m = let within = slice_get_within order place id m.0 in omega (arith, within, is)
+
   -- one can't stand there
   stop_reason : (kind : ModelKind) (place id : ℕ) (why : Misfit) → StopsFor fates order ids place id why → IsMisfit kind events order place id why
   stop_reason kind place id NoEvent s = (s.1, (let l = are.long in let b = s.2 in omega (arith, l, b)))
-  stop_reason kind place id NoInvocation s = (s.1, not_invoked events sound fates are id s.2)
+  stop_reason kind place id NoInvocation s = (s.1, not_invoked events sound fates are id s.2.1)
   stop_reason kind place id Twice s = (s.1, subst (λ l. Contains l id) s.0 s.2)
-  stop_reason kind place id Failed s = (s.1, has_failed events sound fates are id s.2)
+  stop_reason kind place id Failed s = (s.1, (failed events sound fates are id s.2).1)
   stop_reason kind place id TooLate s = absurd s.2
   stop_reason kind place id CannotTakePlace s = absurd s.2
   stop_reason kind place id AnotherAnswer s = absurd s.2
-  stop_reason kind place id LeftOut s = (s.1, (returned events sound fates are id s.2).1, s.3)
+  stop_reason kind place id LeftOut s = (
+    s.1,
+    record {
+      returned = (returned events sound fates are id s.2).1;
+      missing = s.3;
+      first = λ other lt r. s.4 other lt (must events sound fates are other r);
+    },
+  )
+
+  -- and for none of a lesser rank
+  stop_told : (kind : ModelKind) (place id : ℕ) (why : Misfit) → StopsFor fates order ids place id why → NoneOfLesserRank kind events order place id why
+  stop_told kind place id NoEvent s = λ other lt m. omega (arith, lt)
+  stop_told kind place id NoInvocation s = none
+    where
+      none : (other : Misfit) → rank_of other < 1 → ¬ IsMisfit kind events order place id other
+      none NoEvent lt m = let l = are.long in let within = s.2.0 in let past = m.1 in omega (arith, l, within, past)
+      none other lt m = absurd (omega (arith, lt))
+  stop_told kind place id Failed s = none
+    where
+      invoked : IsInvoked (marks_in events) id
+      invoked = (failed events sound fates are id s.2).0
+
+      none : (other : Misfit) → rank_of other < 2 → ¬ IsMisfit kind events order place id other
+      none NoEvent lt m = let within = invoked_within events sound id invoked in let past = m.1 in omega (arith, within, past)
+      none NoInvocation lt m = m.1 invoked
+      none other lt m = absurd (omega (arith, lt))
+  stop_told kind place id Twice s = λ other lt. none_barring kind place id other lt (placed.may id s.2)
+  stop_told kind place id TooLate s = absurd s.2
+  stop_told kind place id CannotTakePlace s = absurd s.2
+  stop_told kind place id AnotherAnswer s = absurd s.2
+  stop_told kind place id LeftOut s = λ other lt m. none_behind kind place id other lt s.1 m
 
   -- one of a key does not fit
   module _ (kind : ModelKind) (key : ℕ) (before : List Stand) (here : Stand) (after : List Stand) (cut : before ++ here ∷ after ≡ on_key key stands) where
@@ -109,14 +160,34 @@ module _ (events : List Event) (sound : IsSound events) (fates : List Fate) (are
     on_its_key : is_of key (slice_get events here.id) ≡ true
     on_its_key = (from_filter (λ i. is_of key (slice_get events i)) ids here.id (subst (λ l. Contains l here.id) mapped (Contains-append_right (ids_of before) (here.id ∷ ids_of after) here.id (Contains-head here.id (ids_of after))))).1
 
-    before_is : ids_of before ≡ before_on_key events key order here.place
-    before_is =
+    front_is : take here.place ids ≡ take here.place order
+    front_is =
         let front = placed.front in
         let fits = slice_get_within ids here.place here.id at_own in
+        sym (take-append-le here.place ids front.0 (omega (arith, fits))) ∙ ap (take here.place) front.1
+
+    before_is : ids_of before ≡ before_on_key events key order here.place
+    before_is =
         let once : Pairwise (λ x y. x ≢ y) (ids_of before ++ here.id ∷ ids_of after) = subst (Pairwise (λ x y. x ≢ y)) (sym mapped) (Pairwise-filter (λ i. is_of key (slice_get events i)) (λ x y. x ≢ y) ids placed.once) in
         one_cut (ids_of before) (ids_of after) (among events key (take here.place ids)) (among events key (drop (here.place + 1) ids)) here.id once
         (mapped ∙ sym (key_cut events key ids here.place here.id at_own on_its_key))
-        ∙ ap (among events key) (sym (take-append-le here.place ids front.0 (omega (arith, fits))) ∙ ap (take here.place) front.1)
+        ∙ ap (among events key) front_is
+
+    here_may : IsInvoked (marks_in events) here.id × (¬ Contains (marks_in events) (Mark.Failed here.id))
+    here_may = may events sound fates are here.id (may_here here here_in)
+
+    -- it does not stand there before
+    here_new : ¬ Contains (take here.place order) here.id
+    here_new h =
+        Pairwise-across (λ x y. x ≢ y) (take here.place ids) (here.id ∷ drop (here.place + 1) ids) (subst (Pairwise (λ x y. x ≢ y)) (sym (cut_there ids here.place here.id at_own)) placed.once)
+        here.id here.id (subst (λ l. Contains l here.id) (sym front_is) h) (Contains-head here.id (drop (here.place + 1) ids)) refl
+
+    -- its calls are those of its key
+    are_before : (calls : List Call) → AreCallsBy events fates (ids_of before) calls → AreCalls (marks_in events) (before_on_key events key order here.place) calls
+    are_before calls by = subst (λ l. AreCalls (marks_in events) l calls) before_is (are_calls events sound fates are (ids_of before) calls may_before by)
+
+    is_here : (c : Call) → IsCallBy events fates here.id c → IsCall (marks_in events) here.id c
+    is_here c by = is_call events sound fates are here.id c (may_here here here_in) by
 
     key_reason : (why : Misfit) → IsUnfitFor kind events fates (ids_of before) here.id why → IsMisfit kind events order here.place here.id why
     key_reason TooLate w = (
@@ -136,8 +207,8 @@ module _ (events : List Event) (sound : IsSound events) (fates : List Fate) (are
         of_key = on_its_key;
         calls = w.calls;
         call = w.call;
-        are = subst (λ l. AreCalls (marks_in events) l w.calls) before_is (are_calls events sound fates are (ids_of before) w.calls may_before w.are);
-        is = is_call events sound fates are here.id w.call (may_here here here_in) w.is;
+        are = are_before w.calls w.are;
+        is = is_here w.call w.is;
         halts = w.halts;
       },
     )
@@ -148,8 +219,8 @@ module _ (events : List Event) (sound : IsSound events) (fates : List Fate) (are
         of_key = on_its_key;
         calls = w.calls;
         call = w.call;
-        are = subst (λ l. AreCalls (marks_in events) l w.calls) before_is (are_calls events sound fates are (ids_of before) w.calls may_before w.are);
-        is = is_call events sound fates are here.id w.call (may_here here here_in) w.is;
+        are = are_before w.calls w.are;
+        is = is_here w.call w.is;
         halts = w.halts;
       },
     )
@@ -159,12 +230,56 @@ module _ (events : List Event) (sound : IsSound events) (fates : List Fate) (are
     key_reason Failed w = absurd w.halts
     key_reason LeftOut w = absurd w.halts
 
+    -- and for none of a lesser rank
+    none_placing : (other : Misfit) → rank_of other < 4 → ¬ IsMisfit kind events order here.place here.id other
+    none_placing Twice lt m = here_new m.1
+    none_placing other lt m = none_barring kind here.place here.id other (omega (arith, lt)) (may_here here here_in) m
+
+    not_late : ((other : ℕ) → Contains (ids_of before) other → ¬ IsBefore fates here.id other) → ¬ IsTooLate events order here.place here.id
+    not_late in_time t =
+        let same : t.key ≡ key = one_key events sound here.id t.key key here_may.0 t.of_key on_its_key in
+        in_time t.other (subst (λ l. Contains l t.other) (ap (λ k. before_on_key events k order here.place) same ∙ sym before_is) t.earlier) (from_precedes events sound fates are here.id t.other t.precedes)
+
+    none_late : ((other : ℕ) → Contains (ids_of before) other → ¬ IsBefore fates here.id other) → (other : Misfit) → rank_of other < 5 → ¬ IsMisfit kind events order here.place here.id other
+    none_late in_time TooLate lt m = not_late in_time m.1
+    none_late in_time other lt m = none_placing other (omega (arith, lt)) m
+
+    can_stand : (calls : List Call) (c : Call) → AreCallsBy events fates (ids_of before) calls → IsCallBy events fates here.id c → CanRun (object_of kind) (calls ++ unanswered c ∷ []) (object_of kind).start
+        → ¬ HaltsThere kind events order here.place here.id CannotTakePlace
+    can_stand calls c by is stands h =
+        let same : h.key ≡ key = one_key events sound here.id h.key key here_may.0 h.of_key on_its_key in
+        let their_calls = subst (λ k. AreCalls (marks_in events) (before_on_key events k order here.place) h.calls) same h.are in
+        let calls_are : calls ≡ h.calls = calls_one events sound (before_on_key events key order here.place) calls h.calls (are_before calls by) their_calls in
+        let call_is : c ≡ h.call = call_one events sound here.id c h.call (is_here c is) h.is in
+        h.halts (subst (λ l. CanRun (object_of kind) (l ++ unanswered h.call ∷ []) (object_of kind).start) calls_are
+        (subst (λ d. CanRun (object_of kind) (calls ++ unanswered d ∷ []) (object_of kind).start) call_is stands))
+
+    key_told : (why : Misfit) → IsUnfitFor kind events fates (ids_of before) here.id why → NoneOfLesserRank kind events order here.place here.id why
+    key_told TooLate w = none_placing
+    key_told CannotTakePlace w = none_late w.in_time
+    key_told AnotherAnswer w = none
+      where
+        none : (other : Misfit) → rank_of other < 6 → ¬ IsMisfit kind events order here.place here.id other
+        none CannotTakePlace lt m = can_stand w.calls w.call w.are w.is w.halts.0 m.1
+        none other lt m = none_late w.in_time other (omega (arith, lt)) m
+    key_told NoEvent w = absurd w.halts
+    key_told NoInvocation w = absurd w.halts
+    key_told Twice w = absurd w.halts
+    key_told Failed w = absurd w.halts
+    key_told LeftOut w = absurd w.halts
+
   pub reason : (kind : ModelKind) (u : Unfit) → FindsAll kind events fates stop stands (Some u) → IsUnfit kind events order u
   reason kind u f =
       ⊎_elim
-      (λ e. stop_reason kind u.place u.event u.why (subst (λ s. MatchOption s (AreAll fates order ids) (Stops fates order ids)) e placed.ends))
+      (λ e.
+      let s = subst (λ s. MatchOption s (AreAll fates order ids) (Stops fates order ids)) e placed.ends in
+      record { is_so = stop_reason kind u.place u.event u.why s; told = stop_told kind u.place u.event u.why s })
       (λ k.
       let w = k.1 in
-      let m : IsMisfit kind events order w.here.place w.here.id u.why = key_reason kind k.0 w.before w.here w.after w.cut u.why w.unfit_for in
-      subst (λ p. IsMisfit kind events order p u.event u.why) (sym w.place_is) (subst (λ i. IsMisfit kind events order w.here.place i u.why) (sym w.event_is) m))
+      let so : IsMisfit kind events order w.here.place w.here.id u.why = key_reason kind k.0 w.before w.here w.after w.cut u.why w.unfit_for in
+      let told : NoneOfLesserRank kind events order w.here.place w.here.id u.why = key_told kind k.0 w.before w.here w.after w.cut u.why w.unfit_for in
+      record {
+        is_so = subst (λ p. IsMisfit kind events order p u.event u.why) (sym w.place_is) (subst (λ i. IsMisfit kind events order w.here.place i u.why) (sym w.event_is) so);
+        told = subst (λ p. NoneOfLesserRank kind events order p u.event u.why) (sym w.place_is) (subst (λ i. NoneOfLesserRank kind events order w.here.place i u.why) (sym w.event_is) told);
+      })
       f.0.one

@@ -1,8 +1,7 @@
 -- an order that has such a reason is no witness
-use Rattle.std.proofs.Common.{◌≡◌, ◌≢◌, ℕ, ◌+◌, ◌≤◌, true, Option, Some, None, List, [], ◌∷◌, ◌++◌, length, map, take, drop, slice_get, refl, sym, ap, ◌∙◌, subst, append_assoc}
+use Rattle.std.proofs.Common.{◌≡◌, ◌≢◌, ℕ, ◌+◌, ◌≤◌, true, Option, Some, None, List, [], ◌∷◌, ◌++◌, length, map, take, drop, slice_get, refl, sym, ◌∙◌, subst, append_assoc, arith}
 use Rattle.std.specs.List.{Contains}
 use Rattle.std.proofs.lemmas.Bool.{eqb-true, eq-eqb}
-use Rattle.std.proofs.lemmas.Option.{slice_get_past}
 use Rattle.std.proofs.lemmas.List.Elements.{Contains-append_left, Contains-append_right}
 use Rattle.models.specs.declared.model_kind.ModelKind.{ModelKind}
 use Rattle.models.specs.declared.finding.Found.{Found}
@@ -23,10 +22,10 @@ use Rattle.witness.specs.declared.misfit.Misfit.{Misfit}
 use Rattle.witness.specs.declared.misfit.Misfit.TheVariants.{NoEvent, NoInvocation, Twice, Failed as ThatFailed, TooLate, CannotTakePlace, AnotherAnswer, LeftOut}
 use Rattle.witness.specs.Calls.{FitsIf, CanRun}
 use Rattle.witness.specs.Orders.{marks_in, marks_of_key, is_of, among, IsWitness, HasAnswer, IsCall, AreCalls, before_on_key, IsTooLate, HaltsThere, IsMisfit}
-use Rattle.witness.specs.Fates.{op_at, AreFates}
+use Rattle.witness.specs.Fates.{AreFates}
 use Rattle.witness.proofs.Runs.{no_halt}
 use Rattle.witness.proofs.Cuts.{key_cut}
-use Rattle.witness.proofs.Sound.{entries, IsSound, IsThere, is_there, one_op, to_key, in_whole, key_precedes, must, returned}
+use Rattle.witness.proofs.Sound.{entries, IsSound, IsThere, is_there, one_op, invoked_within, to_key, in_whole, key_precedes, must, returned}
 use Rattle.witness.proofs.Reasons.{get_in}
 
 -- pairwise of what a function makes, the other way round
@@ -148,11 +147,7 @@ module _ (events : List Event) (sound : IsSound events) where
           (from_filter (λ i. is_of s.entry.key (slice_get events i)) order id (subst (λ l. Contains l id) o.ids_are (subst (Contains (map (λ (y : Taken). y.id) o.order)) x.2 (to_map (λ (y : Taken). y.id) o.order x.0 x.1)))).0
 
       no_event : (id : ℕ) → Contains order id → length events ≤ id → ⊥
-      no_event id h past =
-          let s = there id h in
-          let none : op_at (slice_get events id) ≡ None = ap op_at (slice_get_past events id past) in
-          let q : None ≡ Some s.op = sym none ∙ s.op_is in
-          cc
+      no_event id h past = let l = invoked_within events sound id (w.invoked id h) in absurd (omega (arith, l, past))
 
       pub refuted : (place id : ℕ) (why : Misfit) → IsMisfit kind events order place id why → ⊥
       refuted place id NoEvent m = no_event id (get_in order place id m.0) m.1
@@ -162,4 +157,4 @@ module _ (events : List Event) (sound : IsSound events) where
       refuted place id TooLate m = not_late place id m.0 m.1
       refuted place id CannotTakePlace m = halts_nowhere place id CannotTakePlace m.0 m.1
       refuted place id AnotherAnswer m = halts_nowhere place id AnotherAnswer m.0 m.1
-      refuted place id LeftOut m = m.2 (not_left id m.1)
+      refuted place id LeftOut m = m.1.missing (not_left id m.1.returned)

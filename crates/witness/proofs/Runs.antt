@@ -31,7 +31,7 @@ CanRun-change o (x ∷ xs) ys zs s to h = (h.0, h.1, h.2, h.3, CanRun-change o x
 -- where the call can take place it does not halt
 pub no_halt : (o : Object) (calls : List Call) (c : Call) (why : Misfit) → CanRun o (calls ++ c ∷ []) o.start → ¬ HaltsBehind o calls c why
 no_halt o calls c CannotTakePlace runs h = h (CanRun-change o calls (c ∷ []) (unanswered c ∷ []) o.start (λ t r. (r.0, r.1, r.2, tt, tt)) runs)
-no_halt o calls c AnotherAnswer runs h = h runs
+no_halt o calls c AnotherAnswer runs h = h.1 runs
 no_halt o calls c NoEvent runs h = h
 no_halt o calls c NoInvocation runs h = h
 no_halt o calls c Twice runs h = h

@@ -1,6 +1,7 @@
 -- what is known of a history's events, and of the fates of its operations
-use Rattle.std.proofs.Common.{◌≡◌, ℕ, ◌<◌, nat_eq, Some, List, [], ◌∷◌, length, slice_get, refl, sym, ap, ◌∙◌, subst, ⊎_elim, arith}
+use Rattle.std.proofs.Common.{◌≡◌, ℕ, ◌<◌, nat_eq, true, Some, List, [], ◌∷◌, length, slice_get, refl, sym, ap, ◌∙◌, subst, ⊎_elim, arith}
 use Rattle.std.specs.List.{Contains}
+use Rattle.std.proofs.lemmas.Bool.{eqb-true}
 use Rattle.std.proofs.lemmas.Option.{slice_get_within}
 use Rattle.models.specs.declared.operation.Op.{Op}
 use Rattle.models.specs.declared.finding.Answer.{Answer}
@@ -21,7 +22,7 @@ use Rattle.linspec.proofs.Keyed.{to_of_key, from_marks, of_key-marks, Precedes-w
 use Rattle.witness.specs.declared.fates.Fate.{Fate}
 use Rattle.witness.specs.declared.fates.Fate.TheVariants.{NoOperation, Pending, Returned as ReturnedAt, Failed as HasFailed}
 use Rattle.witness.specs.Orders.{marks_in, marks_of_key, is_of}
-use Rattle.witness.specs.Fates.{fate_at, op_at, answer_at, AreFates}
+use Rattle.witness.specs.Fates.{fate_in, fate_at, op_at, answer_at, AreFates}
 use Rattle.witness.specs.Placing.{MayStand, MustStand, key_at}
 use Rattle.witness.specs.KeyOrders.{IsBefore}
 use Rattle.witness.proofs.EventsThere.{entry_of, of_its_key, key_there, invocation_at, answer_of_return}
@@ -83,6 +84,15 @@ module _ (events : List Event) (sound : IsSound events) where
         key_is = subst (λ n. key_at (slice_get events n) ≡ f.0.key) i.0 (key_there events f.0 e);
       }
 
+  -- an invocation is within the history
+  pub invoked_within : (id : ℕ) → IsInvoked (marks_in events) id → id < length events
+  invoked_within id h =
+      let s = is_there id h in
+      let e = entry_of events s.entry s.there in
+      let l : s.entry.index < length events = slice_get_within events s.entry.index e.event e.there in
+      let q = s.at in
+      omega (arith, l, q)
+
   -- it is invoked once
   pub one_op : (id : ℕ) (a b : Op) → Contains (marks_in events) (Invoked id a) → Contains (marks_in events) (Invoked id b) → a ≡ b
   one_op id a b h k =
@@ -93,6 +103,28 @@ module _ (events : List Event) (sound : IsSound events) where
       let same : f.0 ≡ g.0 = one_entry (entries events) sound.rising f.0 g.0 f.1 g.1 (i ∙ sym j) in
       let q : Invoked id a ≡ Invoked id b = sym f.2 ∙ ap (λ (w : Entry). w.mark) same ∙ g.2 in
       (let r : a ≡ b = cc in r)
+
+  -- and it answers once
+  index_by : (id : ℕ) (f : Fate) → Knows (entries events) id f → (e g : Entry) (a b : Answer) → Contains (entries events) e → Contains (entries events) g → e.mark ≡ Returned id a → g.mark ≡ Returned id b → e.index ≡ g.index
+  index_by id NoOperation k e g a b h i p q = absurd (k (Returned id a) (subst (Contains (marks_in events)) p (to_map (λ (w : Entry). w.mark) (entries events) e h)) refl)
+  index_by id Pending k e g a b h i p q = absurd (k.not_returned (a, subst (Contains (marks_in events)) p (to_map (λ (w : Entry). w.mark) (entries events) e h)))
+  index_by id (ReturnedAt index) k e g a b h i p q = k.alone e a h p ∙ sym (k.alone g b i q)
+  index_by id HasFailed k e g a b h i p q = absurd (k.not_returned (a, subst (Contains (marks_in events)) p (to_map (λ (w : Entry). w.mark) (entries events) e h)))
+
+  pub one_answer : (id : ℕ) (a b : Answer) → Contains (marks_in events) (Returned id a) → Contains (marks_in events) (Returned id b) → a ≡ b
+  one_answer id a b h k =
+      let f = from_marks (entries events) (Returned id a) h in
+      let g = from_marks (entries events) (Returned id b) k in
+      let fate = fate_in (entries events) id in
+      let same : f.0 ≡ g.0 = one_entry (entries events) sound.rising f.0 g.0 f.1 g.1 (index_by id fate (knows (entries events) sound.well id) f.0 g.0 a b f.1 g.1 f.2 g.2) in
+      let q : Returned id a ≡ Returned id b = sym f.2 ∙ ap (λ (w : Entry). w.mark) same ∙ g.2 in
+      (let r : a ≡ b = cc in r)
+
+  -- it has one key
+  pub one_key : (id key other : ℕ) → IsInvoked (marks_in events) id → is_of key (slice_get events id) ≡ true → is_of other (slice_get events id) ≡ true → key ≡ other
+  one_key id key other h a b =
+      let s = is_there id h in
+      sym (eqb-true s.entry.key key (sym (s.of key) ∙ a)) ∙ eqb-true s.entry.key other (sym (s.of other) ∙ b)
 
   -- all that is said of it is said of its key
   pub its_key : (id : ℕ) (s : IsThere id) (e : Entry) → Contains (entries events) e → id_of e.mark ≡ id → e.key ≡ s.entry.key
@@ -159,20 +191,6 @@ module _ (events : List Event) (sound : IsSound events) where
           subst (λ n. answer_at (slice_get events n) ≡ Some k.answer) k.at (answer_of_return events k.entry id k.answer (entry_of events k.entry k.there) k.says),
         )
 
-    index_by : (id : ℕ) (f : Fate) → Knows (entries events) id f → (e g : Entry) (a b : Answer) → Contains (entries events) e → Contains (entries events) g → e.mark ≡ Returned id a → g.mark ≡ Returned id b → e.index ≡ g.index
-    index_by id NoOperation k e g a b h i p q = absurd (k (Returned id a) (subst (Contains (marks_in events)) p (to_map (λ (w : Entry). w.mark) (entries events) e h)) refl)
-    index_by id Pending k e g a b h i p q = absurd (k.not_returned (a, subst (Contains (marks_in events)) p (to_map (λ (w : Entry). w.mark) (entries events) e h)))
-    index_by id (ReturnedAt index) k e g a b h i p q = k.alone e a h p ∙ sym (k.alone g b i q)
-    index_by id HasFailed k e g a b h i p q = absurd (k.not_returned (a, subst (Contains (marks_in events)) p (to_map (λ (w : Entry). w.mark) (entries events) e h)))
-
-    pub one_answer : (id : ℕ) (a b : Answer) → Contains (marks_in events) (Returned id a) → Contains (marks_in events) (Returned id b) → a ≡ b
-    one_answer id a b h k =
-        let f = from_marks (entries events) (Returned id a) h in
-        let g = from_marks (entries events) (Returned id b) k in
-        let same : f.0 ≡ g.0 = one_entry (entries events) sound.rising f.0 g.0 f.1 g.1 (index_by id (fate_at fates id) (known id) f.0 g.0 a b f.1 g.1 f.2 g.2) in
-        let q : Returned id a ≡ Returned id b = sym f.2 ∙ ap (λ (w : Entry). w.mark) same ∙ g.2 in
-        (let r : a ≡ b = cc in r)
-
     -- what is pending has no answer
     pub not_returned : (id : ℕ) → fate_at fates id ≡ Pending → ¬ HasReturned (marks_in events) id
     not_returned id q = (known_by id Pending q).not_returned
@@ -180,18 +198,8 @@ module _ (events : List Event) (sound : IsSound events) where
     pub not_invoked : (id : ℕ) → fate_at fates id ≡ NoOperation → ¬ IsInvoked (marks_in events) id
     not_invoked id q h = known_by id NoOperation q (Invoked id h.0) h.1 refl
 
-    pub has_failed : (id : ℕ) → fate_at fates id ≡ HasFailed → Contains (marks_in events) (Failed id)
-    has_failed id q = (known_by id HasFailed q).failed
-
-    -- an invocation is within the history
-    pub invoked_within : (id : ℕ) → IsInvoked (marks_in events) id → id < length fates
-    invoked_within id h =
-        let s = is_there id h in
-        let e = entry_of events s.entry s.there in
-        let l : s.entry.index < length events = slice_get_within events s.entry.index e.event e.there in
-        let q = s.at in
-        let n = are.long in
-        omega (arith, l, q, n)
+    pub failed : (id : ℕ) → fate_at fates id ≡ HasFailed → IsInvoked (marks_in events) id × Contains (marks_in events) (Failed id)
+    failed id q = let k = known_by id HasFailed q in (k.invoked, k.failed)
 
     -- precedence, by fates
     pub to_precedes : (y x : ℕ) → IsBefore fates y x → IsInvoked (marks_in events) x → Precedes (marks_in events) y x

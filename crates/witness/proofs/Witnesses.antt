@@ -87,7 +87,7 @@ module _ (events : List Event) (sound : IsSound events) (fates : List Fate) (are
 
   fits_by : (id : ℕ) (found : Found) (a : Option Answer) (answer : Answer) → HasAnswer (marks_in events) id a → FitsIf found a → Contains (marks_in events) (Returned id answer) → Fits found answer
   fits_by id found None answer none f h = absurd (none (answer, h))
-  fits_by id found (Some a) answer has f h = subst (Fits found) (one_answer events sound fates are id a answer has h) f
+  fits_by id found (Some a) answer has f h = subst (Fits found) (one_answer events sound id a answer has h) f
 
   taken_by : (o : Object) (ids : List ℕ) (calls : List Call) (s : o.State) → AreCalls (marks_in events) ids calls → CanRun o calls s → TakenBy o ids s
   taken_by o [] [] s c r = record {

@@ -21,10 +21,10 @@ CanRun o (c ∷ calls) s = (found : Found) × (t : o.State) × o.Steps s c.op fo
 abbrev pub unanswered : Call → Call
 unanswered c = record { op = c.op; answer = None }
 
--- behind these the call can't take place; or only with another answer
+-- behind these the call can't take place; or it can, and only with another answer
 abbrev pub HaltsBehind : Object → List Call → Call → Misfit → Type 0
 HaltsBehind o before c CannotTakePlace = ¬ CanRun o (before ++ unanswered c ∷ []) o.start
-HaltsBehind o before c AnotherAnswer = ¬ CanRun o (before ++ c ∷ []) o.start
+HaltsBehind o before c AnotherAnswer = CanRun o (before ++ unanswered c ∷ []) o.start × ¬ CanRun o (before ++ c ∷ []) o.start
 HaltsBehind o before c _ = ⊥
 
 -- the calls can take place up to this place, and halt there for this

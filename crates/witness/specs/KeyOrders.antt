@@ -58,13 +58,14 @@ pub record KeyFits (kind : ModelKind) (events : List Event) (fates : List Fate) 
   pub in_time : AreInTime fates ids
   pub can_run : CanRunBy kind events fates ids
 
--- why one does not fit behind these
+-- why one does not fit behind these, none of which it precedes
 pub record HaltsBy (kind : ModelKind) (events : List Event) (fates : List Fate) (before : List ℕ) (id : ℕ) (why : Misfit) : Type 0 where
   pub calls : List Call
   pub call : Call
   pub are : AreCallsBy events fates before calls
   pub is : IsCallBy events fates id call
   pub halts : HaltsBehind (object_of kind) calls call why
+  pub in_time : (other : ℕ) → Contains before other → ¬ IsBefore fates id other
 
 abbrev pub IsUnfitFor : ModelKind → List Event → List Fate → List ℕ → ℕ → Misfit → Type 0
 IsUnfitFor kind events fates before id TooLate = (other : ℕ) × Contains before other × IsBefore fates id other

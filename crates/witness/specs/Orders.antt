@@ -1,5 +1,5 @@
 -- Promise: an order of a history's operations, which shows that it is linearizable (Herlihy and Wing 1990, section 2)
-use Rattle.std.specs.Prelude.{◌≡◌, ℕ, ◌≤◌, Bool, true, false, Option, Some, None, List, [], ◌∷◌, length, map, slice_get, take}
+use Rattle.std.specs.Prelude.{◌≡◌, ℕ, ◌<◌, ◌≤◌, Bool, true, false, Option, Some, None, List, [], ◌∷◌, length, map, slice_get, take}
 use Rattle.std.specs.List.{filter, Contains}
 use Rattle.models.specs.declared.model_kind.ModelKind.{ModelKind}
 use Rattle.models.specs.declared.finding.Answer.{Answer}
@@ -11,7 +11,7 @@ use Rattle.linspec.specs.Operations.{IsInvoked, HasReturned, Precedes}
 use Rattle.linspec.specs.Orders.{Taken, IsLegalOrder}
 use Rattle.witness.specs.declared.calls.Call.{Call}
 use Rattle.witness.specs.declared.misfit.Misfit.{Misfit}
-use Rattle.witness.specs.declared.misfit.Misfit.TheVariants.{NoEvent, NoInvocation, Twice, Failed as HasFailed, TooLate, LeftOut}
+use Rattle.witness.specs.declared.misfit.Misfit.TheVariants.{NoEvent, NoInvocation, Twice, Failed as HasFailed, TooLate, CannotTakePlace, AnotherAnswer, LeftOut}
 use Rattle.witness.specs.declared.misfit.Unfit.{Unfit}
 use Rattle.witness.specs.declared.confirming.Confirmation.{Confirmation}
 use Rattle.witness.specs.declared.confirming.Confirmation.TheVariants.{Linearizable, NoOrder}
@@ -71,7 +71,7 @@ pub record IsTooLate (events : List Event) (order : List ℕ) (place id : ℕ) :
   pub earlier : Contains (before_on_key events key order place) other
   pub precedes : Precedes (marks_in events) id other
 
--- behind those of its key that stand before it, the operation can't take place, or only with another answer
+-- behind those of its key that stand before it, the operation can't take place; or it can, and only with another answer
 pub record HaltsThere (kind : ModelKind) (events : List Event) (order : List ℕ) (place id : ℕ) (why : Misfit) : Type 0 where
   pub key : ℕ
   pub of_key : is_of key (slice_get events id) ≡ true
@@ -81,6 +81,12 @@ pub record HaltsThere (kind : ModelKind) (events : List Event) (order : List ℕ
   pub is : IsCall (marks_in events) id call
   pub halts : HaltsBehind (object_of kind) calls call why
 
+-- it has returned, and is not in the order; it is the first such
+pub record IsLeftOut (events : List Event) (order : List ℕ) (id : ℕ) : Type 0 where
+  pub returned : HasReturned (marks_in events) id
+  pub missing : ¬ Contains order id
+  pub first : (other : ℕ) → other < id → HasReturned (marks_in events) other → Contains order other
+
 -- why the operation at this place of the order, whose invocation has this index, does not fit; or, behind the last place, why the
 -- operation must be in the order
 abbrev pub IsMisfit : ModelKind → List Event → List ℕ → ℕ → ℕ → Misfit → Type 0
@@ -89,15 +95,32 @@ IsMisfit kind events order place id NoInvocation = (slice_get order place ≡ So
 IsMisfit kind events order place id Twice = (slice_get order place ≡ Some id) × Contains (take place order) id
 IsMisfit kind events order place id HasFailed = (slice_get order place ≡ Some id) × Contains (marks_in events) (Failed id)
 IsMisfit kind events order place id TooLate = (slice_get order place ≡ Some id) × IsTooLate events order place id
-IsMisfit kind events order place id LeftOut = (place ≡ length order) × HasReturned (marks_in events) id × ¬ Contains order id
+IsMisfit kind events order place id LeftOut = (place ≡ length order) × IsLeftOut events order id
 IsMisfit kind events order place id why = (slice_get order place ≡ Some id) × HaltsThere kind events order place id why
 
-abbrev pub IsUnfit : ModelKind → List Event → List ℕ → Unfit → Type 0
-IsUnfit kind events order unfit = IsMisfit kind events order unfit.place unfit.event unfit.why
+-- which reason is told where several hold: the one of the least rank
+abbrev pub rank_of : Misfit → ℕ
+rank_of NoEvent = 0
+rank_of NoInvocation = 1
+rank_of HasFailed = 2
+rank_of Twice = 3
+rank_of TooLate = 4
+rank_of CannotTakePlace = 5
+rank_of AnotherAnswer = 6
+rank_of LeftOut = 7
 
--- nothing that does not fit stands before it
+abbrev pub NoneOfLesserRank : ModelKind → List Event → List ℕ → ℕ → ℕ → Misfit → Type 0
+NoneOfLesserRank kind events order place id why = (other : Misfit) → rank_of other < rank_of why → ¬ IsMisfit kind events order place id other
+
+-- it does not fit for this reason, and for none of a lesser rank
+pub record IsUnfit (kind : ModelKind) (events : List Event) (order : List ℕ) (unfit : Unfit) : Type 0 where
+  pub is_so : IsMisfit kind events order unfit.place unfit.event unfit.why
+  pub told : NoneOfLesserRank kind events order unfit.place unfit.event unfit.why
+
+-- nothing that does not fit, for whatever reason, stands before it
 abbrev pub StandsFirst : ModelKind → List Event → List ℕ → Unfit → Type 0
-StandsFirst kind events order unfit = (other : Unfit) → IsUnfit kind events order other → unfit.place ≤ other.place
+StandsFirst kind events order unfit =
+    (place id : ℕ) (why : Misfit) → IsMisfit kind events order place id why → unfit.place ≤ place
 
 -- where it is said that the order is none, the reason is so
 abbrev pub HasReason : ModelKind → List Event → List ℕ → Confirmation → Type 0

@@ -1,5 +1,5 @@
 -- Invariant: the operations that stand in an order, by what became of them
-use Rattle.std.specs.Prelude.{◌≡◌, ◌≢◌, ℕ, ◌+◌, ◌≤◌, Option, Some, MatchOption, unwrap_or, option_and_then, List, [], ◌∷◌, length, slice_get, take}
+use Rattle.std.specs.Prelude.{◌≡◌, ◌≢◌, ℕ, ◌+◌, ◌<◌, ◌≤◌, Option, Some, MatchOption, unwrap_or, option_and_then, List, [], ◌∷◌, length, slice_get, take}
 use Rattle.std.specs.List.{Contains}
 use Rattle.events.specs.declared.event.Event.{Event}
 use Rattle.events.specs.Events.{key_of, IsFront}
@@ -34,17 +34,19 @@ abbrev pub stands_from : List Event → ℕ → List ℕ → List Stand
 stands_from events n [] = []
 stands_from events n (id ∷ ids) = record { key = key_at (slice_get events id); place = n; id = id } ∷ stands_from events (n + 1) ids
 
--- why an operation can't stand in an order, where it is known which ones stand before it
+-- why an operation can't stand in an order, where it is known which ones stand before it; by the first test that it does not pass
 abbrev pub IsBarred : List Fate → (ℕ → Type 0) → ℕ → Misfit → Type 0
 IsBarred fates Taken id NoEvent = length fates ≤ id
-IsBarred fates Taken id NoInvocation = fate_at fates id ≡ NoOperation
+IsBarred fates Taken id NoInvocation = (id < length fates) × (fate_at fates id ≡ NoOperation)
 IsBarred fates Taken id ThatFailed = fate_at fates id ≡ Failed
 IsBarred fates Taken id Twice = Taken id
 IsBarred fates Taken id _ = ⊥
 
 -- why no more than these first operations of the order are placed
 abbrev pub StopsFor : List Fate → List ℕ → List ℕ → ℕ → ℕ → Misfit → Type 0
-StopsFor fates order ids place id LeftOut = (ids ≡ order) × (place ≡ length order) × MustStand (fate_at fates id) × ¬ Contains order id
+StopsFor fates order ids place id LeftOut =
+    (ids ≡ order) × (place ≡ length order) × MustStand (fate_at fates id) × (¬ Contains order id)
+    × ((other : ℕ) → other < id → MustStand (fate_at fates other) → Contains order other)
 StopsFor fates order ids place id why = (ids ≡ take place order) × (slice_get order place ≡ Some id) × IsBarred fates (Contains ids) id why
 
 abbrev pub Stops : List Fate → List ℕ → List ℕ → Unfit → Type 0

@@ -13,10 +13,10 @@ use Rattle.witness.specs.Calls.{CanRun, unanswered}
 abbrev pub LeadsTo : (o : Object) → o.State → Call → o.State → Type 0
 LeadsTo o s c t = (later : List Call) → CanRun o (c ∷ later) s ↔ CanRun o later t
 
--- in the state s the call can't take place; or only with another answer
+-- in the state s the call can't take place; or it can, and only with another answer
 abbrev pub HaltsIn : (o : Object) → o.State → Call → Misfit → Type 0
 HaltsIn o s c CannotTakePlace = ¬ CanRun o (unanswered c ∷ []) s
-HaltsIn o s c AnotherAnswer = ¬ CanRun o (c ∷ []) s
+HaltsIn o s c AnotherAnswer = CanRun o (unanswered c ∷ []) s × ¬ CanRun o (c ∷ []) s
 HaltsIn o s c _ = ⊥
 
 -- the state that the call leads to, or why there is none

@@ -68,7 +68,9 @@ fn left_out(fates: &[Fate], taken: &[bool], end: usize) -> Option<Unfit>
     ensures { MatchOption result
         ((id : ℕ) → MustStand (fate_at fates.now id) → slice_index_or taken.now id false ≡ true)
         (λ unfit. (unfit.place ≡ end) × (unfit.why ≡ Misfit.LeftOut) × MustStand (fate_at fates.now unfit.event)
-        × (slice_index_or taken.now unfit.event false ≡ false)) }
+        × (slice_index_or taken.now unfit.event false ≡ false)
+        × ((id : ℕ) → id < unfit.event → MustStand (fate_at fates.now id)
+        → slice_index_or taken.now id false ≡ true)) }
 {
     for (id, fate) in fates.iter().enumerate() {
         if must_stand(*fate) && !taken[id] {

@@ -1,4 +1,4 @@
-use Rattle.confirms.proofs.OneAnswer.{one_history, one_order, one_answer_law, one_place_law}
+use Rattle.confirms.proofs.OneAnswer.{one_history, one_order, one_answer_law}
 use Rattle.confirms.proofs.laws.one_answer.Goals as goal
 
 pub returns-clause-history : goal.returns-clause-history
@@ -9,6 +9,3 @@ returns-clause-order c = one_order
 
 pub returns-clause-answer : goal.returns-clause-answer
 returns-clause-answer c = one_answer_law
-
-pub returns-clause-place : goal.returns-clause-place
-returns-clause-place c = one_place_law

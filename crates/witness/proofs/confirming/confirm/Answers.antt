@@ -53,7 +53,7 @@ returns-in-Some-clause-confirmed c =
     let why = reason c.args.history.now.events (is_sound p) c.in_ok-fates.fates.items (are_fates p) c.args.order.now c.in_ok-placed.placed.stands.items c.in_ok-placed.placed.stop (are_placed p)
     c.args.kind c.in-Some.unfit (subst (FindsAll c.args.kind c.args.history.now.events c.in_ok-fates.fates.items c.in_ok-placed.placed.stop c.in_ok-placed.placed.stands.items) c.in-Some.is (found at.In_ok-unfit)) in (
       (λ e. cc),
-      (λ w. absurd (refuted c.args.history.now.events (is_sound p) c.args.kind c.args.order.now w c.in_ok-fates.fates.items (are_fates p) c.in-Some.unfit.place c.in-Some.unfit.event c.in-Some.unfit.why why)),
+      (λ w. absurd (refuted c.args.history.now.events (is_sound p) c.args.kind c.args.order.now w c.in_ok-fates.fates.items (are_fates p) c.in-Some.unfit.place c.in-Some.unfit.event c.in-Some.unfit.why why.is_so)),
     )
 
 pub returns-clause-confirmed : goal.returns-clause-confirmed

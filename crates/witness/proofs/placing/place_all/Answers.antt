@@ -22,5 +22,6 @@ loop-place-preserved c =
 pub returns : goal.returns
 returns c = all_placed c.args.events.now c.args.fates.now c.args.order.now c.loop-place.place c.loop-place.taken.items c.loop-place.stands.items c.loop-place.invariant c.loop-place-test.false c.left_out-stop.result
     (subst (λ (l : List Bool). MatchOption c.left_out-stop.result ((id : ℕ) → MustStand (fate_at c.args.fates.now id) → get_or l id false ≡ true)
-    (λ (unfit : Unfit). (unfit.place ≡ length c.args.order.now) × (unfit.why ≡ LeftOut) × MustStand (fate_at c.args.fates.now unfit.event) × (get_or l unfit.event false ≡ false)))
+    (λ (unfit : Unfit). (unfit.place ≡ length c.args.order.now) × (unfit.why ≡ LeftOut) × MustStand (fate_at c.args.fates.now unfit.event) × (get_or l unfit.event false ≡ false)
+    × ((id : ℕ) → id < unfit.event → MustStand (fate_at c.args.fates.now id) → get_or l id false ≡ true)))
     c.deref-2.ensures.value c.left_out-stop.ensures)

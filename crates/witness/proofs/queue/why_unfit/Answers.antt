@@ -5,7 +5,8 @@ use Rattle.witness.proofs.Ahead.{halt_of, stop_of}
 use Rattle.witness.proofs.queue.why_unfit.Goals as goal
 
 pub returns-then-branch : goal.returns-then-branch
-returns-then-branch c = halt_of c.args.calls.now c.args.at c.index-calls-at.result c.requires.within c.index-calls-at.is c.requires.can_run c.requires.halts
+returns-then-branch c = halt_of c.args.calls.now c.args.at c.index-calls-at.result c.requires.within c.index-calls-at.is c.requires.can_run
+    ((c.in_ok-can_stand.ensures c.index-calls-at.result refl).0 c.if-branch.true) c.requires.halts
 
 pub returns-else-branch : goal.returns-else-branch
 returns-else-branch c = stop_of c.args.calls.now c.args.at c.index-calls-at.result c.requires.within c.index-calls-at.is c.requires.can_run
