@@ -3,7 +3,9 @@ use Rattle.std.specs.Prelude.{◌≡◌, ◌≤◌, ◌⊎◌, ℕ, Bool, true, 
 use Rattle.std.specs.declared.alloc.Global.{Global}
 use Rattle.edn.specs.declared.refusal.Refusal.TheVariants.{NoMemory}
 use Rattle.clap.specs.declared.parser.matches.Found.{Found}
-use Rattle.clap.specs.Matches.{first_value, one_text}
+use Rattle.clap.specs.declared.parser.matches.ValueSource.{ValueSource}
+use Rattle.clap.specs.declared.parser.matches.ValueSource.TheVariants.{CommandLine}
+use Rattle.clap.specs.Matches.{first_value, matched_of, one_text}
 use Rattle.harness.specs.declared.config.Config.{Config}
 use Rattle.harness.specs.Setups.{IsSetup, setup_of}
 use Rattle.run_plans.specs.declared.options.JudgingTexts.{JudgingTexts}
@@ -13,6 +15,7 @@ use Rattle.run_plans.specs.declared.options.Misspelled.TheVariants.{Refused}
 use Rattle.run_plans.specs.Options.{default_run, default_setup, judging_spelled, number_within, run_spelled}
 use Rattle.command_line.specs.Stops.{IsStopBy, IsUsageFault}
 use Rattle.command_line.specs.declared.order.Stop.{Stop}
+use Rattle.command_line.specs.declared.order.Stop.TheVariants.{Refused as IsRefused}
 use Rattle.command_line.specs.declared.order.Order.{Order}
 use Rattle.command_line.specs.declared.order.Order.TheVariants.{Script, Check, Confirm, Run}
 
@@ -25,9 +28,15 @@ IsWithinLimits (Run config) =
     IsSetup (setup_of config) × (config.concurrency ≤ 63)
     × ((texts : RunTexts) × (run_spelled texts ≡ Ok (setup_of config)))
 
--- the first text that was found of the option, or this one where there is none
+-- the text, where it comes of the words
+abbrev pub if_given : Option ValueSource → Option (List ℕ) → Option (List ℕ)
+if_given (Some CommandLine) text = text
+if_given _ text = None
+
+-- the first text that the words give of the option, or this one where they give none
 abbrev pub text_found : Found → List ℕ → List ℕ → List ℕ
-text_found found id default = unwrap_or (first_value found id) default
+text_found found id default =
+    unwrap_or (if_given (option_and_then (λ a. a.source) (matched_of found id)) (first_value found id)) default
 
 -- the texts of the options by which a history is judged, where some others stand for those that are not given
 abbrev pub AreJudgingTexts : Found → JudgingTexts → JudgingTexts → Type 0
@@ -47,9 +56,9 @@ AreRunTexts found defaults texts =
     × (texts.mode.now ≡ text_found found (codes "mode") defaults.mode.now)
     × (texts.faults.now ≡ text_found found (codes "faults") defaults.faults.now)
 
--- how many workers the text of the option spells
+-- how many workers the text of the option spells; where the words give none it is one
 abbrev pub workers_found : Found → Option ℕ
-workers_found found = option_and_then (number_within 1 64) (first_value found (codes "workers"))
+workers_found found = number_within 1 64 (text_found found (codes "workers") (codes "1"))
 
 -- whether the flag was given, as far as what was found says it
 abbrev pub IsFlagFound : Found → List ℕ → Bool → Type 0
@@ -78,23 +87,27 @@ abbrev pub ScriptsAsFound : Found → Config → Result Order Stop → Type 0
 ScriptsAsFound found config result =
     (is_strict : Bool) × (result ≡ Ok (Script config is_strict)) × IsFlagFound found (codes "strict") is_strict
 
--- the file that was found is judged by this configuration, by so many workers; or there is a usage fault
+-- the file that was found is judged by this configuration, by so many workers; or there is a usage fault, where none was found, or
+-- the text of the workers spells no such number; or memory was refused
 abbrev pub ChecksAsFound : Found → Config → Result Order Stop → Type 0
 ChecksAsFound found config result =
     MatchResult result
     (λ order. (path : String Global) × (workers : ℕ) × (order ≡ Check path workers config)
     × (first_value found (codes "FILE") ≡ Some (string_bytes path))
     × (workers_found found ≡ Some workers))
-    IsUsageFault
+    (λ stop. (stop ≡ IsRefused NoMemory)
+    ⊎ (IsUsageFault stop × ((first_value found (codes "FILE") ≡ None) ⊎ (workers_found found ≡ None))))
 
--- the order that was found is to be shown of the history that was found, which is read by this configuration; or there is a usage fault
+-- the order that was found is to be shown of the history that was found, which is read by this configuration; or there is a usage
+-- fault, where one of the files was not found; or memory was refused
 abbrev pub ConfirmsAsFound : Found → Config → Result Order Stop → Type 0
 ConfirmsAsFound found config result =
     MatchResult result
     (λ order. (path order_path : String Global) × (order ≡ Confirm path order_path config.concurrency config.kind)
     × (first_value found (codes "FILE") ≡ Some (string_bytes path))
     × (first_value found (codes "ORDER") ≡ Some (string_bytes order_path)))
-    IsUsageFault
+    (λ stop. (stop ≡ IsRefused NoMemory)
+    ⊎ (IsUsageFault stop × ((first_value found (codes "FILE") ≡ None) ⊎ (first_value found (codes "ORDER") ≡ None))))
 
 -- clients run by the configuration that the texts of a run spell, or there is the stop by what they miss; or memory was
 -- refused, where they spell one

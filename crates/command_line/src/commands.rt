@@ -5,7 +5,11 @@ use clap::{Arg, ArgAction, Command};
 use run_plans::{JudgingTexts, RunTexts};
 use std::alloc::{AllocError, Global};
 
-// An option that takes a value; the help calls the value by the word `value`.
+/// How many workers judge where the words do not say it.
+pub(crate) const WORKERS: &str = "1";
+
+// An option that takes a value; the help calls the value by the word `value`, and shows the default. What is taken where none is
+// given is not said here: `order` says it.
 fn an_option<'a>(
     alloc: Global,
     name: &'static str,
@@ -86,7 +90,7 @@ fn check<'a>(alloc: Global) -> Result<Command<'a>, AllocError> {
         .after_help(help::STATUS)
         .after_long_help(help::CHECK_FORMS)
         .arg(file)?
-        .arg(a_number(alloc, "workers", "1", help::WORKERS))?;
+        .arg(a_number(alloc, "workers", WORKERS, help::WORKERS))?;
     with_settings(alloc, command, help::CONCURRENCY)
 }
 

@@ -60,16 +60,18 @@ pub fn status_of_stop<P: Print + Eprint, L: Onlooker>(
     ensures { (result ≡ 3) ⊎ ((result ≡ 0) × IsHelp stop.now) }
 {
     match stop {
-        Stop::Help(help) => match help.print(rt) {
-            Ok(()) => 0,
-            Err(_) => {
-                print_refusal(rt, alloc, &Refusal::WriteFailed, onlooker);
-                REFUSED
+        Stop::Words(error) => {
+            let printed = error.print(rt);
+            if error.use_stderr() {
+                return REFUSED;
             }
-        },
-        Stop::Usage(fault) => {
-            let _ = fault.print(rt);
-            REFUSED
+            match printed {
+                Ok(()) => 0,
+                Err(_) => {
+                    print_refusal(rt, alloc, &Refusal::WriteFailed, onlooker);
+                    REFUSED
+                }
+            }
         }
         Stop::Refused(refusal) => {
             print_refusal(rt, alloc, refusal, onlooker);

@@ -9,4 +9,4 @@ mod order;
 
 pub use exit_status::{say_unwritten, status_after, status_of_stop};
 pub use help::TYPED;
-pub use order::{Order, Stop, no_text, order_by, order_of};
+pub use order::{Order, Stop, no_text, order_by, order_of, stop_at};

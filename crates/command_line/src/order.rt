@@ -5,10 +5,11 @@ ghost use Rattle.harness.specs.declared.config.Config.{Config};
 ghost use Rattle.clap.specs.Words.{found_of, kind_of};
 ghost use Rattle.run_plans.specs.Options.{default_setup};
 ghost use Rattle.command_line.specs.Orders.{AfterJudging, AreJudgingTexts, AreRunTexts, ChecksAsFound, ConfirmsAsFound, IsWithinLimits, JudgesAsFound, RunsAsFound, ScriptsAsFound, text_found, workers_found};
-ghost use Rattle.command_line.specs.Stops.{IsStopBy, IsUsageFault};
+ghost use Rattle.command_line.specs.Stops.{IsRequest, IsStopBy, IsUsageFault};
 
 use crate::{commands, help};
 use clap::error::ErrorKind;
+use clap::parser::ValueSource;
 use clap::{ArgMatches, Command};
 use edn::Refusal;
 use harness::Config;
@@ -53,10 +54,8 @@ pub enum Order {
 /// Why there is no order.
 #[derive(Drop)]
 pub enum Stop {
-    /// Help or the version was asked for.
-    Help(clap::Error),
-    /// The words are none that the program knows.
-    Usage(clap::Error),
+    /// Help or the version was asked for; or the words are none that the program knows. The kind of the error tells which.
+    Words(clap::Error),
     /// A number is out of its limits, or memory was refused.
     Refused(Refusal),
 }
@@ -66,9 +65,9 @@ pub enum Stop {
 ///
 /// # Errors
 ///
-/// `Help` where help or the version is asked for. `Usage` for words that are none of the program's, for a value that is no
-/// number, for a model, a mode or faults of another name, and for a seed, a number of operations, of keys or of workers out
-/// of its limits. `Refused` for another number out of its limits: `BadBudget` first, then `BadConcurrency`, which `run` has
+/// `Words` where help or the version is asked for; for words that are none of the program's, for a value that is no number,
+/// for a model, a mode or faults of another name, and for a seed, a number of operations, of keys or of workers out of its
+/// limits. `Refused` for another number out of its limits: `BadBudget` first, then `BadConcurrency`, which `run` has
 /// above 63 too, then `NoSuchReplica`; and with `NoMemory` where memory is refused.
 pub fn order_of(alloc: Global, words: &[String]) -> Result<Order, Stop>
     ensures defaults { length words.now ≡ 0 → (config : Config)
@@ -195,7 +194,7 @@ fn workers_of(options: &ArgMatches) -> Option<u32>
     ensures found { result ≡ workers_found (found_of options.now) }
     ensures limits { IfSome result (λ workers. (1 ≤ workers) × (workers ≤ 64)) }
 {
-    workers_in(options.get_str("workers")?)
+    workers_in(text_or(options, "workers", commands::WORKERS))
 }
 
 // The order to run clients.
@@ -248,13 +247,14 @@ fn judging_texts<'a>(options: &ArgMatches<'a>, defaults: &JudgingTexts<'static>)
     }
 }
 
-// The text of an option, or this one where it has none.
+// The text that the words give of an option, or this one where they give none. What `clap` shows as the default in its help
+// is passed over.
 fn text_or<'a>(options: &ArgMatches<'a>, id: &str, default: &'static str) -> &'a str
     ensures { result.now ≡ text_found (found_of options.now) id.now default.now }
 {
-    match options.get_str(id) {
-        Some(text) => text,
-        None => default,
+    match (options.value_source(id), options.get_str(id)) {
+        (Some(ValueSource::CommandLine), Some(text)) => text,
+        _ => default,
     }
 }
 
@@ -283,7 +283,7 @@ fn taken_by(option: OptionName) -> &'static str {
     }
 }
 
-/// Why there is no order of words that are no text: `Usage`, or `Refused` with `NoMemory` where there is no memory to say
+/// Why there is no order of words that are no text: `Words`, or `Refused` with `NoMemory` where there is no memory to say
 /// it.
 pub fn no_text(alloc: Global) -> Stop
     ensures { IsUsageFault result }
@@ -309,14 +309,31 @@ fn usage(command: &mut Command, message: &str) -> Stop
     ensures { IsUsageFault result }
 {
     match command.error(ErrorKind::ValueValidation, message) {
-        Ok(error) => stop_of(error),
+        Ok(error) => fault_of(error),
         Err(_) => Stop::Refused(Refusal::NoMemory),
     }
 }
 
-// What an error in these words is to the program. Script takes no file, and says so where it was given one; and so does the
-// program where the name of a file stands in place of a command.
-fn stop_at(alloc: Global, words: &[String], error: clap::Error) -> Stop {
+/// What an error in these words is to the program: itself, where help or the version is asked for; else a usage fault.
+///
+/// Script takes no file, and says so where it was given one; and so does the program where the name of a file stands in place of
+/// a command. It takes memory for what it says.
+pub fn stop_at(alloc: Global, words: &[String], error: clap::Error) -> Stop
+    ensures asked { IsRequest (kind_of error) → result ≡ Stop.Words error }
+    ensures fault { (¬ IsRequest (kind_of error)) → IsUsageFault result }
+{
+    if error.use_stderr() {
+        fault_at(alloc, words, error)
+    } else {
+        Stop::Words(error)
+    }
+}
+
+// The usage fault that an error in these words is.
+fn fault_at(alloc: Global, words: &[String], error: clap::Error) -> Stop
+    requires { ¬ IsRequest (kind_of error) }
+    ensures { IsUsageFault result }
+{
     if error.kind() == ErrorKind::UnknownArgument && is_script_with_file(words) {
         return usage_of(alloc, "script", help::NO_FILE);
     }
@@ -324,7 +341,7 @@ fn stop_at(alloc: Global, words: &[String], error: clap::Error) -> Stop {
         Some(first) if error.kind() == ErrorKind::InvalidSubcommand && is_path(first) => {
             path_alone(alloc, first)
         }
-        _ => stop_of(error),
+        _ => fault_of(error),
     }
 }
 
@@ -334,7 +351,9 @@ fn is_path(word: &str) -> bool {
 }
 
 // The usage fault of a path where a command must stand.
-fn path_alone(alloc: Global, path: &str) -> Stop {
+fn path_alone(alloc: Global, path: &str) -> Stop
+    ensures { IsUsageFault result }
+{
     let Ok(message) = format!(in alloc; "{path} is no command; jepmon check {path} judges it")
     else {
         return Stop::Refused(Refusal::NoMemory);
@@ -358,17 +377,15 @@ fn is_script_with_file(words: &[String]) -> bool {
         })
 }
 
-// What an error of the command line is to the program.
-fn stop_of(error: clap::Error) -> Stop
-    ensures { kind_of error ≡ ErrorKind.ValueValidation → IsUsageFault result }
+// The usage fault that an error is; or want of memory.
+fn fault_of(error: clap::Error) -> Stop
+    requires { ¬ IsRequest (kind_of error) }
+    ensures { IsUsageFault result }
 {
     if error.kind() == ErrorKind::OutOfMemory {
-        return Stop::Refused(Refusal::NoMemory);
-    }
-    if error.use_stderr() {
-        Stop::Usage(error)
+        Stop::Refused(Refusal::NoMemory)
     } else {
-        Stop::Help(error)
+        Stop::Words(error)
     }
 }
 
