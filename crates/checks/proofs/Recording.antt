@@ -103,10 +103,25 @@ checks setup left left' read_failed before after write_failed is_flushed status 
   told = tells;
 }
 
--- a reader that could not be begun
-pub checks_none : (setup : Setup) (before after : Option (List ℕ)) (write_failed is_flushed : Bool) (status : ℕ) (told : Findings) → StandsFor told (Refused ReadFailed) → IsTold told before after write_failed is_flushed status
-    → Checks setup None None true before after write_failed is_flushed status
-checks_none setup before after write_failed is_flushed status told which tells = checks setup None None true before after write_failed is_flushed status [] tt (Refused ReadFailed) (inr (inl (refl, refl))) told which tells
+-- nothing is read
+pub reads_none : (left : Option (List ℕ)) → Consumes left left []
+reads_none None = tt
+reads_none (Some l) = refl
+
+-- a file that could not be opened
+pub checks_none : (setup : Setup) (held before after : Option (List ℕ)) (write_failed is_flushed : Bool) (status : ℕ) (told : Findings) → StandsFor told (Refused ReadFailed) → IsTold told before after write_failed is_flushed status
+    → Checks setup held held true before after write_failed is_flushed status
+checks_none setup held before after write_failed is_flushed status told which tells = checks setup held held true before after write_failed is_flushed status [] (reads_none held) (Refused ReadFailed) (inr (inl (refl, refl))) told which tells
+
+-- what is read of a file that was opened is what it holds, where that is known
+pub consumes_held : (held left left' : Option (List ℕ)) (input : List ℕ) → IfSome held (λ bytes. left ≡ Some bytes) → Consumes left left' input → Consumes held left' input
+consumes_held None left left' input is read = tt
+consumes_held (Some bytes) left left' input is read = subst (λ l. Consumes l left' input) is read
+
+pub checks_held : (setup : Setup) (held left left' : Option (List ℕ)) (read_failed : Bool) (before after : Option (List ℕ)) (write_failed is_flushed : Bool) (status : ℕ) → IfSome held (λ bytes. left ≡ Some bytes)
+    → Checks setup left left' read_failed before after write_failed is_flushed status → Checks setup held left' read_failed before after write_failed is_flushed status
+checks_held setup held left left' read_failed before after write_failed is_flushed status is c =
+    record { input = c.input; read = consumes_held held left left' c.input is c.read; findings = c.findings; found = c.found; told = c.told }
 
 -- elements that are pushed, in turn
 pub PushesAll-more : (c : ℕ) (old : List Event) (vs : Values) (mid new : List Event) (v : Value) → PushesAll c old vs mid → PushesElement c mid v new → PushesAll c old (joined vs (more v none)) new

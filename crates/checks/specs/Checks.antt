@@ -47,7 +47,7 @@ pub record Checks (setup : Setup) (left left' : Option (List ℕ)) (read_failed 
   pub found : IsFound setup input left' read_failed findings
   pub told : IsTold findings before after write_failed is_flushed status
 
--- a check of what had left, however much it has after it, and whether it has failed or not
-abbrev pub ChecksInput : Setup → Option (List ℕ) → Option (List ℕ) → Option (List ℕ) → Bool → Bool → ℕ → Type 0
-ChecksInput setup left before after write_failed is_flushed status =
-    (left' : Option (List ℕ)) × (read_failed : Bool) × Checks setup left left' read_failed before after write_failed is_flushed status
+-- a check of a file that holds these bytes, where that is known, however much of them was read, and whether a read failed or not
+abbrev pub ChecksFile : Setup → Option (List ℕ) → Option (List ℕ) → Option (List ℕ) → Bool → Bool → ℕ → Type 0
+ChecksFile setup held before after write_failed is_flushed status =
+    (left : Option (List ℕ)) × (read_failed : Bool) × Checks setup held left read_failed before after write_failed is_flushed status

@@ -74,6 +74,11 @@ ComesTo setup bytes (Judged verdict text) = IsSetup setup × ((end : Machine) ×
 ComesTo setup bytes (RefusedEvent i why) = IsSetup setup × IsRefusedAt setup bytes i why
 ComesTo setup bytes (Refused why) = (IsSetup setup × IsWhy bytes why) ⊎ MayNotOpen setup why
 
+-- a verdict was found, and the report
+abbrev pub IsJudged : Findings → Type 0
+IsJudged (Judged verdict text) = Unit {0}
+IsJudged _ = ⊥
+
 -- the line of an event that is refused
 abbrev pub event_line : ℕ → Refusal → List ℕ
 event_line i why = line_of (codes "refused " ∷ decimal (number_of why) ∷ codes " " ∷ name_of why ∷ codes " event " ∷ decimal i ∷ [])

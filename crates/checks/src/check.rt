@@ -1,9 +1,10 @@
 //! A recorded history, from its bytes to the text that says what it comes to.
-ghost use Rattle.std.specs.Prelude.{◌≡◌, ◌≤◌, None, false};
+ghost use Rattle.std.specs.Prelude.{◌≡◌, ◌≤◌, false};
 ghost use Rattle.checks.specs.declared.recorded.Findings.{Findings};
 ghost use Rattle.harness.specs.Setups.{setup_of};
-ghost use Rattle.checks.specs.Checks.{Checks, ChecksInput, IsTold, StandsFor};
+ghost use Rattle.checks.specs.Checks.{Checks, ChecksFile, IsTold, StandsFor};
 
+use crate::opening::Opens;
 use crate::recorded::{Findings, event_text, judge_text};
 use crate::telling::{put_refusal, put_refused, put_text, status_of_verdict};
 use edn::Refusal;
@@ -11,11 +12,10 @@ use harness::Config;
 use line_loop::{Failed, Flushes, Watched, read_whole};
 use onlookers::Onlooker;
 use std::alloc::Global;
-use std::fs::Files;
+use std::io;
 use std::io::{Read, Write};
 use std::sync::Wait;
 use std::thread::Threads;
-use std::{fs, io};
 
 /// Reads a recorded history to its end, judges it, writes what it comes to, and gives the exit status.
 ///
@@ -60,8 +60,9 @@ pub fn check_text<
 }
 
 /// Judges the recorded history in a file: [`check_text`] of what the file has, with the same status, cost and waiting. A
-/// file that can't be opened is told as `ReadFailed`, with status 3.
-pub fn check_file<X: Wait + Threads + Files + Sync, W: Write + Failed + Flushes, L: Onlooker>(
+/// file that can't be opened is told as `ReadFailed`, with status 3. The onlooker is told of each read, and of one that fails with
+/// the path.
+pub fn check_file<X: Wait + Threads + Opens + Sync, W: Write + Failed + Flushes, L: Onlooker>(
     rt: &X,
     alloc: Global,
     path: &str,
@@ -72,12 +73,19 @@ pub fn check_file<X: Wait + Threads + Files + Sync, W: Write + Failed + Flushes,
 ) -> u8
     requires writes { W.has_failed writer.old ≡ false }
     requires workers { (1 ≤ workers) × (workers ≤ 64) }
-    // What a file has is not known.
-    ensures { ChecksInput (setup_of config) None (W.contents writer.old) (W.contents writer.new)
+    ensures { ChecksFile (setup_of config) (X.holds rt.now path.now)
+        (W.contents writer.old) (W.contents writer.new)
         (W.has_failed writer.new) (W.is_flushed writer.new) result }
 {
-    match fs::open(rt, path) {
-        Ok(file) => check_input(rt, alloc, file, path, config, workers, writer, onlooker),
+    match rt.opened(path) {
+        Ok(file) => {
+            let mut reader = SeenFile {
+                file: Watched::new(file),
+                path,
+                onlooker,
+            };
+            check_text(rt, alloc, config, workers, &mut reader, writer, onlooker)
+        }
         Err(reason) => {
             onlooker.unread(path, &reason);
             onlooker.refused(&Refusal::ReadFailed);
@@ -86,43 +94,20 @@ pub fn check_file<X: Wait + Threads + Files + Sync, W: Write + Failed + Flushes,
     }
 }
 
-/// Judges the recorded history that a reader has: [`check_text`] of that, with the same status, cost and waiting. The onlooker
-/// is told of each read, and of one that fails with this name of the input.
-pub fn check_input<
-    X: Wait + Threads + Sync,
-    R: Read + Drop,
-    W: Write + Failed + Flushes,
-    L: Onlooker,
->(
-    rt: &X,
-    alloc: Global,
-    file: R,
-    path: &str,
-    config: Config,
-    workers: u32,
-    writer: &mut W,
-    onlooker: &L,
-) -> u8
-    requires writes { W.has_failed writer.old ≡ false }
-    requires workers { (1 ≤ workers) × (workers ≤ 64) }
-    ensures { ChecksInput (setup_of config) (R.remaining file)
-        (W.contents writer.old) (W.contents writer.new)
-        (W.has_failed writer.new) (W.is_flushed writer.new) result }
-{
-    let mut reader = Watched::new(SeenFile {
-        file,
-        path,
-        onlooker,
-    });
-    check_text(rt, alloc, config, workers, &mut reader, writer, onlooker)
-}
-
-/// A file, at whose reads somebody looks on, who is told of one that fails by this path.
+/// A reader, at whose reads somebody looks on, who is told of one that fails by this name of what is read.
 #[derive(Drop)]
 pub struct SeenFile<'a, R, L> {
     pub file: R,
     pub path: &'a str,
     pub onlooker: &'a L,
+}
+
+impl<'a, R: Failed, L> Failed for SeenFile<'a, R, L> {
+    ghost has_failed = { λ seen. R.has_failed seen.file };
+
+    fn failed(&self) -> bool {
+        self.file.failed()
+    }
 }
 
 impl<'a, R: Read, L: Onlooker> Read for SeenFile<'a, R, L> {

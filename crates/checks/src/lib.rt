@@ -8,11 +8,15 @@
 #![tactic(auto)]
 
 mod check;
+mod laws;
+mod opening;
 mod reading;
 mod recorded;
 mod telling;
 
-pub use check::{SeenFile, check_file, check_input, check_text};
+pub use check::{SeenFile, check_file, check_text};
+pub use laws::one_report;
+pub use opening::Opens;
 pub use reading::read_events;
 pub use recorded::{Findings, event_text, judge_text};
 pub use telling::{REFUSED, put_refused, put_text, status_of_verdict};

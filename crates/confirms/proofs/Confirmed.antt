@@ -1,16 +1,12 @@
 -- what two readers came to, and what was told of it
-use Rattle.std.proofs.Common.{◌≡◌, ◌≢◌, ℕ, inr, ⊎_elim, Bool, false, Option, Some, None, List, [], refl, sym, subst}
+use Rattle.std.proofs.Common.{◌≡◌, ◌≢◌, ℕ, inr, ⊎_elim, Bool, false, Option, Some, IfSome, List, sym, subst}
 use Rattle.std.specs.Io.KnownBytes.{Consumes}
 use Rattle.edn.specs.declared.refusal.Refusal.TheVariants.{ReadFailed}
 use Rattle.models.specs.declared.model_kind.ModelKind.{ModelKind}
+use Rattle.checks.proofs.Recording.{consumes_held}
 use Rattle.confirms.specs.declared.found.Found.{Found}
 use Rattle.confirms.specs.declared.found.Found.TheVariants.{Refused, RefusedOrder}
 use Rattle.confirms.specs.Confirms.{Confirms, Input, IsFound, IsTold, StandsFor}
-
--- nothing is read
-pub reads_none : (left : Option (List ℕ)) → Consumes left left []
-reads_none None = tt
-reads_none (Some l) = refl
 
 module _ (c : ℕ) (kind : ModelKind) (history order : Input) where
   -- neither has failed, where it is not said that one has
@@ -39,4 +35,33 @@ module _ (c : ℕ) (kind : ModelKind) (left left' : Option (List ℕ)) (read_fai
     found = told;
     is_found = found_told c kind (record { bytes = input; left = left'; has_failed = read_failed }) (record { bytes = order; left = order_left'; has_failed = order_failed }) found told is which;
     told = tells;
+  }
+
+-- of files, whose bytes are what they hold, where that is known
+module _ (c : ℕ) (kind : ModelKind) (held left left' : Option (List ℕ)) (read_failed : Bool) (order_held order_left order_left' : Option (List ℕ)) (order_failed : Bool)
+    (before after : Option (List ℕ)) (write_failed is_flushed : Bool) (status : ℕ) where
+  pub confirms_held : IfSome order_held (λ bytes. order_left ≡ Some bytes)
+      → Confirms c kind left left' read_failed order_left order_left' order_failed before after write_failed is_flushed status
+      → Confirms c kind left left' read_failed order_held order_left' order_failed before after write_failed is_flushed status
+  confirms_held is k = record {
+    input = k.input;
+    read = k.read;
+    order = k.order;
+    order_read = consumes_held order_held order_left order_left' k.order is k.order_read;
+    found = k.found;
+    is_found = k.is_found;
+    told = k.told;
+  }
+
+  pub confirms_files : IfSome held (λ bytes. left ≡ Some bytes)
+      → Confirms c kind left left' read_failed order_held order_left' order_failed before after write_failed is_flushed status
+      → Confirms c kind held left' read_failed order_held order_left' order_failed before after write_failed is_flushed status
+  confirms_files is k = record {
+    input = k.input;
+    read = consumes_held held left left' k.input is k.read;
+    order = k.order;
+    order_read = k.order_read;
+    found = k.found;
+    is_found = k.is_found;
+    told = k.told;
   }

@@ -1,5 +1,5 @@
 -- Promise: what is read of a recorded history and of an order, found and said (this project's own)
-use Rattle.std.specs.Prelude.{◌≡◌, ◌≢◌, ℕ, Bool, true, false, List, Option, None, ◌⊎◌}
+use Rattle.std.specs.Prelude.{◌≡◌, ◌≢◌, ℕ, Bool, true, false, List, Option, ◌⊎◌}
 use Rattle.std.specs.Io.KnownBytes.{Consumes, IsAtEnd}
 use Rattle.edn.specs.declared.refusal.Refusal.TheVariants.{NoMemory, ReadFailed}
 use Rattle.models.specs.declared.model_kind.ModelKind.{ModelKind}
@@ -47,9 +47,15 @@ pub record Confirms (c : ℕ) (kind : ModelKind) (left left' : Option (List ℕ)
   pub is_found : IsFound c kind (record { bytes = input; left = left'; has_failed = read_failed }) (record { bytes = order; left = order_left'; has_failed = order_failed }) found
   pub told : IsTold found before after write_failed is_flushed status
 
--- the same of a history that had left, and of an order of which nothing is known, however much they have after it, and whether they
--- have failed or not
-abbrev pub ConfirmsInput : ℕ → ModelKind → Option (List ℕ) → Option (List ℕ) → Option (List ℕ) → Bool → Bool → ℕ → Type 0
-ConfirmsInput c kind left before after write_failed is_flushed status =
-    (left' : Option (List ℕ)) × (read_failed : Bool) × ((order_left' : Option (List ℕ)) × (order_failed : Bool)
-    × Confirms c kind left left' read_failed None order_left' order_failed before after write_failed is_flushed status)
+-- the same of a reader of a history, and of an order in a file that holds these bytes, where that is known, however much of them
+-- was read, and whether a read failed or not
+abbrev pub ConfirmsInput : ℕ → ModelKind → Option (List ℕ) → Option (List ℕ) → Bool → Option (List ℕ) → Option (List ℕ) → Option (List ℕ) → Bool → Bool → ℕ → Type 0
+ConfirmsInput c kind left left' read_failed order_held before after write_failed is_flushed status =
+    (order_left : Option (List ℕ)) × (order_failed : Bool)
+    × Confirms c kind left left' read_failed order_held order_left order_failed before after write_failed is_flushed status
+
+-- the same of two files
+abbrev pub ConfirmsFiles : ℕ → ModelKind → Option (List ℕ) → Option (List ℕ) → Option (List ℕ) → Option (List ℕ) → Bool → Bool → ℕ → Type 0
+ConfirmsFiles c kind held order_held before after write_failed is_flushed status =
+    (left : Option (List ℕ)) × (read_failed : Bool)
+    × ConfirmsInput c kind held left read_failed order_held before after write_failed is_flushed status

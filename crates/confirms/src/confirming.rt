@@ -1,17 +1,15 @@
 //! An order of a recorded history, from the bytes of both to the line that says what the order shows.
-ghost use Rattle.std.specs.Prelude.{◌≡◌, None, false};
-ghost use Rattle.confirms.specs.Confirms.{Confirms, ConfirmsInput};
+ghost use Rattle.std.specs.Prelude.{◌≡◌, false};
+ghost use Rattle.confirms.specs.Confirms.{Confirms, ConfirmsFiles, ConfirmsInput};
 
 use crate::found::{Found, confirm_bytes, refused_order};
 use crate::telling::tell;
-use checks::SeenFile;
+use checks::{Opens, SeenFile};
 use edn::Refusal;
 use line_loop::{Failed, Flushes, Watched, read_whole};
 use models::ModelKind;
 use onlookers::Onlooker;
 use std::alloc::Global;
-use std::fs;
-use std::fs::Files;
 use std::io::{Read, Write};
 use std::sync::Wait;
 
@@ -76,8 +74,9 @@ pub fn confirm_text<
 }
 
 /// Reads a recorded history and an order of its operations from two files: [`confirm_text`] of what they have, with the same
-/// status, cost and waiting. A file that can't be opened is told as `ReadFailed`, with status 3.
-pub fn confirm_file<X: Wait + Files, W: Write + Failed + Flushes, L: Onlooker>(
+/// status, cost and waiting. A file that can't be opened is told as `ReadFailed`, with status 3. The onlooker is told of each
+/// read, and of one that fails with the path.
+pub fn confirm_file<X: Wait + Opens, W: Write + Failed + Flushes, L: Onlooker>(
     rt: &X,
     alloc: Global,
     path: &str,
@@ -88,22 +87,28 @@ pub fn confirm_file<X: Wait + Files, W: Write + Failed + Flushes, L: Onlooker>(
     onlooker: &L,
 ) -> u8
     requires writes { W.has_failed writer.old ≡ false }
-    // What files have is not known.
-    ensures { ConfirmsInput concurrency kind None (W.contents writer.old) (W.contents writer.new)
+    ensures { ConfirmsFiles concurrency kind (X.holds rt.now path.now) (X.holds rt.now order_path.now)
+        (W.contents writer.old) (W.contents writer.new)
         (W.has_failed writer.new) (W.is_flushed writer.new) result }
 {
-    match fs::open(rt, path) {
-        Ok(file) => confirm_input(
-            rt,
-            alloc,
-            file,
-            path,
-            order_path,
-            concurrency,
-            kind,
-            writer,
-            onlooker,
-        ),
+    match rt.opened(path) {
+        Ok(file) => {
+            let mut reader = SeenFile {
+                file: Watched::new(file),
+                path,
+                onlooker,
+            };
+            confirm_input(
+                rt,
+                alloc,
+                &mut reader,
+                order_path,
+                concurrency,
+                kind,
+                writer,
+                onlooker,
+            )
+        }
         Err(reason) => {
             onlooker.unread(path, &reason);
             onlooker.refused(&Refusal::ReadFailed);
@@ -113,41 +118,43 @@ pub fn confirm_file<X: Wait + Files, W: Write + Failed + Flushes, L: Onlooker>(
 }
 
 /// Reads a recorded history from a reader and an order of its operations from a file: [`confirm_text`] of what they have, with
-/// the same status, cost and waiting. The onlooker is told of each read, and of one that fails with the name of what is read.
-pub fn confirm_input<X: Wait + Files, R: Read + Drop, W: Write + Failed + Flushes, L: Onlooker>(
+/// the same status, cost and waiting. The onlooker is told of each read of the file, and of one that fails with its path.
+pub fn confirm_input<
+    X: Wait + Opens,
+    R: Read + Failed,
+    W: Write + Failed + Flushes,
+    L: Onlooker,
+>(
     rt: &X,
     alloc: Global,
-    file: R,
-    path: &str,
+    reader: &mut R,
     order_path: &str,
     concurrency: u32,
     kind: ModelKind,
     writer: &mut W,
     onlooker: &L,
 ) -> u8
+    requires reads { R.has_failed reader.old ≡ false }
     requires writes { W.has_failed writer.old ≡ false }
-    ensures { ConfirmsInput concurrency kind (R.remaining file)
+    ensures { ConfirmsInput concurrency kind
+        (R.remaining reader.old) (R.remaining reader.new) (R.has_failed reader.new)
+        (X.holds rt.now order_path.now)
         (W.contents writer.old) (W.contents writer.new)
         (W.has_failed writer.new) (W.is_flushed writer.new) result }
 {
-    match fs::open(rt, order_path) {
-        Ok(order_file) => {
-            let mut reader = Watched::new(SeenFile {
-                file,
-                path,
-                onlooker,
-            });
-            let mut order = Watched::new(SeenFile {
-                file: order_file,
+    match rt.opened(order_path) {
+        Ok(file) => {
+            let mut order = SeenFile {
+                file: Watched::new(file),
                 path: order_path,
                 onlooker,
-            });
+            };
             confirm_text(
                 rt,
                 alloc,
                 concurrency,
                 kind,
-                &mut reader,
+                reader,
                 &mut order,
                 writer,
                 onlooker,

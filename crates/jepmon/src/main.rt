@@ -10,9 +10,12 @@ ghost use Rattle.command_line.specs.Orders.{IsWithinLimits};
 mod orders;
 mod run_line;
 
-use command_line::{Order, Stop, no_text, order_of, status_of_stop};
+use checks::SeenFile;
+use command_line::{Order, Stop, no_text, order_of};
 use edn::Refusal;
+use line_loop::Watched;
 use onlookers::OnStandardError;
+use orders::{INPUT, ended};
 use std::alloc::{AllocError, Global};
 use std::env;
 use std::env::Args;
@@ -43,50 +46,11 @@ fn main(rt: HostRuntime) -> ExitCode {
     let alloc: Global = rt.alloc();
     let aside = OnStandardError::new(&rt, rt.stderr().is_terminal());
     let input = rt.stdin();
-    let output = rt.stdout();
-    let status = match order_given(&rt) {
-        Ok(Order::Script { config, is_strict }) => {
-            let is_typed = input.is_terminal();
-            orders::script(
-                &rt, alloc, config, is_strict, input, is_typed, output, &aside,
-            )
-        }
-        Ok(
-            Order::Check {
-                path,
-                workers,
-                config,
-            },
-        ) => orders::check(
-            &rt,
-            alloc,
-            path.as_str(),
-            workers,
-            config,
-            input,
-            output,
-            &aside,
-        ),
-        Ok(
-            Order::Confirm {
-                path,
-                order_path,
-                concurrency,
-                kind,
-            },
-        ) => orders::confirm(
-            &rt,
-            alloc,
-            path.as_str(),
-            order_path.as_str(),
-            concurrency,
-            kind,
-            input,
-            output,
-            &aside,
-        ),
-        Ok(Order::Run(config)) => orders::run(&rt, alloc, config, output, &aside),
-        Err(stop) => status_of_stop(&rt, alloc, &stop, &aside),
+    let mut reader = SeenFile {
+        file: Watched::new(rt.stdin()),
+        path: INPUT,
+        onlooker: &aside,
     };
-    ExitCode::from(status)
+    let mut writer = Watched::new(rt.stdout());
+    ended(&rt, alloc, order_given(&rt), &input, &mut reader, &mut writer, &aside)
 }

@@ -1,24 +1,29 @@
 //! Orders, carried out: what each of them reads and writes, and the exit status that comes of it.
-ghost use Rattle.std.specs.Prelude.{◌≤◌};
+ghost use Rattle.std.specs.Prelude.{◌≡◌, ◌≤◌, None, false, IfOk};
+ghost use Rattle.std.specs.Process.{exit_status};
+ghost use Rattle.harness.specs.Setups.{setup_of};
+ghost use Rattle.command_line.specs.Orders.{IsWithinLimits};
+ghost use Rattle.jepmon.specs.Ends.{EndsAs, IsARun, IsCheck, IsConfirmation, IsScript};
 
 use crate::run_line::RunLine;
-use checks::{check_file, check_input};
-use command_line::{TYPED, say_unwritten, status_after};
+use checks::{Opens, SeenFile, check_file, check_text};
+use command_line::{Order, Stop, TYPED, say_unwritten, status_after, status_of_stop};
 use confirms::{confirm_file, confirm_input};
 use harness::Config;
-use line_loop::Watched;
+use line_loop::{Failed, Flushes, ReadsBeside};
 use models::ModelKind;
 use onlookers::OnStandardError;
 use runs::run_store;
 use scripts::run_script;
 use std::alloc::Global;
-use std::fs::Files;
-use std::io::{Eprint, Read, Write};
+use std::io::{Eprint, IsTerminal, Print, Read, Write};
+use std::process::ExitCode;
 use std::rt::Clock;
 use std::sync::Wait;
 use std::thread::Threads;
 
-const INPUT: &str = "standard input";
+/// What standard input is called, where a read of it fails.
+pub const INPUT: &str = "standard input";
 
 // Says how to go on, where somebody at a terminal has to type what the program reads.
 fn greet<R: Eprint>(rt: &R, is_terminal: bool) {
@@ -27,85 +32,135 @@ fn greet<R: Eprint>(rt: &R, is_terminal: bool) {
     }
 }
 
-/// Answers the lines of the input. Says how to go on, where somebody at a terminal has to type them.
-pub fn script<'a, X: Wait + Clock + Eprint, I: Read + Drop, O: Write + Drop>(
+/// Answers the lines of the reader. Says how to go on, where somebody at a terminal has to type them.
+pub fn script<
+    'a,
+    X: Wait + Clock + Eprint,
+    R: ReadsBeside<W>,
+    W: Write + Failed + Flushes,
+>(
     rt: &X,
     alloc: Global,
     config: Config,
     is_strict: bool,
-    input: I,
+    reader: &mut R,
     is_typed: bool,
-    output: O,
+    writer: &mut W,
     aside: &OnStandardError<'a, X>,
-) -> u8 {
+) -> u8
+    requires reads { R.has_failed reader.old ≡ false }
+    requires writes { W.has_failed writer.old ≡ false }
+    ensures { IsScript (setup_of config) is_strict
+        (record {
+          had = R.remaining reader.old;
+          left = R.remaining reader.new;
+          log_before = R.log reader.old;
+          log_after = R.log reader.new;
+          has_failed = R.has_failed reader.new;
+        })
+        (record {
+          before = W.contents writer.old;
+          after = W.contents writer.new;
+          has_failed = W.has_failed writer.new;
+          is_flushed = W.is_flushed writer.new;
+        })
+        result }
+{
     greet(rt, is_typed);
-    let mut reader = Watched::new(input);
-    let mut writer = Watched::new(output);
-    let outcome = run_script(
-        rt,
-        alloc,
-        config,
-        is_strict,
-        &mut reader,
-        &mut writer,
-        aside,
-    );
+    let outcome = run_script(rt, alloc, config, is_strict, reader, writer, aside);
     aside.end();
     status_after(rt, alloc, outcome, aside)
 }
 
-/// Judges the history of a file; of the input, where the path is `-`.
+/// Judges the history of a file; of the reader, where the path is `-`.
 pub fn check<
     'a,
-    X: Wait + Threads + Files + Sync + Clock + Eprint,
-    I: Read + Drop,
-    O: Write + Drop,
+    X: Wait + Threads + Opens + Sync + Clock + Eprint,
+    R: Read + Failed,
+    W: Write + Failed + Flushes,
 >(
     rt: &X,
     alloc: Global,
     path: &str,
     workers: u32,
     config: Config,
-    input: I,
-    output: O,
+    reader: &mut R,
+    writer: &mut W,
     aside: &OnStandardError<'a, X>,
 ) -> u8
-    requires { (1 ≤ workers) × (workers ≤ 64) }
+    requires reads { R.has_failed reader.old ≡ false }
+    requires writes { W.has_failed writer.old ≡ false }
+    requires workers { (1 ≤ workers) × (workers ≤ 64) }
+    ensures { IsCheck (X.holds rt.now) path.now (setup_of config)
+        (record {
+          had = R.remaining reader.old;
+          left = R.remaining reader.new;
+          log_before = None;
+          log_after = None;
+          has_failed = R.has_failed reader.new;
+        })
+        (record {
+          before = W.contents writer.old;
+          after = W.contents writer.new;
+          has_failed = W.has_failed writer.new;
+          is_flushed = W.is_flushed writer.new;
+        })
+        result }
 {
-    let mut writer = Watched::new(output);
     let status = if path == "-" {
-        check_input(rt, alloc, input, INPUT, config, workers, &mut writer, aside)
+        check_text(rt, alloc, config, workers, reader, writer, aside)
     } else {
-        check_file(rt, alloc, path, config, workers, &mut writer, aside)
+        check_file(rt, alloc, path, config, workers, writer, aside)
     };
     aside.end();
-    say_unwritten(rt, alloc, &writer, aside);
+    say_unwritten(rt, alloc, writer, aside);
     status
 }
 
-/// Says what an order of operations shows of the history of a file; of that of the input, where the path is `-`.
-pub fn confirm<'a, X: Wait + Files + Clock + Eprint, I: Read + Drop, O: Write + Drop>(
+/// Says what an order of operations shows of the history of a file; of that of the reader, where the path is `-`.
+pub fn confirm<
+    'a,
+    X: Wait + Opens + Clock + Eprint,
+    R: Read + Failed,
+    W: Write + Failed + Flushes,
+>(
     rt: &X,
     alloc: Global,
     path: &str,
     order_path: &str,
     concurrency: u32,
     kind: ModelKind,
-    input: I,
-    output: O,
+    reader: &mut R,
+    writer: &mut W,
     aside: &OnStandardError<'a, X>,
-) -> u8 {
-    let mut writer = Watched::new(output);
+) -> u8
+    requires reads { R.has_failed reader.old ≡ false }
+    requires writes { W.has_failed writer.old ≡ false }
+    ensures { IsConfirmation (X.holds rt.now) path.now order_path.now concurrency kind
+        (record {
+          had = R.remaining reader.old;
+          left = R.remaining reader.new;
+          log_before = None;
+          log_after = None;
+          has_failed = R.has_failed reader.new;
+        })
+        (record {
+          before = W.contents writer.old;
+          after = W.contents writer.new;
+          has_failed = W.has_failed writer.new;
+          is_flushed = W.is_flushed writer.new;
+        })
+        result }
+{
     let status = if path == "-" {
         confirm_input(
             rt,
             alloc,
-            input,
-            INPUT,
+            reader,
             order_path,
             concurrency,
             kind,
-            &mut writer,
+            writer,
             aside,
         )
     } else {
@@ -116,27 +171,124 @@ pub fn confirm<'a, X: Wait + Files + Clock + Eprint, I: Read + Drop, O: Write + 
             order_path,
             concurrency,
             kind,
-            &mut writer,
+            writer,
             aside,
         )
     };
     aside.end();
-    say_unwritten(rt, alloc, &writer, aside);
+    say_unwritten(rt, alloc, writer, aside);
     status
 }
 
 /// Runs clients against a store in the process.
-pub fn run<'a, X: Wait + Threads + Sync + Clock + Eprint, O: Write + Drop>(
+pub fn run<'a, X: Wait + Threads + Sync + Clock + Eprint, W: Write + Failed + Flushes>(
     rt: &X,
     alloc: Global,
     config: Config,
-    output: O,
+    writer: &mut W,
     aside: &OnStandardError<'a, X>,
-) -> u8 {
-    let mut writer = Watched::new(output);
+) -> u8
+    requires { W.has_failed writer.old ≡ false }
+    ensures { IsARun (setup_of config)
+        (record {
+          before = W.contents writer.old;
+          after = W.contents writer.new;
+          has_failed = W.has_failed writer.new;
+          is_flushed = W.is_flushed writer.new;
+        })
+        result }
+{
     let line = RunLine::new(aside.moving_line());
-    let status = run_store(rt, alloc, config, &mut writer, aside, line);
+    let status = run_store(rt, alloc, config, writer, aside, line);
     aside.end();
-    say_unwritten(rt, alloc, &writer, aside);
+    say_unwritten(rt, alloc, writer, aside);
     status
+}
+
+/// Carries out what the words asked for, and gives the exit status: the order, of which standard input is this reader and standard
+/// output this writer; or what stands in place of an order. Whether somebody has to type the input, its handle says.
+pub fn ended<
+    'a,
+    'b,
+    X: Wait + Threads + Opens + Sync + Clock + Print + Eprint,
+    T: IsTerminal,
+    R: ReadsBeside<W>,
+    W: Write + Failed + Flushes,
+>(
+    rt: &X,
+    alloc: Global,
+    given: Result<Order, Stop>,
+    input: &T,
+    reader: &mut SeenFile<'b, R, OnStandardError<'a, X>>,
+    writer: &mut W,
+    aside: &OnStandardError<'a, X>,
+) -> ExitCode
+    requires reads { R.has_failed reader.old.file ≡ false }
+    requires writes { W.has_failed writer.old ≡ false }
+    requires within { IfOk given IsWithinLimits }
+    ensures { EndsAs (X.holds rt.now) given
+        (record {
+          had = R.remaining reader.old.file;
+          left = R.remaining reader.new.file;
+          log_before = R.log reader.old.file;
+          log_after = R.log reader.new.file;
+          has_failed = R.has_failed reader.new.file;
+        })
+        (record {
+          before = W.contents writer.old;
+          after = W.contents writer.new;
+          has_failed = W.has_failed writer.new;
+          is_flushed = W.is_flushed writer.new;
+        })
+        (exit_status result) }
+{
+    let status = match given {
+        Ok(Order::Script { config, is_strict }) => script(
+            rt,
+            alloc,
+            config,
+            is_strict,
+            &mut reader.file,
+            input.is_terminal(),
+            writer,
+            aside,
+        ),
+        Ok(
+            Order::Check {
+                path,
+                workers,
+                config,
+            },
+        ) => check(
+            rt,
+            alloc,
+            path.as_str(),
+            workers,
+            config,
+            reader,
+            writer,
+            aside,
+        ),
+        Ok(
+            Order::Confirm {
+                path,
+                order_path,
+                concurrency,
+                kind,
+            },
+        ) => confirm(
+            rt,
+            alloc,
+            path.as_str(),
+            order_path.as_str(),
+            concurrency,
+            kind,
+            reader,
+            writer,
+            aside,
+        ),
+        Ok(Order::Run(config)) => run(rt, alloc, config, writer, aside),
+        Err(stop) => status_of_stop(rt, alloc, &stop, aside),
+    };
+    ExitCode::from(status)
 }

@@ -3,7 +3,8 @@ use Rattle.std.specs.Io.KnownBytes.{Consumes, IsAtEnd}
 use Rattle.confirms.specs.Confirms.{StandsFor}
 use Rattle.confirms.specs.Found.{ComesTo, refused_of_order}
 use Rattle.confirms.specs.declared.found.Found.TheVariants.{Refused}
-use Rattle.confirms.proofs.Confirmed.{confirms, reads_none}
+use Rattle.checks.proofs.Recording.{reads_none}
+use Rattle.confirms.proofs.Confirmed.{confirms}
 use Rattle.confirms.proofs.confirming.confirm_text.Goals as goal
 use Rattle.confirms.proofs.confirming.confirm_text.Goals.{in-Ok, in-Ok-read_whole, in-Err-read_whole, in-Err}
 

@@ -1,0 +1,103 @@
+-- Promise: what an order of the command line reads, writes and ends with
+use Rattle.std.specs.Prelude.{◌≡◌, ◌≢◌, ◌⊎◌, ℕ, Bool, true, false, List, codes, Option, Result, Err, MatchOption, MatchResult, IfErr, IsErrAnd, IfOk, OnOk, string_bytes}
+use Rattle.edn.specs.declared.refusal.Refusal.{Refusal}
+use Rattle.edn.specs.declared.refusal.Refusal.TheVariants.{ReadFailed, WriteFailed}
+use Rattle.models.specs.declared.model_kind.ModelKind.{ModelKind}
+use Rattle.linspec.specs.declared.verdict.Verdict.{Verdict}
+use Rattle.test_store.specs.declared.outcome.Mode.TheVariants.{Strict}
+use Rattle.machine.specs.Machine.{Setup}
+use Rattle.harness.specs.Setups.{IsSetup, MayNotOpen, setup_of}
+use Rattle.line_loop.specs.Logs.{Logged}
+use Rattle.line_loop.specs.Live.{IsLive}
+use Rattle.line_loop.specs.Stopping.{Finishes, KeepsUp, MayStop, Stops}
+use Rattle.scripts.specs.Reply.{Script, MayReply, Shows, script}
+use Rattle.checks.specs.ExitStatus.{status_of}
+use Rattle.checks.specs.Checks.{Checks, ChecksFile, IsPut}
+use Rattle.confirms.specs.Confirms.{ConfirmsFiles, ConfirmsInput}
+use Rattle.runs.specs.RunText.{MaySay}
+use Rattle.command_line.specs.Stops.{IsHelp}
+use Rattle.command_line.specs.declared.order.Order.{Order}
+use Rattle.command_line.specs.declared.order.Order.TheVariants as order
+use Rattle.command_line.specs.declared.order.Stop.{Stop}
+
+-- what a reader had, and has left; what came of its reads before and after, where that is known; and whether it has failed
+pub record Input : Type 0 where
+  pub had : Option (List ℕ)
+  pub left : Option (List ℕ)
+  pub log_before : Option (List Logged)
+  pub log_after : Option (List Logged)
+  pub has_failed : Bool
+
+-- what a writer held, and holds; whether it has failed, and whether what was written is flushed
+pub record Output : Type 0 where
+  pub before : Option (List ℕ)
+  pub after : Option (List ℕ)
+  pub has_failed : Bool
+  pub is_flushed : Bool
+
+-- the exit status after a script: that of its verdict, else 3
+abbrev pub EndsWith : Result (Option Verdict) Refusal → ℕ → Type 0
+EndsWith outcome status =
+    MatchResult outcome (λ said. MatchOption said (status ≡ 3) (λ verdict. status ≡ status_of verdict)) (λ _. status ≡ 3)
+
+-- nothing was read or written, since the configuration can't be opened
+abbrev pub IsUntouched : Setup → Input → Output → Refusal → Type 0
+IsUntouched setup input output why = MayNotOpen setup why × (input.left ≡ input.had) × (output.after ≡ output.before)
+
+-- a script of these lines: what `scripts::run_script` promises, and the exit status that comes of it
+pub record IsScript (setup : Setup) (is_strict : Bool) (input : Input) (output : Output) (status : ℕ) : Type 0 where
+  pub outcome : Result (Option Verdict) Refusal
+  pub limits : IsSetup setup ⊎ IsErrAnd outcome (IsUntouched setup input output)
+  pub done : IfOk outcome (λ said. (end : Script) × Shows end said
+      × ((Finishes MayReply (script setup is_strict) end input.had input.left output.before output.after × (input.has_failed ≡ false))
+      ⊎ ((end.is_closed ≡ true) × KeepsUp MayReply (script setup is_strict) end input.had input.left output.before output.after)))
+  pub live : IsLive MayReply (λ now. now.is_closed) (script setup is_strict) output.before input.had input.left input.log_before input.log_after
+  pub flushed : OnOk outcome (output.is_flushed ≡ true)
+  pub stopped : IfErr outcome (λ why. IsUntouched setup input output why
+      ⊎ Stops MayReply (script setup is_strict) input.had input.left output.before output.after why)
+  pub kept_up : outcome ≡ Err ReadFailed → (here : Script) × KeepsUp MayReply (script setup is_strict) here input.had input.left output.before output.after
+  pub kinds : IfErr outcome (λ why. MayNotOpen setup why ⊎ MayStop why)
+  pub read : outcome ≡ Err ReadFailed → input.has_failed ≡ true
+  pub reads_well : outcome ≢ Err ReadFailed → input.has_failed ≡ false
+  pub wrote : outcome ≡ Err WriteFailed → output.has_failed ≡ true
+  pub writes_well : outcome ≢ Err WriteFailed → output.has_failed ≡ false
+  pub ends : EndsWith outcome status
+
+-- nothing was read of it
+abbrev pub IsUnread : Input → Type 0
+IsUnread input = input.left ≡ input.had
+
+-- a check of standard input, where the path is `-`, else of the file of this path
+abbrev pub IsCheck : (List ℕ → Option (List ℕ)) → List ℕ → Setup → Input → Output → ℕ → Type 0
+IsCheck holds path setup input output status =
+    (path ≡ codes "-" → Checks setup input.had input.left input.has_failed output.before output.after output.has_failed output.is_flushed status)
+    × (path ≢ codes "-" → IsUnread input × ChecksFile setup (holds path) output.before output.after output.has_failed output.is_flushed status)
+
+-- an order in the file of its path, shown of the history on standard input, where the path is `-`, else of that in the file of
+-- this path
+abbrev pub IsConfirmation : (List ℕ → Option (List ℕ)) → List ℕ → List ℕ → ℕ → ModelKind → Input → Output → ℕ → Type 0
+IsConfirmation holds path order_path concurrency kind input output status =
+    (path ≡ codes "-" → ConfirmsInput concurrency kind input.had input.left input.has_failed (holds order_path) output.before output.after output.has_failed output.is_flushed status)
+    × (path ≢ codes "-" → IsUnread input × ConfirmsFiles concurrency kind (holds path) (holds order_path) output.before output.after output.has_failed output.is_flushed status)
+
+-- a run says what came of it, or why there was none; of a strict store never that it is illegal
+abbrev pub IsARun : Setup → Output → ℕ → Type 0
+IsARun setup output status =
+    ((text : List ℕ) × (told : ℕ) × MaySay setup text told
+    × IsPut text told output.before output.after output.has_failed output.is_flushed status)
+    × (setup.mode ≡ Strict → status ≢ 1)
+
+-- the order is carried out, where the system's files hold these
+abbrev pub IsCarriedOut : (List ℕ → Option (List ℕ)) → Order → Input → Output → ℕ → Type 0
+IsCarriedOut holds (order.Script config is_strict) input output status = IsScript (setup_of config) is_strict input output status
+IsCarriedOut holds (order.Check path workers config) input output status = IsCheck holds (string_bytes path) (setup_of config) input output status
+IsCarriedOut holds (order.Confirm path order_path concurrency kind) input output status =
+    IsConfirmation holds (string_bytes path) (string_bytes order_path) concurrency kind input output status
+IsCarriedOut holds (order.Run config) input output status = IsUnread input × IsARun (setup_of config) output status
+
+-- what the program ends with. Where there is no order nothing is read, and the status is 3, or 0 for help and the version
+abbrev pub EndsAs : (List ℕ → Option (List ℕ)) → Result Order Stop → Input → Output → ℕ → Type 0
+EndsAs holds given input output status =
+    MatchResult given
+    (λ asked. IsCarriedOut holds asked input output status)
+    (λ stop. IsUnread input × (output.after ≡ output.before) × ((status ≡ 3) ⊎ ((status ≡ 0) × IsHelp stop)))
