@@ -1,47 +1,32 @@
 //! One text in pieces of any size, and what is left of it where it is cut off.
 
-use crate::streams::{LINES, config, drip_reader, narrow_writer};
-use edn::Refusal;
-use onlookers::{OnStandardError, Onlooker};
-use scripts::run_script;
+use crate::runs::script_of;
+use crate::streams::{LINES, narrow_writer};
 use std::alloc::{AllocError, Global};
+use std::io::Eprint;
+use std::rt::Clock;
 use std::sync::Wait;
-use std::test::Fail;
 
-// What is replied to these bytes, of which so many come a read at most.
-fn replies<X: Wait, L: Onlooker>(
+// Whether these bytes, of which so many come a read at most, are replied this.
+fn is_replied<X: Wait + Clock + Eprint>(
     rt: &X,
     alloc: Global,
     bytes: &[u8],
     size: usize,
-    onlooker: &L,
-) -> Result<Vec<u8>, Refusal> {
-    let mut reader = drip_reader(bytes, size);
-    let mut writer = narrow_writer(alloc, usize::MAX, false);
-    run_script(
-        rt,
-        alloc,
-        config(alloc),
-        false,
-        &mut reader,
-        &mut writer,
-        onlooker,
-    )?;
-    Ok(writer.into_inner().held)
+    want: &[u8],
+) -> bool {
+    let writer = narrow_writer(alloc, usize::MAX, false);
+    let (outcome, holds, _) = script_of(rt, alloc, bytes, size, writer, want);
+    outcome.is_ok() && holds
 }
 
 /// The replies are the same in whatever pieces the text comes.
 #[test]
-fn any_cutting(rt: HostRuntime) -> Result<(), Fail> {
-    let nobody = OnStandardError::new(&rt, false);
+fn any_cutting(rt: HostRuntime) {
+    let want = b"legal\nlegal\nlegal\nlegal\n";
     for size in [1, 2, 3, 7, usize::MAX] {
-        let told = replies(&rt, rt.alloc(), LINES, size, &nobody)?;
-        assert!(rt;
-            told.as_slice() == b"legal\nlegal\nlegal\nlegal\n".as_slice(),
-            "by {size}"
-        );
+        assert!(rt; is_replied(&rt, rt.alloc(), LINES, size, want), "by {size}");
     }
-    Ok(())
 }
 
 // What must be replied to a beginning of the text: a line is legal, also one that lacks its line feed alone, and one that lacks
@@ -61,14 +46,23 @@ fn wanted(alloc: Global, beginning: &[u8]) -> Result<Vec<u8>, AllocError> {
     Ok(want)
 }
 
+// Whether the beginning is replied what must be.
+fn is_replied_so<X: Wait + Clock + Eprint>(
+    rt: &X,
+    alloc: Global,
+    beginning: &[u8],
+) -> Result<bool, AllocError> {
+    let want = wanted(alloc, beginning)?;
+    Ok(is_replied(rt, alloc, beginning, 7, want.as_slice()))
+}
+
 /// Cut off at each byte: the lines before have their replies, and the last one has what its beginning gets.
 #[test]
-fn cut_off_at_each_byte(rt: HostRuntime) -> Result<(), Fail> {
-    let nobody = OnStandardError::new(&rt, false);
+fn cut_off_at_each_byte(rt: HostRuntime) {
     for n in 0..=LINES.len() {
-        let told = replies(&rt, rt.alloc(), &LINES[..n], 7, &nobody)?;
-        let want = wanted(rt.alloc(), &LINES[..n])?;
-        assert!(rt; told == want, "cut off after {n} bytes");
+        assert!(rt;
+            matches!(is_replied_so(&rt, rt.alloc(), &LINES[..n]), Ok(true)),
+            "cut off after {n} bytes"
+        );
     }
-    Ok(())
 }

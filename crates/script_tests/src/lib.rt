@@ -10,4 +10,6 @@ mod failing;
 #[cfg(test)]
 mod readers_and_writers;
 #[cfg(test)]
+mod runs;
+#[cfg(test)]
 mod streams;

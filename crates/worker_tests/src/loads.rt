@@ -6,10 +6,9 @@ use edn::{Gate, Refusal};
 use events::EventKind;
 use history::History;
 use linspec::Verdict;
-use models::{ModelKind, Name, Part};
+use models::{Key, ModelKind, Name, Part};
 use monitor::Monitor;
 use std::alloc::Global;
-use std::panic::Expect;
 use std::thread::Threads;
 
 // Two keys of four threads, which overlap.
@@ -40,14 +39,29 @@ fn loaded<R: Threads + Sync, G: Gate + Sync>(
     Monitor::load(rt, alloc, history, ModelKind::Register, 4096, 2, gate)
 }
 
+// The verdict, the first key, and how many events the second has, where there are two keys.
+fn found(monitor: &Monitor) -> Option<(Verdict, Key, usize)> {
+    if monitor.key_count() != 2 {
+        return None;
+    }
+    let first = monitor.key_at(0);
+    let second = monitor.key_at(1);
+    Some((monitor.verdict(), first.key, second.events))
+}
+
+fn found_by_load<R: Threads + Sync, G: Gate + Sync>(
+    rt: &R,
+    alloc: Global,
+    gate: &G,
+) -> Result<Option<(Verdict, Key, usize)>, Refusal> {
+    Ok(found(&loaded(rt, alloc, gate)?))
+}
+
 /// Each of the two keys is judged by a worker of its own, and they wait for each other.
 #[test]
 fn load_by_two_workers(rt: HostRuntime) {
     let meeting = Meeting::of_both();
-    let monitor = loaded(&rt, rt.alloc(), &meeting).expect(&rt, "a monitor");
+    let found = found_by_load(&rt, rt.alloc(), &meeting);
     assert!(rt; meeting.was_held());
-    assert!(rt; matches!(monitor.verdict(), Verdict::Legal));
-    assert_eq!(rt; monitor.key_count(), 2);
-    assert_eq!(rt; monitor.key_at(0).key, 1);
-    assert_eq!(rt; monitor.key_at(1).events, 4);
+    assert!(rt; matches!(found, Ok(Some((Verdict::Legal, 1, 4)))));
 }

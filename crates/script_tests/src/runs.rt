@@ -1,0 +1,118 @@
+//! What a script or a check comes to, as plain data.
+ghost use Rattle.std.specs.Prelude.{◌≡◌, false};
+
+use crate::streams::{Drip, LINES, Narrow, broken_reader, config, drip_reader, narrow_writer};
+use checks::check_text;
+use edn::Refusal;
+use line_loop::{ReadsBeside, Watched};
+use linspec::Verdict;
+use onlookers::OnStandardError;
+use scripts::run_script;
+use std::alloc::Global;
+use std::io::Eprint;
+use std::rt::Clock;
+use std::sync::Wait;
+use std::thread::Threads;
+
+/// The outcome of a script; whether the writer then holds what it was to hold; and how many bytes are flushed.
+pub type Told = (Result<Option<Verdict>, Refusal>, bool, usize);
+
+/// Runs a script by this reader and this writer.
+pub fn script_by<X: Wait + Clock + Eprint, R: ReadsBeside<Watched<Narrow>>>(
+    rt: &X,
+    alloc: Global,
+    is_strict: bool,
+    reader: &mut R,
+    writer: Watched<Narrow>,
+    held: &[u8],
+) -> Told
+    requires reads { R.has_failed reader.old ≡ false }
+    requires writes { writer.has_failed ≡ false }
+{
+    let mut writer = writer;
+    let nobody = OnStandardError::new(rt, false);
+    let config = config(alloc);
+    let outcome = run_script(rt, alloc, config, is_strict, reader, &mut writer, &nobody);
+    let narrow = writer.inner();
+    (outcome, narrow.held.as_slice() == held, narrow.flushed)
+}
+
+/// Of a reader of these bytes, of which so many come a read at most.
+pub fn script_of<X: Wait + Clock + Eprint>(
+    rt: &X,
+    alloc: Global,
+    bytes: &[u8],
+    size: usize,
+    writer: Watched<Narrow>,
+    held: &[u8],
+) -> Told
+    requires writes { writer.has_failed ≡ false }
+{
+    let mut reader = drip_reader(bytes, size);
+    script_by(rt, alloc, false, &mut reader, writer, held)
+}
+
+/// Of one that fails behind them, to a writer that takes all.
+pub fn script_of_broken<X: Wait + Clock + Eprint>(
+    rt: &X,
+    alloc: Global,
+    is_strict: bool,
+    bytes: &[u8],
+    size: usize,
+    held: &[u8],
+) -> Told {
+    let mut reader = broken_reader(bytes, size);
+    let writer = narrow_writer(alloc, usize::MAX, false);
+    script_by(rt, alloc, is_strict, &mut reader, writer, held)
+}
+
+/// The status of a check by this reader and this writer; whether the writer then holds these bytes at its end; and how many it
+/// holds.
+pub fn check_by<X: Wait + Threads + Sync + Clock + Eprint>(
+    rt: &X,
+    alloc: Global,
+    reader: &mut Watched<Drip<'_>>,
+    writer: Watched<Narrow>,
+    end: &[u8],
+) -> (u8, bool, usize)
+    requires reads { reader.old.has_failed ≡ false }
+    requires writes { writer.has_failed ≡ false }
+{
+    let mut writer = writer;
+    let nobody = OnStandardError::new(rt, false);
+    let config = config(alloc);
+    let status = check_text(rt, alloc, config, 1, reader, &mut writer, &nobody);
+    let held = writer.inner().held.as_slice();
+    (status, held.ends_with(end), held.len())
+}
+
+/// Of a reader of these bytes, of which so many come a read at most, that fails behind them; to a writer that takes all.
+pub fn check_of_broken<X: Wait + Threads + Sync + Clock + Eprint>(
+    rt: &X,
+    alloc: Global,
+    bytes: &[u8],
+    size: usize,
+    end: &[u8],
+) -> (u8, bool, usize) {
+    let mut reader = broken_reader(bytes, size);
+    check_by(
+        rt,
+        alloc,
+        &mut reader,
+        narrow_writer(alloc, usize::MAX, false),
+        end,
+    )
+}
+
+/// Of a reader of all lines.
+pub fn check_of_lines<X: Wait + Threads + Sync + Clock + Eprint>(
+    rt: &X,
+    alloc: Global,
+    writer: Watched<Narrow>,
+    end: &[u8],
+) -> (u8, bool, usize)
+    requires writes { writer.has_failed ≡ false }
+{
+    let mut reader = drip_reader(LINES, LINES.len());
+    check_by(rt, alloc, &mut reader, writer, end)
+}
