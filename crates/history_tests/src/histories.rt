@@ -1,14 +1,13 @@
 //! Worked histories, with the answers that the rule gives.
 use crate::histories::Deed::{Cut, CutInHalves, PreparePush, Push, PushInHalves};
 use edn::Refusal::{BadConcurrency, BadValue, Mismatch, NoSuchIndex, NotOpen, WrongProcess};
-use edn::{Refusal, read_all};
+use edn::{Edn, Refusal, read_all};
 use edn_writer::{in_profile, write};
 use events::EventKind::{Info, Invoke, Ok as Done};
 use events::{Body, Event, EventKind, Fault, Groups, Process, from_edn};
 use history::History;
 use models::{Name, Op, Part};
-use std::alloc::Global;
-use std::test::Fail;
+use std::alloc::{AllocError, Global};
 
 fn written(kind: EventKind, process: u32, value: i64) -> Event {
     Event {
@@ -23,7 +22,7 @@ fn written(kind: EventKind, process: u32, value: i64) -> Event {
     }
 }
 
-fn partition(alloc: Global, other: u8) -> Result<Event, Fail> {
+fn partition(alloc: Global, other: u8) -> Result<Event, AllocError> {
     let mut groups = Vec::new(alloc);
     groups.push(vec![in alloc; 0u8]?)?;
     groups.push(vec![in alloc; 1u8, other]?)?;
@@ -36,47 +35,57 @@ fn partition(alloc: Global, other: u8) -> Result<Event, Fail> {
 }
 
 // The event of a line.
-fn event_of(alloc: Global, line: &str) -> Result<Event, Fail> {
+fn event_of(alloc: Global, line: &str) -> Result<Event, Refusal> {
     let elements = read_all(alloc, line.as_bytes())?;
-    let element = elements.first().ok_or("no element")?;
-    Ok(from_edn(alloc, element)?)
+    match elements.first() {
+        Some(element) => from_edn(alloc, element),
+        None => Err(BadValue),
+    }
+}
+
+fn refusal_of(alloc: Global, concurrency: u32) -> Option<Refusal> {
+    History::new(alloc, concurrency).err()
 }
 
 #[test]
 fn concurrency_has_limits(rt: HostRuntime) {
     for concurrency in [0, 65] {
-        assert_eq!(rt;
-            History::new(rt.alloc(), concurrency).err(),
-            Some(BadConcurrency)
-        );
+        assert!(rt; refusal_of(rt.alloc(), concurrency) == Some(BadConcurrency));
     }
 }
 
-// A partition, one that names a replica twice, and an invocation: copies of them are pushed.
-fn after_a_partition(alloc: Global) -> Result<History, Fail> {
-    let mut history = History::new(alloc, 1)?;
+// A partition, one that names a replica twice, and an invocation: copies of them are pushed. What the second was answered.
+fn push_copies(history: &mut History, alloc: Global) -> Result<Result<(), Refusal>, Refusal> {
     history.push(partition(alloc, 2)?.copy()?)?;
-    if history.push(partition(alloc, 1)?) != Err(BadValue) {
-        return Err("replica 1 is there twice".into());
-    }
+    let twice = history.push(partition(alloc, 1)?);
     history.push(written(Invoke, 0, 3).copy()?)?;
-    Ok(history)
+    Ok(twice)
+}
+
+// Whether it is the partition of replica 0 from 1 and 2.
+fn is_partition(event: &Event) -> bool {
+    let Body::Fault(Fault::Partition(groups)) = &event.body else {
+        return false;
+    };
+    match groups.groups() {
+        [first, second] => {
+            first.as_slice() == [0].as_slice() && second.as_slice() == [1, 2].as_slice()
+        }
+        _ => false,
+    }
+}
+
+// What the second event was answered, how many there are, and whether the first is the partition.
+fn after_copies(alloc: Global) -> Result<(Result<(), Refusal>, u32, bool), Refusal> {
+    let mut history = History::new(alloc, 1)?;
+    let twice = push_copies(&mut history, alloc)?;
+    let is_first = history.events().first().is_some_and(is_partition);
+    Ok((twice, history.len(), is_first))
 }
 
 #[test]
-fn faults_are_copied_and_counted(rt: HostRuntime) -> Result<(), Fail> {
-    let history = after_a_partition(rt.alloc())?;
-    assert_eq!(rt; history.len(), 2);
-    let event = history.events().first().ok_or("no event")?;
-    let Body::Fault(Fault::Partition(groups)) = &event.body else {
-        return Err("the first event is the partition".into());
-    };
-    let [first, second] = groups.groups() else {
-        return Err("there are two groups".into());
-    };
-    assert_eq!(rt; first.as_slice(), [0].as_slice());
-    assert_eq!(rt; second.as_slice(), [1, 2].as_slice());
-    Ok(())
+fn faults_are_copied_and_counted(rt: HostRuntime) {
+    assert!(rt; matches!(after_copies(rt.alloc()), Ok((Err(BadValue), 2, true))));
 }
 
 // How many events there are, if any, the process of thread 0, and its open invocation.
@@ -163,24 +172,33 @@ const PREPARED: [Row; 5] = [
 // A prepared event is none of the events until it is committed; the next one takes its place, and where that is refused
 // none is prepared.
 #[test]
-fn prepared_events(rt: HostRuntime) -> Result<(), Fail> {
-    assert_eq!(rt; first_other(rt.alloc(), 1, &PREPARED)?, None);
-    Ok(())
+fn prepared_events(rt: HostRuntime) {
+    assert!(rt; matches!(first_other(rt.alloc(), 1, &PREPARED), Ok(None)));
+}
+
+fn kind_prepared(history: &History) -> Option<EventKind> {
+    match history.prepared_event() {
+        Some(event) => Some(event.kind),
+        None => None,
+    }
+}
+
+// The kind of the prepared event before an event is prepared, before its commit, after it, and where a cut is prepared.
+fn kinds_prepared(alloc: Global) -> Result<[Option<EventKind>; 4], Refusal> {
+    let mut history = History::new(alloc, 1)?;
+    let first = kind_prepared(&history);
+    history.prepare_push(written(Invoke, 0, 3))?;
+    let second = kind_prepared(&history);
+    history.commit();
+    let third = kind_prepared(&history);
+    history.prepare_cut(0)?;
+    Ok([first, second, third, kind_prepared(&history)])
 }
 
 // The event that is prepared to be appended is shown until it is carried out. A cut is no event.
 #[test]
-fn shows_the_prepared_event(rt: HostRuntime) -> Result<(), Fail> {
-    let mut history = History::new(rt.alloc(), 1)?;
-    assert!(rt; history.prepared_event().is_none());
-    history.prepare_push(written(Invoke, 0, 3))?;
-    let event = history.prepared_event().ok_or("no event")?;
-    assert!(rt; event.kind == Invoke);
-    history.commit();
-    assert!(rt; history.prepared_event().is_none());
-    history.prepare_cut(0)?;
-    assert!(rt; history.prepared_event().is_none());
-    Ok(())
+fn shows_the_prepared_event(rt: HostRuntime) {
+    assert!(rt; kinds_prepared(rt.alloc()) == Ok([None, Some(Invoke), None, None]));
 }
 
 // A process has crashed, and the next one of its thread has invoked.
@@ -204,13 +222,12 @@ const CUTS: [Row; 12] = [
 // A cut leaves the first events, and the threads as these made them; it waits for its commit, and takes the place of another
 // change.
 #[test]
-fn cuts(rt: HostRuntime) -> Result<(), Fail> {
-    assert_eq!(rt; first_other(rt.alloc(), 2, &CUTS)?, None);
-    Ok(())
+fn cuts(rt: HostRuntime) {
+    assert!(rt; matches!(first_other(rt.alloc(), 2, &CUTS), Ok(None)));
 }
 
 // Key 7 is written 3, and then read.
-fn write_and_read(alloc: Global) -> Result<History, Fail> {
+fn write_and_read(alloc: Global) -> Result<History, Refusal> {
     let mut history = History::new(alloc, 2)?;
     for line in [
         "{:type :invoke, :process 0, :f :write, :value [7 3]}",
@@ -223,50 +240,79 @@ fn write_and_read(alloc: Global) -> Result<History, Fail> {
     Ok(history)
 }
 
-#[test]
-fn event_text(rt: HostRuntime) -> Result<(), Fail> {
-    let history = write_and_read(rt.alloc())?;
-    assert_eq!(rt; history.len(), 4);
-    let element = history.to_edn(3)?;
-    assert!(rt; in_profile(&element));
-    let mut text = Vec::new(rt.alloc());
-    write(&element, &mut text)?;
-    assert_eq!(rt;
-        text.as_slice(),
-        b"{:index 3, :type :ok, :process 0, :f :read, :value [7 3]}".as_slice()
-    );
-    Ok(())
-}
-
-#[test]
-fn events_of_a_key(rt: HostRuntime) -> Result<(), Fail> {
-    let history = write_and_read(rt.alloc())?;
-    let events = history.events_of(7)?;
-    assert_eq!(rt; events.len(), 4);
-    let kinds = [Invoke, Done, Invoke, Done];
-    for (place, (event, kind)) in events.iter().zip(kinds.iter()).enumerate() {
-        assert_eq!(rt; event.0 as usize, place);
-        assert_eq!(rt; event.1.kind, *kind);
+// The text of the element, where it has one.
+fn text_of(alloc: Global, element: &Edn) -> Result<Vec<u8>, Refusal> {
+    let mut text = Vec::new(alloc);
+    if in_profile(element) {
+        write(element, &mut text)?;
     }
-    assert_eq!(rt; history.events_of(8)?.len(), 0);
-    Ok(())
+    Ok(text)
+}
+
+// The text of the last of four events.
+fn last_text(alloc: Global) -> Result<Vec<u8>, Refusal> {
+    let history = write_and_read(alloc)?;
+    if history.len() != 4 {
+        return Err(NoSuchIndex);
+    }
+    text_of(alloc, &history.to_edn(3)?)
+}
+
+const LAST_TEXT: &[u8] = b"{:index 3, :type :ok, :process 0, :f :read, :value [7 3]}";
+
+fn is_last_text(alloc: Global) -> Result<bool, Refusal> {
+    Ok(last_text(alloc)?.as_slice() == LAST_TEXT)
 }
 
 #[test]
-fn set_answers_are_kept_ascending(rt: HostRuntime) -> Result<(), Fail> {
+fn event_text(rt: HostRuntime) {
+    assert!(rt; matches!(is_last_text(rt.alloc()), Ok(true)));
+}
+
+// Whether the events are of these kinds and have the indices from 0 on.
+fn are_kinds(events: &[(u32, Event)], kinds: &[EventKind]) -> bool {
+    for (place, (event, kind)) in events.iter().zip(kinds.iter()).enumerate() {
+        if event.0 as usize != place || event.1.kind != *kind {
+            return false;
+        }
+    }
+    events.len() == kinds.len()
+}
+
+// Whether key 7 has the four events, and key 8 none.
+fn are_found(alloc: Global) -> Result<bool, Refusal> {
+    let history = write_and_read(alloc)?;
+    let of_7 = history.events_of(7)?;
+    let of_8 = history.events_of(8)?;
+    Ok(are_kinds(of_7.as_slice(), &[Invoke, Done, Invoke, Done]) && of_8.is_empty())
+}
+
+#[test]
+fn events_of_a_key(rt: HostRuntime) {
+    assert!(rt; matches!(are_found(rt.alloc()), Ok(true)));
+}
+
+fn is_set(event: &Event, values: &[i64]) -> bool {
+    match &event.body {
+        Body::Op(
+            Op {
+                part: Part::Set(members),
+                ..
+            },
+        ) => members.as_slice() == values,
+        _ => false,
+    }
+}
+
+fn is_ascending(alloc: Global) -> Result<bool, Refusal> {
     let event = event_of(
-        rt.alloc(),
+        alloc,
         "{:type :ok, :process 0, :f :read, :value [7 #{3 -1 2}]}",
     )?;
-    let Body::Op(
-        Op {
-            part: Part::Set(members),
-            ..
-        },
-    ) = &event.body
-    else {
-        return Err("the answer is a set".into());
-    };
-    assert_eq!(rt; members.as_slice(), [-1, 2, 3].as_slice());
-    Ok(())
+    Ok(is_set(&event, &[-1, 2, 3]))
+}
+
+#[test]
+fn set_answers_are_kept_ascending(rt: HostRuntime) {
+    assert!(rt; matches!(is_ascending(rt.alloc()), Ok(true)));
 }

@@ -5,7 +5,6 @@ use crate::setups::{Plain, faulty, heal};
 use edn::Refusal;
 use harness::Core;
 use std::alloc::Global;
-use std::test::Fail;
 use test_store::Mode;
 
 // The most events.
@@ -39,22 +38,16 @@ fn fill(core: &mut Core) -> bool {
 
 // No event comes in: none that is handed in, no invocation, no completion and no fault. The tests before that one come
 // first all the same. After a cut there is room again.
-fn full_history_row(alloc: Global) -> Result<bool, Refusal> {
+fn is_full(alloc: Global) -> Result<bool, Refusal> {
     let mut core = faulty(alloc, Mode::Strict, &[Some(5)], 1, Plain::Heal)?;
-    if first_other(&mut core, &SERVED).is_some() {
-        return Ok(false);
-    }
-    if !fill(&mut core) {
-        return Ok(false);
-    }
-    if first_other(&mut core, &FULL).is_some() {
-        return Ok(false);
-    }
-    Ok(true)
+    Ok(
+        first_other(&mut core, &SERVED).is_none()
+            && fill(&mut core)
+            && first_other(&mut core, &FULL).is_none(),
+    )
 }
 
 #[test]
-fn full_history(rt: HostRuntime) -> Result<(), Fail> {
-    assert!(rt; full_history_row(rt.alloc())?);
-    Ok(())
+fn full_history(rt: HostRuntime) {
+    assert!(rt; matches!(is_full(rt.alloc()), Ok(true)));
 }

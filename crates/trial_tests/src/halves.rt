@@ -5,7 +5,6 @@ use crate::setups::{Ask, Plain, command_of, faulty};
 use edn::Refusal;
 use harness::Core;
 use std::alloc::Global;
-use std::test::Fail;
 use test_store::Mode;
 
 // Whether the command is prepared twice, each time with this reply, and then is committed.
@@ -39,17 +38,13 @@ fn first_not_prepared(core: &mut Core) -> Option<usize> {
     None
 }
 
-fn what_is_prepared_changes_nothing_row(alloc: Global) -> Result<bool, Refusal> {
+fn first_of_new(alloc: Global) -> Result<Option<usize>, Refusal> {
     let lose = Plain::LoseReplies(1);
     let mut core = faulty(alloc, Mode::Strict, &[Some(5), Some(6)], 0, lose)?;
-    if first_not_prepared(&mut core).is_some() {
-        return Ok(false);
-    }
-    Ok(true)
+    Ok(first_not_prepared(&mut core))
 }
 
 #[test]
-fn what_is_prepared_changes_nothing(rt: HostRuntime) -> Result<(), Fail> {
-    assert!(rt; what_is_prepared_changes_nothing_row(rt.alloc())?);
-    Ok(())
+fn what_is_prepared_changes_nothing(rt: HostRuntime) {
+    assert!(rt; matches!(first_of_new(rt.alloc()), Ok(None)));
 }

@@ -1,9 +1,14 @@
-//! Worked rows of trials on a `Core`: draws, serves, completions and faults, with every refusal that such commands meet; and
-//! thousands of steps under faults. It has tests alone.
+//! Worked rows of trials on a `Core`: draws, serves, completions and faults, with every refusal that such commands meet, and
+//! thousands of steps under faults; and rows of what a trial draws from and serves by: generators, schedules, and stores. Each
+//! answer follows from the definitions by hand. It has tests alone.
 #![tactic(auto)]
 
 #[cfg(test)]
 mod answers;
+#[cfg(test)]
+mod counted;
+#[cfg(test)]
+mod draws;
 #[cfg(test)]
 mod full_history;
 #[cfg(test)]
@@ -11,10 +16,18 @@ mod halves;
 #[cfg(test)]
 mod openings;
 #[cfg(test)]
+mod outcomes;
+#[cfg(test)]
 mod refusals;
+#[cfg(test)]
+mod schedules;
 #[cfg(test)]
 mod seeded;
 #[cfg(test)]
 mod setups;
+#[cfg(test)]
+mod stores;
+#[cfg(test)]
+mod trials;
 #[cfg(test)]
 mod worked_rows;

@@ -147,11 +147,6 @@ pub(crate) fn config(
     })
 }
 
-/// A core of that configuration.
-pub(crate) fn calm(alloc: Global, values: &[Option<i64>]) -> Result<Core, Refusal> {
-    Core::new(alloc, config(alloc, Mode::Strict, values)?)
-}
-
 /// A core of that configuration and mode, with one fault, due from this length of the history on.
 pub(crate) fn faulty(
     alloc: Global,

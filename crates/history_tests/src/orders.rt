@@ -1,11 +1,10 @@
 //! Orders that are one of their history, and orders that are none.
-use edn::read_all;
+use edn::{Refusal, read_all};
 use events::from_edn;
 use history::History;
 use models::ModelKind;
 use models::ModelKind::{CasRegister, FifoQueue, Mutex, Register, Set, UnorderedQueue};
-use std::alloc::Global;
-use std::test::Fail;
+use std::alloc::{AllocError, Global};
 use witness::Misfit::{
     AnotherAnswer, CannotTakePlace, Failed, LeftOut, NoEvent, NoInvocation, TooLate, Twice,
 };
@@ -143,7 +142,7 @@ const OF_OPEN_DEQUEUE: [Row; 4] = [
 const OF_NOTHING: [Row; 2] = [(&[], None), (&[0], Some((0, 0, NoEvent)))];
 
 // The history of a text.
-fn history_of(alloc: Global, text: &str) -> Result<History, Fail> {
+fn history_of(alloc: Global, text: &str) -> Result<History, Refusal> {
     let mut history = History::new(alloc, 3)?;
     for element in &read_all(alloc, text.as_bytes())? {
         history.push(from_edn(alloc, element)?)?;
@@ -159,60 +158,72 @@ fn said_by(row: Row) -> Confirmation {
     }
 }
 
-// The first row whose order is answered otherwise.
-fn first_wrong(
+// The place of the first row whose order is answered otherwise.
+fn first_other(
     alloc: Global,
+    history: &History,
     kind: ModelKind,
-    text: &str,
     rows: &[Row],
-) -> Result<Option<(usize, Confirmation)>, Fail> {
-    let history = history_of(alloc, text)?;
-    for (number, row) in rows.iter().enumerate() {
-        let said = confirm(alloc, &history, kind, row.0)?;
-        if said != said_by(*row) {
-            return Ok(Some((number, said)));
+) -> Result<Option<usize>, AllocError> {
+    for (place, row) in rows.iter().enumerate() {
+        if confirm(alloc, history, kind, row.0)? != said_by(*row) {
+            return Ok(Some(place));
         }
     }
     Ok(None)
 }
 
-#[test]
-fn registers(rt: HostRuntime) -> Result<(), Fail> {
-    let alloc = rt.alloc();
-    assert_eq!(rt;
-        first_wrong(alloc, Register, OPEN_WRITE, &OF_OPEN_WRITE)?,
-        None
-    );
-    assert_eq!(rt;
-        first_wrong(alloc, Register, WRITE_THEN_READ, &OF_WRITE_THEN_READ)?,
-        None
-    );
-    assert_eq!(rt;
-        first_wrong(alloc, Register, FAILED_AND_CRASHED, &OF_FAILED_AND_CRASHED)?,
-        None
-    );
-    assert_eq!(rt; first_wrong(alloc, Register, TWO_KEYS, &OF_TWO_KEYS)?, None);
-    assert_eq!(rt; first_wrong(alloc, Register, "", &OF_NOTHING)?, None);
-    Ok(())
+// The kind of its keys, the text of a history, and orders.
+type Orders = (ModelKind, &'static str, &'static [Row]);
+
+// The same, of the history.
+fn first_other_of(alloc: Global, orders: &Orders) -> Result<Option<usize>, Refusal> {
+    let (kind, text, rows) = *orders;
+    let history = history_of(alloc, text)?;
+    Ok(first_other(alloc, &history, kind, rows)?)
+}
+
+const REGISTERS: [Orders; 5] = [
+    (Register, OPEN_WRITE, &OF_OPEN_WRITE),
+    (Register, WRITE_THEN_READ, &OF_WRITE_THEN_READ),
+    (Register, FAILED_AND_CRASHED, &OF_FAILED_AND_CRASHED),
+    (Register, TWO_KEYS, &OF_TWO_KEYS),
+    (Register, "", &OF_NOTHING),
+];
+
+const OTHER_KINDS: [Orders; 4] = [
+    (CasRegister, CAS, &OF_CAS),
+    (Mutex, MUTEX, &OF_MUTEX),
+    (Set, SET, &OF_SET),
+    (FifoQueue, QUEUE, &OF_QUEUE),
+];
+
+const WITHOUT_AN_ORDER: [Orders; 2] = [
+    (UnorderedQueue, QUEUE, &OF_BAG),
+    (UnorderedQueue, OPEN_DEQUEUE, &OF_OPEN_DEQUEUE),
+];
+
+// Whether each order of each history is answered so.
+fn are_answered(alloc: Global, all: &[Orders]) -> bool {
+    for orders in all {
+        if first_other_of(alloc, orders) != Ok(None) {
+            return false;
+        }
+    }
+    true
 }
 
 #[test]
-fn other_kinds(rt: HostRuntime) -> Result<(), Fail> {
-    let alloc = rt.alloc();
-    assert_eq!(rt; first_wrong(alloc, CasRegister, CAS, &OF_CAS)?, None);
-    assert_eq!(rt; first_wrong(alloc, Mutex, MUTEX, &OF_MUTEX)?, None);
-    assert_eq!(rt; first_wrong(alloc, Set, SET, &OF_SET)?, None);
-    assert_eq!(rt; first_wrong(alloc, FifoQueue, QUEUE, &OF_QUEUE)?, None);
-    Ok(())
+fn registers(rt: HostRuntime) {
+    assert!(rt; are_answered(rt.alloc(), &REGISTERS));
 }
 
 #[test]
-fn queues_without_an_order(rt: HostRuntime) -> Result<(), Fail> {
-    let alloc = rt.alloc();
-    assert_eq!(rt; first_wrong(alloc, UnorderedQueue, QUEUE, &OF_BAG)?, None);
-    assert_eq!(rt;
-        first_wrong(alloc, UnorderedQueue, OPEN_DEQUEUE, &OF_OPEN_DEQUEUE)?,
-        None
-    );
-    Ok(())
+fn other_kinds(rt: HostRuntime) {
+    assert!(rt; are_answered(rt.alloc(), &OTHER_KINDS));
+}
+
+#[test]
+fn queues_without_an_order(rt: HostRuntime) {
+    assert!(rt; are_answered(rt.alloc(), &WITHOUT_AN_ORDER));
 }
