@@ -391,8 +391,8 @@ fn orders_and_ends_agree(rt: HostRuntime) -> Result<(), Fail> {
         (ModelKind::UnorderedQueue, 23),
     ];
     let all = compare_all(rt.alloc(), 1, Form::Mixed, 60, &kinds)?;
-    assert_eq!(rt; (all.legal, all.illegal), (139, 221));
-    assert_eq!(rt; (all.open, all.failed, all.crashed), (311, 192, 190));
+    assert!(rt; (all.legal, all.illegal) == (139, 221));
+    assert!(rt; (all.open, all.failed, all.crashed) == (311, 192, 190));
     Ok(())
 }
 
@@ -409,8 +409,8 @@ fn orders_and_ends_agree_on_eight_open(rt: HostRuntime) -> Result<(), Fail> {
         (ModelKind::UnorderedQueue, 8),
     ];
     let all = compare_all(rt.alloc(), 2, Form::AllOpen, 20, &kinds)?;
-    assert_eq!(rt; (all.legal, all.illegal), (69, 51));
-    assert_eq!(rt; (all.failed, all.crashed), (80, 89));
+    assert!(rt; (all.legal, all.illegal) == (69, 51));
+    assert!(rt; (all.failed, all.crashed) == (80, 89));
     Ok(())
 }
 
@@ -425,10 +425,7 @@ fn orders_and_ends_agree_on_crashed_reads(rt: HostRuntime) -> Result<(), Fail> {
         (ModelKind::UnorderedQueue, 10),
     ];
     let all = compare_all(rt.alloc(), 3, Form::Crashing, 50, &kinds)?;
-    assert_eq!(rt; (all.legal, all.illegal), (90, 110));
-    assert_eq!(rt;
-        (all.failed, all.crashed, all.crashed_read),
-        (106, 160, 110)
-    );
+    assert!(rt; (all.legal, all.illegal) == (90, 110));
+    assert!(rt; (all.failed, all.crashed, all.crashed_read) == (106, 160, 110));
     Ok(())
 }

@@ -8,29 +8,38 @@ use events::{Body, Event, EventKind, Fault, Process};
 use linspec::KeyStatus;
 use models::{ModelKind, Name, Part};
 use std::alloc::{AllocError, Global};
-use std::test::Fail;
+
+// A release of a mutex that nobody holds: what its crash, its fail and its ok bring, each prepared alone; and the status before
+// the commit and after it.
+fn of_a_release(alloc: Global) -> Result<[KeyStatus; 5], AllocError> {
+    let mut line = KeyLine::new(alloc, ModelKind::Mutex, 4096)?;
+    line.push(0, &event(0, EventKind::Invoke, Name::Release, Part::Nil))?;
+    let crashed = line.prepare_push(1, &event(0, EventKind::Info, Name::Release, Part::Nil))?;
+    let failed = line.prepare_push(1, &event(0, EventKind::Fail, Name::Release, Part::Nil))?;
+    let returned = line.prepare_push(1, &event(0, EventKind::Ok, Name::Release, Part::Nil))?;
+    let before = line.status();
+    line.commit();
+    Ok([crashed, failed, returned, before, line.status()])
+}
 
 // A mutex that nobody holds is not released, while a release may crash or fail. What is prepared counts once it is
 // committed.
 #[test]
-fn prepared_events(rt: HostRuntime) -> Result<(), Fail> {
-    let mut line = KeyLine::new(rt.alloc(), ModelKind::Mutex, 4096)?;
-    line.push(0, &event(0, EventKind::Invoke, Name::Release, Part::Nil))?;
-    let crashed = line.prepare_push(1, &event(0, EventKind::Info, Name::Release, Part::Nil))?;
-    assert!(rt; matches!(crashed, KeyStatus::Alive));
-    let failed = line.prepare_push(1, &event(0, EventKind::Fail, Name::Release, Part::Nil))?;
-    assert!(rt; matches!(failed, KeyStatus::Alive));
-    let returned = line.prepare_push(1, &event(0, EventKind::Ok, Name::Release, Part::Nil))?;
-    assert!(rt; matches!(returned, KeyStatus::Dead(1)));
-    assert!(rt; matches!(line.status(), KeyStatus::Alive));
-    line.commit();
-    assert!(rt; matches!(line.status(), KeyStatus::Dead(1)));
-    Ok(())
+fn prepared_events(rt: HostRuntime) {
+    let dead = KeyStatus::Dead(1);
+    let told = [
+        KeyStatus::Alive,
+        KeyStatus::Alive,
+        dead,
+        KeyStatus::Alive,
+        dead,
+    ];
+    assert!(rt; of_a_release(rt.alloc()) == Ok(told));
 }
 
-#[test]
-fn fault_changes_nothing(rt: HostRuntime) -> Result<(), Fail> {
-    let mut line = KeyLine::new(rt.alloc(), ModelKind::Register, 4096)?;
+// The status of a line of a fault and a write, and how many events it has.
+fn behind_a_fault(alloc: Global) -> Result<(KeyStatus, usize), AllocError> {
+    let mut line = KeyLine::new(alloc, ModelKind::Register, 4096)?;
     let heal = Event {
         index: None,
         kind: EventKind::Info,
@@ -40,9 +49,12 @@ fn fault_changes_nothing(rt: HostRuntime) -> Result<(), Fail> {
     line.push(0, &heal)?;
     line.push(1, &event(0, EventKind::Invoke, Name::Write, Part::Int(1)))?;
     line.push(2, &event(0, EventKind::Ok, Name::Write, Part::Int(1)))?;
-    assert!(rt; matches!(line.status(), KeyStatus::Alive));
-    assert_eq!(rt; line.len(), 3);
-    Ok(())
+    Ok((line.status(), line.len()))
+}
+
+#[test]
+fn fault_changes_nothing(rt: HostRuntime) {
+    assert!(rt; matches!(behind_a_fault(rt.alloc()), Ok((KeyStatus::Alive, 3))));
 }
 
 // 65 times a write of 1 that returns: 130 events, of indices 0 to 129.
@@ -86,28 +98,32 @@ fn after_cut(alloc: Global, n: u32) -> Result<(u64, usize), AllocError> {
 
 // A cut judges again only what stays behind the last 64th event.
 #[test]
-fn rewind_replays_few(rt: HostRuntime) -> Result<(), Fail> {
-    for (n, again) in [(130, 0), (129, 1), (127, 63), (64, 0)] {
-        let (replayed, left) = after_cut(rt.alloc(), n)?;
-        assert_eq!(rt; replayed, again, "cut at {n}");
-        assert_eq!(rt; left, n as usize);
+fn rewind_replays_few(rt: HostRuntime) {
+    for (n, again, left) in [(130, 0, 130), (129, 1, 129), (127, 63, 127), (64, 0, 64)] {
+        assert!(rt; after_cut(rt.alloc(), n) == Ok((again, left)), "cut at {n}");
     }
-    Ok(())
+}
+
+// The status of such a line; and how many replays there were of it, then of another kind, and then where a cut is prepared, with
+// those that it would add before the last.
+fn replays(alloc: Global) -> Result<(KeyStatus, [u64; 4]), AllocError> {
+    let lent = writes_made(alloc)?;
+    let mut line = written(alloc)?;
+    let status = line.status();
+    let first = line.replayed();
+    line.rebuild(ModelKind::CasRegister, 4096, &lent)?;
+    let second = line.replayed();
+    line.prepare_cut(127, &lent)?;
+    Ok((
+        status,
+        [first, second, line.prepared_replays(), line.replayed()],
+    ))
 }
 
 // Each event that is pushed is one replay, another kind judges each once more, and a cut counts once it is committed.
 #[test]
-fn replays_are_counted(rt: HostRuntime) -> Result<(), Fail> {
-    let lent = writes_made(rt.alloc())?;
-    let mut line = written(rt.alloc())?;
-    assert!(rt; matches!(line.status(), KeyStatus::Alive));
-    assert_eq!(rt; line.replayed(), 130);
-    line.rebuild(ModelKind::CasRegister, 4096, &lent)?;
-    assert_eq!(rt; line.replayed(), 260);
-    line.prepare_cut(127, &lent)?;
-    assert_eq!(rt; line.prepared_replays(), 63);
-    assert_eq!(rt; line.replayed(), 260);
-    Ok(())
+fn replays_are_counted(rt: HostRuntime) {
+    assert!(rt; replays(rt.alloc()) == Ok((KeyStatus::Alive, [130, 260, 63, 260])));
 }
 
 // Two events, of indices 3 and 5.
@@ -118,13 +134,21 @@ fn three_and_five(alloc: Global) -> Result<KeyLine, AllocError> {
     Ok(line)
 }
 
+// What is lost of an empty line, and begins below.
+fn of_nothing(alloc: Global) -> Result<(bool, bool), AllocError> {
+    let line = KeyLine::new(alloc, ModelKind::Register, 4096)?;
+    Ok((line.loses(0), line.begins_below(9)))
+}
+
+fn of_two(alloc: Global, n: u32) -> Result<(bool, bool), AllocError> {
+    let line = three_and_five(alloc)?;
+    Ok((line.loses(n), line.begins_below(n)))
+}
+
 // Whether a cut takes events away, and whether there are events before it.
 #[test]
-fn cuts_of_a_line(rt: HostRuntime) -> Result<(), Fail> {
-    let empty = KeyLine::new(rt.alloc(), ModelKind::Register, 4096)?;
-    assert!(rt; !empty.loses(0));
-    assert!(rt; !empty.begins_below(9));
-    let line = three_and_five(rt.alloc())?;
+fn cuts_of_a_line(rt: HostRuntime) {
+    assert!(rt; of_nothing(rt.alloc()) == Ok((false, false)));
     for (n, loses, begins) in [
         (0, true, false),
         (3, true, false),
@@ -132,7 +156,6 @@ fn cuts_of_a_line(rt: HostRuntime) -> Result<(), Fail> {
         (5, true, true),
         (6, false, true),
     ] {
-        assert_eq!(rt; (line.loses(n), line.begins_below(n)), (loses, begins));
+        assert!(rt; of_two(rt.alloc(), n) == Ok((loses, begins)), "at {n}");
     }
-    Ok(())
 }

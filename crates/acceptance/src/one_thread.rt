@@ -4,8 +4,9 @@ use edn::Refusal;
 use events::EventKind;
 use events::EventKind::{Invoke, Ok as Done};
 use harness::{Command, Config, Core, Reply};
+use linspec::Verdict;
 use models::{ModelKind, Name, Part};
-use std::test::Fail;
+use std::alloc::Global;
 
 /// An event of a write by process 0, or what asks for the verdict.
 #[derive(Clone, Copy)]
@@ -62,38 +63,45 @@ const LATE: [(Ask, Said, Option<Said>); 2] = [
     (Ask::Write(Done, 4), BLOWN, Some(BLOWN)),
 ];
 
-// What is prepared changes nothing until it is committed, and the next command takes its place.
-fn prepares_and_commits(core: &mut Core) -> bool {
-    if first_other(core, &EARLY).is_some() {
-        return false;
-    }
+fn commit_second_write(core: &mut Core) -> bool {
     match core.prepare(command_of(Ask::Write(Invoke, 4))) {
-        Ok(_answer) => core.commit(),
-        Err(_why) => return false,
+        Ok(_answer) => {
+            core.commit();
+            true
+        }
+        Err(_why) => false,
     }
-    first_other(core, &LATE).is_none()
+}
+
+// Whether what is prepared changes nothing until it is committed, and the next command takes its place; and the verdict on
+// what is committed.
+fn prepares_and_commits(alloc: Global) -> Result<(bool, Verdict), Refusal> {
+    let mut core = Core::new(alloc, Config::to_judge(alloc, 1, ModelKind::Register, 1))?;
+    let goes = first_other(&mut core, &EARLY).is_none()
+        && commit_second_write(&mut core)
+        && first_other(&mut core, &LATE).is_none();
+    Ok((goes, core.verdict()))
 }
 
 #[test]
-fn prepared_commands(rt: HostRuntime) -> Result<(), Fail> {
-    let config = Config::to_judge(rt.alloc(), 1, ModelKind::Register, 1);
-    let mut core = Core::new(rt.alloc(), config)?;
-    assert!(rt; prepares_and_commits(&mut core));
-    assert_eq!(rt; plain_of(core.verdict()), Said::Legal, "not committed");
-    Ok(())
+fn prepared_commands(rt: HostRuntime) {
+    assert!(rt; matches!(prepares_and_commits(rt.alloc()), Ok((true, Verdict::Legal))));
+}
+
+// The number of the refusal, or 0.
+fn refusal_of(alloc: Global, concurrency: u32, budget: u32) -> u8 {
+    let config = Config::to_judge(alloc, concurrency, ModelKind::Register, budget);
+    match Core::new(alloc, config) {
+        Ok(_) => 0,
+        Err(refusal) => refusal.number(),
+    }
 }
 
 #[test]
 fn openings(rt: HostRuntime) {
     for (concurrency, budget, why) in [(0, 0, 9), (65, 65_537, 9), (0, 1, 10), (65, 1, 10)] {
-        let config = Config::to_judge(rt.alloc(), concurrency, ModelKind::Register, budget);
-        let refused = match Core::new(rt.alloc(), config) {
-            Ok(_) => 0,
-            Err(refusal) => refusal.number(),
-        };
-        assert_eq!(rt;
-            refused,
-            why,
+        assert!(rt;
+            refusal_of(rt.alloc(), concurrency, budget) == why,
             "at {concurrency} threads and budget {budget}"
         );
     }

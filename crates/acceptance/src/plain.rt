@@ -32,7 +32,7 @@ pub fn part(values: &[i64]) -> Part {
 }
 
 /// What a call is answered by, as plain data.
-#[derive(Clone, Copy, Debug, PartialEq, Eq)]
+#[derive(Clone, Copy, PartialEq, Eq)]
 pub enum Said {
     Legal,
     Illegal(u16, u32),

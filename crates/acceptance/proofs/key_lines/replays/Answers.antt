@@ -1,12 +1,12 @@
 use Rattle.std.proofs.Common.{◌∙◌, ap}
 use Rattle.checkpoints.specs.KeyLineView.{KeyLineView}
 use Rattle.acceptance.proofs.LongLine.{writes_lent}
-use Rattle.acceptance.proofs.key_lines.replays_are_counted.Goals as goal
+use Rattle.acceptance.proofs.key_lines.replays.Goals as goal
 
 pub rebuild-requires : goal.rebuild-requires
-rebuild-requires g c = writes_lent 65 c.deref.result.now c.in_ok-line.line.now.events (c.deref.ensures.value ∙ c.in_ok-lent.ensures) c.in_ok-line.ensures
+rebuild-requires c = writes_lent 65 c.deref.result.now c.in_ok-line.line.now.events (c.deref.ensures.value ∙ c.in_ok-lent.ensures) c.in_ok-line.ensures
 
 pub prepare_cut-requires : goal.prepare_cut-requires
-prepare_cut-requires g c =
+prepare_cut-requires c =
     writes_lent 65 c.deref-2.result.now c.rebuild.new.self.now.events (c.deref-2.ensures.value ∙ c.in_ok-lent.ensures)
     (ap (λ (v : KeyLineView). v.now.events) c.in_ok-rebuild.ensures.ok ∙ c.in_ok-line.ensures)
