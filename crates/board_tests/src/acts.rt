@@ -112,12 +112,13 @@ fn act_once<B: Tag, R: Wait>(
     }
 }
 
-/// Opens the board, and ends it after its seats did what the rows say, in turn. Gives the verdict of the end.
-pub fn act_in_turn<R: Wait + Abort>(rt: &R, blank: Blank, rows: &[Row]) -> Said {
+/// Opens the board, and ends it after its seats did what the rows say, in turn, up to the first that was told otherwise: its
+/// place, if there is one, and the verdict of the end.
+pub fn act_in_turn<R: Wait + Abort>(rt: &R, blank: Blank, rows: &[Row]) -> (Option<usize>, Said) {
     act_by::<Brand, _>(rt, blank, rows)
 }
 
-fn act_by<B: Tag, R: Wait + Abort>(rt: &R, blank: Blank, rows: &[Row]) -> Said
+fn act_by<B: Tag, R: Wait + Abort>(rt: &R, blank: Blank, rows: &[Row]) -> (Option<usize>, Said)
     requires names { (blank.word ≡ B.word) × (blank.ledger.name ≡ B.name)
         × (blank.ledger.parts ≡ B.parts) }
 {
@@ -125,14 +126,32 @@ fn act_by<B: Tag, R: Wait + Abort>(rt: &R, blank: Blank, rows: &[Row]) -> Said
     let Ok((board, mut seats)) = blank.open::<B>() else {
         panic!(rt; "not opened")
     };
-    assert_eq!(rt; seats.len(), count);
+    let other = if seats.len() == count {
+        first_other(rt, &board, seats.as_mut_slice(), rows)
+    } else {
+        Some(0)
+    };
+    (other, plain_of(board.end(rt, seats).verdict()))
+}
+
+// The place of the first row that was told otherwise, or has no seat.
+fn first_other<B: Tag, R: Wait>(
+    rt: &R,
+    board: &Board<B>,
+    seats: &mut [Seat<B>],
+    rows: &[Row],
+) -> Option<usize> {
     let mut news = None;
     let mut told = None;
-    for &(number, act, entry_number, said) in rows {
+    for (place, &(number, act, entry_number, said)) in rows.iter().enumerate() {
         let number = number as usize;
-        assert!(rt; number < seats.len());
-        told = act_once(rt, &board, &mut seats[number], act, told, &mut news);
-        assert_eq!(rt; told, Some((entry_number, said)));
+        if number >= seats.len() {
+            return Some(place);
+        }
+        told = act_once(rt, board, &mut seats[number], act, told, &mut news);
+        if told != Some((entry_number, said)) {
+            return Some(place);
+        }
     }
-    plain_of(board.end(rt, seats).verdict())
+    None
 }

@@ -1,15 +1,16 @@
 //! A trial through a board.
 
 use crate::acts::{Act, Line, act_in_turn};
-use crate::boards::two;
 use crate::said::Said;
 use board::Blank;
 use edn::Refusal;
 use generators::{Cycle, Gen, Item};
 use harness::Config;
-use models::{Name, Op, Part};
+use models::{ModelKind, Name, Op, Part};
+use nemesis::Schedule;
 use std::alloc::{AllocError, Global};
 use std::process::Abort;
+use test_store::Mode;
 
 fn operation(name: Name, part: Part) -> Item {
     Item::Op(Op { name, key: 7, part })
@@ -26,8 +27,14 @@ fn write_and_read(alloc: Global) -> Result<Gen, AllocError> {
 fn clients(alloc: Global) -> Result<Config, Refusal> {
     let generator = write_and_read(alloc)?;
     Ok(Config {
+        concurrency: 2,
+        kind: ModelKind::Register,
+        budget: 4096,
+        replicas: 1,
+        mode: Mode::Strict,
         generator,
-        ..two(alloc)
+        schedule: Schedule::new(Vec::new(alloc)),
+        seed: 0,
     })
 }
 
@@ -55,5 +62,5 @@ fn trial_of_two_seats(rt: HostRuntime) {
         (0, Act::Call(Line::Nemesis), 7, Said::Refused(14)),
         (1, Act::Call(Line::Verdict), 8, Said::Legal),
     ];
-    act_in_turn(&rt, blank(&rt, rt.alloc()), rows);
+    assert!(rt; matches!(act_in_turn(&rt, blank(&rt, rt.alloc()), rows), (None, _)));
 }

@@ -48,6 +48,6 @@ fn gate_begins_under_the_lock(rt: HostRuntime) {
         answered: AtomicBool::new(false),
     };
     let (held, (beside, _)) = hold_call(&rt, blank(&rt, rt.alloc(), 2), &hold);
-    assert_eq!(rt; held, (1, Said::Legal));
-    assert_eq!(rt; beside, Some((2, Said::Legal)));
+    assert!(rt; held == (1, Said::Legal));
+    assert!(rt; beside == Some((2, Said::Legal)));
 }

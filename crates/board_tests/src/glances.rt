@@ -25,7 +25,7 @@ fn glance_follows_each_call(rt: HostRuntime) {
         (0, Act::Call(Line::ReadEnds(4)), 5, Said::Refused(3)),
         (1, Act::Glance, 5, Said::Illegal(7, 3)),
     ];
-    act_in_turn(&rt, blank(&rt, rt.alloc(), 2), rows);
+    assert!(rt; matches!(act_in_turn(&rt, blank(&rt, rt.alloc(), 2), rows), (None, _)));
 }
 
 // A moment of a call of the seat with this number, which lasts until a glance was made, for so many turns.
@@ -105,9 +105,8 @@ fn glance_answers_while_a_call_holds_the_lock(rt: HostRuntime) {
         after: Moment::new(),
     };
     let (answer, (before, after)) = hold_call(&rt, blank(&rt, rt.alloc(), 2), &meeting);
-    assert!(rt; meeting.before.was_met(1));
-    assert!(rt; meeting.after.was_met(1));
-    assert_eq!(rt; before, Some((0, Said::Legal)));
-    assert_eq!(rt; after, Some((1, Said::Legal)));
-    assert_eq!(rt; answer, (1, Said::Legal));
+    assert!(rt; meeting.before.was_met(1) && meeting.after.was_met(1));
+    assert!(rt; before == Some((0, Said::Legal)));
+    assert!(rt; after == Some((1, Said::Legal)));
+    assert!(rt; answer == (1, Said::Legal));
 }

@@ -1,5 +1,5 @@
-//! What threads that share a board are answered: small histories through the calls of a board and its glances, each answer
-//! compared with one worked out by hand. It has tests alone.
+//! What threads and clients that share a board are answered: small histories through the calls of a board and its glances, and
+//! clients that run, each answer worked out by hand or compared with that of one thread. It has tests alone.
 #![tactic(auto)]
 
 #[cfg(test)]
@@ -8,6 +8,12 @@ mod acts;
 mod beside;
 #[cfg(test)]
 mod boards;
+#[cfg(test)]
+mod client_boards;
+#[cfg(test)]
+mod commanded;
+#[cfg(test)]
+mod cut;
 #[cfg(test)]
 mod drawn;
 #[cfg(test)]
@@ -21,12 +27,18 @@ mod memory;
 #[cfg(test)]
 mod news;
 #[cfg(test)]
+mod news_across;
+#[cfg(test)]
 mod openings;
+#[cfg(test)]
+mod overlap;
 #[cfg(test)]
 mod rewinds;
 #[cfg(test)]
 mod said;
 #[cfg(test)]
 mod shared;
+#[cfg(test)]
+mod striking;
 #[cfg(test)]
 mod threads;

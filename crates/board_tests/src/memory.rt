@@ -16,5 +16,5 @@ fn want_of_memory_is_no_entry(rt: HostRuntime) {
         (0, Act::CallTwice(Line::ReadEnds(4)), 4, Said::Illegal(7, 3)),
         (0, Act::CallTwice(Line::ReadEnds(4)), 5, Said::Refused(3)),
     ];
-    act_in_turn(&rt, blank(&rt, rt.alloc(), 1), rows);
+    assert!(rt; matches!(act_in_turn(&rt, blank(&rt, rt.alloc(), 1), rows), (None, _)));
 }

@@ -15,5 +15,5 @@ fn news_carries_what_was_seen(rt: HostRuntime) {
         (0, Act::Glance, 4, Said::Illegal(7, 3)),
         (1, Act::Learn, 4, Said::Illegal(7, 3)),
     ];
-    act_in_turn(&rt, blank(&rt, rt.alloc(), 2), rows);
+    assert!(rt; matches!(act_in_turn(&rt, blank(&rt, rt.alloc(), 2), rows), (None, _)));
 }

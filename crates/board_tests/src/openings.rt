@@ -16,6 +16,12 @@ fn refusal_of(alloc: Global, config: Config, seats: u32) -> u8 {
     }
 }
 
+fn config(alloc: Global, concurrency: u32, budget: u32, replicas: u8) -> Config {
+    let mut config = Config::to_judge(alloc, concurrency, ModelKind::Register, budget);
+    config.replicas = replicas;
+    config
+}
+
 /// Seats are 1 to 64, and what the object refuses comes first.
 #[test]
 fn refusals_in_order(rt: HostRuntime) {
@@ -30,11 +36,8 @@ fn refusals_in_order(rt: HostRuntime) {
         (0, 4096, 1, 2, 10),
         (2, 4096, 0, 65, 18),
     ] {
-        let config = Config {
-            replicas,
-            ..Config::to_judge(rt.alloc(), concurrency, ModelKind::Register, budget)
-        };
-        assert_eq!(rt; refusal_of(rt.alloc(), config, seats), why);
+        let config = config(rt.alloc(), concurrency, budget, replicas);
+        assert!(rt; refusal_of(rt.alloc(), config, seats) == why);
     }
 }
 
@@ -45,5 +48,5 @@ fn verdict_of_nothing(rt: HostRuntime) {
         (0, Act::Glance, 0, Said::Legal),
         (0, Act::Call(Line::Verdict), 1, Said::Legal),
     ];
-    act_in_turn(&rt, blank(&rt, rt.alloc(), 2), rows);
+    assert!(rt; matches!(act_in_turn(&rt, blank(&rt, rt.alloc(), 2), rows), (None, _)));
 }

@@ -24,5 +24,5 @@ fn rewinds_between_calls_of_two_seats(rt: HostRuntime) {
         (1, Act::Call(Line::Rewind(9)), 7, Said::Refused(8)),
         (0, Act::Learn, 7, Said::Legal),
     ];
-    act_in_turn(&rt, blank(&rt, rt.alloc(), 2), rows);
+    assert!(rt; matches!(act_in_turn(&rt, blank(&rt, rt.alloc(), 2), rows), (None, _)));
 }

@@ -7,7 +7,7 @@ use models::Found;
 use test_store::Outcome;
 
 /// A verdict, a refusal, a ticket and the index of its invocation, or what a serve found.
-#[derive(Clone, Copy, Debug, PartialEq, Eq)]
+#[derive(Clone, Copy, PartialEq, Eq)]
 pub enum Said {
     Legal,
     Illegal(u16, u32),

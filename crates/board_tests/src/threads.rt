@@ -42,14 +42,16 @@ where
 /// the tag for it is `Send + Sync`.
 #[test]
 fn seats_go_to_threads_and_back(rt: HostRuntime) {
-    send_and_end::<Brand, _>(&rt, rt.alloc(), blank(&rt, rt.alloc(), 4));
+    let ended = send_and_end::<Brand, _>(&rt, rt.alloc(), blank(&rt, rt.alloc(), 4));
+    assert!(rt; ended == (10, Said::Legal));
 }
 
+// The numbers of the entries in all, and the verdict of the end.
 fn send_and_end<B: Tag + Send + Sync, R: Threads + Wait + Abort + Sync>(
     rt: &R,
     alloc: Global,
     blank: Blank,
-)
+) -> (u64, Said)
     requires names { (blank.word ≡ B.word) × (blank.ledger.name ≡ B.name)
         × (blank.ledger.parts ≡ B.parts) }
 {
@@ -59,6 +61,5 @@ fn send_and_end<B: Tag + Send + Sync, R: Threads + Wait + Abort + Sync>(
     let numbers = AtomicU64::new(0);
     let back = send_all(rt, &board, seats, &numbers);
     let core = board.end(rt, back.unwrap_or(Vec::new(alloc)));
-    assert_eq!(rt; numbers.load(Ordering::SeqCst), 10);
-    assert_eq!(rt; plain_of(core.verdict()), Said::Legal);
+    (numbers.load(Ordering::SeqCst), plain_of(core.verdict()))
 }

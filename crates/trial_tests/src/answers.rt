@@ -8,7 +8,7 @@ use models::Found;
 use test_store::Outcome;
 
 /// What a fault does.
-#[derive(Clone, Copy, Debug, PartialEq, Eq)]
+#[derive(Clone, Copy, PartialEq, Eq)]
 pub(crate) enum Struck {
     Partition,
     Heal,
@@ -17,7 +17,7 @@ pub(crate) enum Struck {
 }
 
 /// What a command is answered by.
-#[derive(Clone, Copy, Debug, PartialEq, Eq)]
+#[derive(Clone, Copy, PartialEq, Eq)]
 pub(crate) enum Said {
     Legal,
     /// The key, and the index of the event.

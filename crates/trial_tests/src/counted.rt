@@ -5,7 +5,6 @@ use edn::Refusal;
 use events::Fault;
 use models::{Found, ModelKind, Name, Op, Part};
 use std::alloc::{AllocError, Global};
-use std::process::Abort;
 use test_store::{Mode, Outcome, Store, versions_law};
 
 /// A store, and how many serves it has had.
@@ -27,7 +26,7 @@ pub enum Step {
 }
 
 /// What a step came to.
-#[derive(Clone, Copy, Debug, PartialEq, Eq)]
+#[derive(Clone, Copy, PartialEq, Eq)]
 pub enum Said {
     Done,
     Found(Option<i64>),
@@ -63,11 +62,14 @@ impl Counted {
         Ok(Counted { store, serves })
     }
 
-    /// Each step comes to what its row says.
-    pub fn follow<R: Abort>(&mut self, rt: &R, rows: &[(Step, Said)]) {
+    /// Whether each step comes to what its row says.
+    pub fn follows(&mut self, rows: &[(Step, Said)]) -> bool {
         for &(step, want) in rows {
-            assert_eq!(rt; self.carry(step), want);
+            if self.carry(step) != want {
+                return false;
+            }
         }
+        true
     }
 
     fn carry(&mut self, step: Step) -> Said {
@@ -102,4 +104,15 @@ impl Counted {
             Err(_) => Said::Other,
         }
     }
+}
+
+/// Whether each step comes to what its row says, in a new strict store of so many replicas.
+pub fn follows(
+    alloc: Global,
+    replicas: u8,
+    kind: ModelKind,
+    rows: &[(Step, Said)],
+) -> Result<bool, Refusal> {
+    let mut store = Counted::new(alloc, replicas, kind)?;
+    Ok(store.follows(rows))
 }

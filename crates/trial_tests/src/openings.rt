@@ -1,28 +1,25 @@
 //! Cores that are not opened, each by the first test that it does not pass.
 use crate::answers::opening_said;
-use crate::setups::{Plain, config, fault_of, one_fault, op};
+use crate::setups::{NUMBERS, Numbers, Plain, config, fault_of, no_fault, one_fault, op, ops_of};
 use edn::Refusal;
 use generators::{Cycle, Gen, Item};
-use harness::{Config, Core};
+use harness::Core;
 use models::{Name, Part};
 use std::alloc::{AllocError, Global};
 use test_store::Mode;
 
-// A core that opens: it gives reads.
-fn good(alloc: Global) -> Result<Config, AllocError> {
-    config(alloc, Mode::Strict, &[None])
+// Reads.
+fn reads(alloc: Global) -> Result<Gen, AllocError> {
+    ops_of(alloc, &[None])
 }
 
 // A core of this budget and concurrency, and of so many replicas.
-fn numbers(alloc: Global, numbers: (u32, u32, u8)) -> Result<Core, Refusal> {
-    let mut config = good(alloc)?;
-    config.budget = numbers.0;
-    config.concurrency = numbers.1;
-    config.replicas = numbers.2;
+fn numbers(alloc: Global, numbers: Numbers) -> Result<Core, Refusal> {
+    let config = config(Mode::Strict, numbers, reads(alloc)?, no_fault(alloc), 0);
     Core::new(alloc, config)
 }
 
-const NUMBERS: [((u32, u32, u8), u8); 8] = [
+const OF_NUMBERS: [(Numbers, u8); 8] = [
     ((0, 2, 3), 9),
     ((65_537, 2, 3), 9),
     ((4096, 0, 3), 10),
@@ -35,7 +32,7 @@ const NUMBERS: [((u32, u32, u8), u8); 8] = [
 
 // Whether each is opened, or refused so.
 fn numbers_are_tested(alloc: Global) -> bool {
-    for (given, why) in NUMBERS {
+    for (given, why) in OF_NUMBERS {
         if opening_said(numbers(alloc, given)) != why {
             return false;
         }
@@ -51,18 +48,31 @@ fn numbers_out_of_limits(rt: HostRuntime) {
 
 // A core whose schedule has this fault.
 fn scheduled(alloc: Global, fault: Plain) -> Result<Core, Refusal> {
-    let mut config = good(alloc)?;
-    config.schedule = one_fault(alloc, 0, fault)?;
-    Core::new(alloc, config)
+    let schedule = one_fault(alloc, 0, fault)?;
+    let generator = reads(alloc)?;
+    Core::new(alloc, config(Mode::Strict, NUMBERS, generator, schedule, 0))
+}
+
+fn only(alloc: Global, item: Item) -> Result<Gen, AllocError> {
+    Ok(Gen::Ops(Cycle::new(vec![in alloc; item]?)))
+}
+
+// A generator of this fault.
+fn fault_given(alloc: Global, fault: Plain) -> Result<Gen, AllocError> {
+    let fault = fault_of(alloc, fault)?;
+    let faults = only(alloc, Item::Fault(fault))?;
+    Ok(Gen::Nemesis(Box::new(alloc, faults)?))
+}
+
+// A core that is given by this.
+fn given(alloc: Global, generator: Gen) -> Result<Core, Refusal> {
+    let schedule = no_fault(alloc);
+    Core::new(alloc, config(Mode::Strict, NUMBERS, generator, schedule, 0))
 }
 
 // A core whose generator gives this fault.
 fn generated(alloc: Global, fault: Plain) -> Result<Core, Refusal> {
-    let mut config = good(alloc)?;
-    let item = Item::Fault(fault_of(alloc, fault)?);
-    let faults = Gen::Ops(Cycle::new(vec![in alloc; item]?));
-    config.generator = Gen::Nemesis(Box::new(alloc, faults)?);
-    Core::new(alloc, config)
+    given(alloc, fault_given(alloc, fault)?)
 }
 
 const FAULTS: [(Plain, u8); 6] = [
@@ -94,10 +104,7 @@ fn bad_faults(rt: HostRuntime) {
 
 // A core whose generator gives this operation.
 fn giving(alloc: Global, name: Name, part: Part) -> Result<Core, Refusal> {
-    let mut config = good(alloc)?;
-    let item = Item::Op(op(name, part));
-    config.generator = Gen::Ops(Cycle::new(vec![in alloc; item]?));
-    Core::new(alloc, config)
+    given(alloc, only(alloc, Item::Op(op(name, part)))?)
 }
 
 // Operations with a part that their name does not have, and one with its own.
@@ -107,20 +114,17 @@ fn bad_operations(rt: HostRuntime) {
     let found = opening_said(giving(rt.alloc(), Name::Read, Part::Int(5)));
     let half = opening_said(giving(rt.alloc(), Name::Cas, Part::Int(5)));
     let right = opening_said(giving(rt.alloc(), Name::Cas, Part::Pair(1, 2)));
-    assert_eq!(rt; [nil, found, half, right], [5, 5, 5, 0]);
+    assert!(rt; [nil, found, half, right] == [5, 5, 5, 0]);
 }
 
 // A core of these numbers and this fault.
-fn opened(alloc: Global, numbers: (u32, u32, u8), fault: Plain) -> Result<Core, Refusal> {
-    let mut config = good(alloc)?;
-    config.budget = numbers.0;
-    config.concurrency = numbers.1;
-    config.replicas = numbers.2;
-    config.schedule = one_fault(alloc, 0, fault)?;
-    Core::new(alloc, config)
+fn opened(alloc: Global, numbers: Numbers, fault: Plain) -> Result<Core, Refusal> {
+    let schedule = one_fault(alloc, 0, fault)?;
+    let generator = reads(alloc)?;
+    Core::new(alloc, config(Mode::Strict, numbers, generator, schedule, 0))
 }
 
-const IN_ORDER: [((u32, u32, u8), Plain, u8); 6] = [
+const IN_ORDER: [(Numbers, Plain, u8); 6] = [
     ((0, 65, 0), Plain::Crash(3), 9),
     ((4096, 65, 0), Plain::Crash(3), 10),
     ((4096, 2, 0), Plain::Crash(3), 18),

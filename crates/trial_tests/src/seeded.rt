@@ -1,7 +1,7 @@
 //! Trials under faults, with every choice taken from the random words of a seed. What they come to was worked out by a second
 //! program in another language, which draws, serves and judges by the definitions and shares nothing with this one.
 use crate::answers::{Said, verdict_said};
-use crate::setups::{Plain, config, fault_of};
+use crate::setups::{Plain, config, fault_of, no_fault};
 use edn::Refusal;
 use events::{EventKind, Process};
 use generators::{Cycle, Gen, Item};
@@ -83,10 +83,8 @@ fn choices(alloc: Global) -> Result<Gen, AllocError> {
 }
 
 fn opened(alloc: Global, mode: Mode, seed: u64) -> Result<Core, Refusal> {
-    let mut config = config(alloc, mode, &[])?;
-    config.concurrency = 3;
-    config.generator = choices(alloc)?;
-    config.seed = seed;
+    let generator = choices(alloc)?;
+    let config = config(mode, (4096, 3, 3), generator, no_fault(alloc), seed);
     Core::new(alloc, config)
 }
 

@@ -115,8 +115,8 @@ pub(crate) fn one_fault(alloc: Global, at: u32, fault: Plain) -> Result<Schedule
     Ok(Schedule::new(vec![in alloc; (at, fault)]?))
 }
 
-// For each number its write, and a read where there is none, in turn.
-fn ops_of(alloc: Global, values: &[Option<i64>]) -> Result<Gen, AllocError> {
+/// For each number its write, and a read where there is none, in turn.
+pub(crate) fn ops_of(alloc: Global, values: &[Option<i64>]) -> Result<Gen, AllocError> {
     let mut items = Vec::new(alloc);
     for value in values {
         let name = match value {
@@ -128,26 +128,39 @@ fn ops_of(alloc: Global, values: &[Option<i64>]) -> Result<Gen, AllocError> {
     Ok(Gen::Ops(Cycle::new(items)))
 }
 
-/// Two threads that are given a write of each number, and a read where there is none, in turn; three replicas that are
-/// registers; no fault.
-pub(crate) fn config(
-    alloc: Global,
-    mode: Mode,
-    values: &[Option<i64>],
-) -> Result<Config, AllocError> {
-    Ok(Config {
-        concurrency: 2,
-        kind: ModelKind::Register,
-        budget: 4096,
-        replicas: 3,
-        mode,
-        generator: ops_of(alloc, values)?,
-        schedule: Schedule::new(Vec::new(alloc)),
-        seed: 0,
-    })
+/// No fault.
+pub(crate) fn no_fault(alloc: Global) -> Schedule {
+    Schedule::new(Vec::new(alloc))
 }
 
-/// A core of that configuration and mode, with one fault, due from this length of the history on.
+/// The budget, how many threads, and how many replicas.
+pub(crate) type Numbers = (u32, u32, u8);
+
+/// A budget that suffices, two threads, three replicas.
+pub(crate) const NUMBERS: Numbers = (4096, 2, 3);
+
+/// Registers of these numbers, whose clients are given this, under these faults.
+pub(crate) fn config(
+    mode: Mode,
+    numbers: Numbers,
+    generator: Gen,
+    schedule: Schedule,
+    seed: u64,
+) -> Config {
+    Config {
+        concurrency: numbers.1,
+        kind: ModelKind::Register,
+        budget: numbers.0,
+        replicas: numbers.2,
+        mode,
+        generator,
+        schedule,
+        seed,
+    }
+}
+
+/// A core of two threads that are given a write of each number, and a read where there is none, in turn, with one fault, due
+/// from this length of the history on.
 pub(crate) fn faulty(
     alloc: Global,
     mode: Mode,
@@ -155,7 +168,7 @@ pub(crate) fn faulty(
     at: u32,
     fault: Plain,
 ) -> Result<Core, Refusal> {
-    let mut config = config(alloc, mode, values)?;
-    config.schedule = one_fault(alloc, at, fault)?;
-    Core::new(alloc, config)
+    let schedule = one_fault(alloc, at, fault)?;
+    let generator = ops_of(alloc, values)?;
+    Core::new(alloc, config(mode, NUMBERS, generator, schedule, 0))
 }

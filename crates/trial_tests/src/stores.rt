@@ -1,43 +1,50 @@
 //! A store under faults.
 
-use crate::counted::{Counted, Said, Step, told};
+use crate::counted::{Counted, Said, Step, follows, told};
 use edn::Refusal;
 use events::{Fault, Groups};
 use models::{Found, ModelKind, Name};
 use std::alloc::{AllocError, Global};
-use std::panic::Expect;
 use test_store::{Mode, Outcome, Store};
+
+const CRASHES: [(Step, Said); 7] = [
+    (Step::Serve(0, Name::Write, Some(5)), Said::Done),
+    (Step::Crash(0), Said::Struck),
+    (Step::Serve(1, Name::Read, None), Said::Found(Some(5))),
+    (Step::Crash(1), Said::Struck),
+    (Step::Serve(2, Name::Read, None), Said::Refused),
+    (Step::Restart(0), Said::Struck),
+    (Step::Serve(2, Name::Read, None), Said::Found(Some(5))),
+];
 
 #[test]
 fn strict_store_survives_crashes(rt: HostRuntime) {
-    let mut store = Counted::new(rt.alloc(), 3, ModelKind::Register).expect(&rt, "a store");
-    let rows = &[
-        (Step::Serve(0, Name::Write, Some(5)), Said::Done),
-        (Step::Crash(0), Said::Struck),
-        (Step::Serve(1, Name::Read, None), Said::Found(Some(5))),
-        (Step::Crash(1), Said::Struck),
-        (Step::Serve(2, Name::Read, None), Said::Refused),
-        (Step::Restart(0), Said::Struck),
-        (Step::Serve(2, Name::Read, None), Said::Found(Some(5))),
-    ];
-    store.follow(&rt, rows);
+    let follows = follows(rt.alloc(), 3, ModelKind::Register, &CRASHES);
+    assert!(rt; matches!(follows, Ok(true)));
+}
+
+const TWO_WRITES: [(Step, Said); 5] = [
+    (Step::Serve(0, Name::Write, Some(5)), Said::Done),
+    (Step::Pause(0), Said::Struck),
+    (Step::Serve(1, Name::Write, Some(6)), Said::Done),
+    (Step::Resume(0), Said::Struck),
+    (Step::Pause(2), Said::Struck),
+];
+
+const NEWER: [(Step, Said); 1] = [(Step::Serve(0, Name::Read, None), Said::Found(Some(6)))];
+
+// Whether the two writes go so, and a read finds the newer one, in the store and in its copy.
+fn finds_the_newer(alloc: Global) -> Result<[bool; 3], Refusal> {
+    let mut store = Counted::new(alloc, 3, ModelKind::Register)?;
+    let first = store.follows(&TWO_WRITES);
+    let second = store.follows(&NEWER);
+    let mut copy = store.copy()?;
+    Ok([first, second, copy.follows(&NEWER)])
 }
 
 #[test]
 fn greatest_version_wins(rt: HostRuntime) {
-    let mut store = Counted::new(rt.alloc(), 3, ModelKind::Register).expect(&rt, "a store");
-    let rows = &[
-        (Step::Serve(0, Name::Write, Some(5)), Said::Done),
-        (Step::Pause(0), Said::Struck),
-        (Step::Serve(1, Name::Write, Some(6)), Said::Done),
-        (Step::Resume(0), Said::Struck),
-        (Step::Pause(2), Said::Struck),
-    ];
-    store.follow(&rt, rows);
-    let read = &[(Step::Serve(0, Name::Read, None), Said::Found(Some(6)))];
-    store.follow(&rt, read);
-    let mut copy = store.copy().expect(&rt, "a copy");
-    copy.follow(&rt, read);
+    assert!(rt; finds_the_newer(rt.alloc()) == Ok([true, true, true]));
 }
 
 // A partition of replica 0 from this one, and from one that there is not.
@@ -47,32 +54,37 @@ fn partition(alloc: Global, other: u8) -> Result<Fault, AllocError> {
     Ok(Fault::Partition(Groups::new(vec![in alloc; alone, others]?)))
 }
 
-fn refusal_of(store: &mut Store, fault: Fault) -> Option<Refusal> {
-    store.fault(&fault).err()
-}
-
 fn opened(alloc: Global, replicas: u8) -> Result<Store, Refusal> {
     Store::new(alloc, replicas, Mode::Strict, ModelKind::Register)
 }
 
+// What a store of three replicas refuses the fault for.
+fn refusal_of(alloc: Global, fault: &Fault) -> Result<Option<Refusal>, Refusal> {
+    let mut store = opened(alloc, 3)?;
+    Ok(store.fault(fault).err())
+}
+
+// What it refuses the partition for.
+fn refusal_of_partition(alloc: Global, other: u8) -> Result<Option<Refusal>, Refusal> {
+    refusal_of(alloc, &partition(alloc, other)?)
+}
+
 #[test]
 fn bad_faults(rt: HostRuntime) {
-    let mut store = opened(rt.alloc(), 3).expect(&rt, "a store");
     let absent = Some(Refusal::NoSuchReplica);
-    assert_eq!(rt; refusal_of(&mut store, Fault::Pause(3)), absent);
+    assert!(rt; refusal_of(rt.alloc(), &Fault::Pause(3)) == Ok(absent));
     for (other, why) in [(0, Some(Refusal::BadValue)), (1, absent)] {
-        let fault = partition(rt.alloc(), other).expect(&rt, "a fault");
-        assert_eq!(rt; refusal_of(&mut store, fault), why);
+        assert!(rt; refusal_of_partition(rt.alloc(), other) == Ok(why));
     }
     for replicas in [0, 8] {
-        assert_eq!(rt; opened(rt.alloc(), replicas).err(), absent);
+        assert!(rt; opened(rt.alloc(), replicas).err() == absent);
     }
 }
 
 #[test]
 fn copies_of_outcomes(rt: HostRuntime) {
     let found = Outcome::Done(Found::Reg(Some(5)));
-    assert_eq!(rt; told(found.copy()), Said::Found(Some(5)));
-    assert_eq!(rt; told(Outcome::Refused.copy()), Said::Refused);
-    assert_eq!(rt; told(Outcome::Lost.copy()), Said::Lost);
+    assert!(rt; told(found.copy()) == Said::Found(Some(5)));
+    assert!(rt; told(Outcome::Refused.copy()) == Said::Refused);
+    assert!(rt; told(Outcome::Lost.copy()) == Said::Lost);
 }

@@ -1,10 +1,11 @@
 //! Trials as rows: how a core is opened, what it is asked and answers, and which events there are then.
 use crate::answers::{Row, events_are, first_other};
-use crate::setups::{Plain, config, one_fault};
+use crate::setups::{NUMBERS, Plain, config, no_fault, one_fault, ops_of};
 use edn::Refusal;
 use events::{EventKind, Process};
 use harness::Core;
-use std::alloc::Global;
+use nemesis::Schedule;
+use std::alloc::{AllocError, Global};
 use test_store::Mode;
 
 /// Commands and their answers, and the events after them.
@@ -25,12 +26,17 @@ pub(crate) struct Trial {
     pub(crate) stages: &'static [Stage],
 }
 
-fn opened(alloc: Global, trial: &Trial) -> Result<Core, Refusal> {
-    let mut config = config(alloc, trial.mode, trial.values)?;
-    if let Some((at, fault)) = trial.fault {
-        config.schedule = one_fault(alloc, at, fault)?;
+fn schedule(alloc: Global, fault: Option<(u32, Plain)>) -> Result<Schedule, AllocError> {
+    match fault {
+        Some((at, fault)) => one_fault(alloc, at, fault),
+        None => Ok(no_fault(alloc)),
     }
-    Core::new(alloc, config)
+}
+
+fn opened(alloc: Global, trial: &Trial) -> Result<Core, Refusal> {
+    let schedule = schedule(alloc, trial.fault)?;
+    let generator = ops_of(alloc, trial.values)?;
+    Core::new(alloc, config(trial.mode, NUMBERS, generator, schedule, 0))
 }
 
 fn is_as_told(core: &mut Core, stage: &Stage) -> bool {

@@ -8,7 +8,7 @@ use std::sync::Wait;
 pub type Heard = (u64, Result<Reply, Refusal>);
 
 /// A board that threads share, each by a seat of its own.
-pub trait SharedBoard {
+pub trait CommandedBoard {
     type Seat;
 
     type News;
@@ -28,7 +28,7 @@ pub trait SharedBoard {
     fn glance_after(&self, seat: &mut Self::Seat, news: Self::News) -> Option<u64>;
 }
 
-impl<B: Tag> SharedBoard for Board<B> {
+impl<B: Tag> CommandedBoard for Board<B> {
     type Seat = Seat<B>;
 
     type News = News<B>;
@@ -50,6 +50,9 @@ impl<B: Tag> SharedBoard for Board<B> {
 
     fn glance_after(&self, seat: &mut Seat<B>, news: News<B>) -> Option<u64> {
         seat.learn(news);
-        Some(Board::glance(self, seat)?.call_count)
+        match Board::glance(self, seat) {
+            Some(glance) => Some(glance.call_count),
+            None => None,
+        }
     }
 }

@@ -10,22 +10,7 @@ use models::{ModelKind, Name, Op, Part};
 use nemesis::Schedule;
 use std::alloc::Global;
 use std::process::Abort;
-use std::sync::atomic::{AtomicBool, Ordering};
-use std::thread;
-
-/// The turns that a thread waits for another.
-pub const TURNS: u32 = 1_000_000;
-
-/// Whether another thread sets the flag within so many turns.
-pub fn comes(flag: &AtomicBool) -> bool {
-    for _ in 0..TURNS {
-        if flag.load(Ordering::SeqCst) {
-            return true;
-        }
-        thread::yield_now();
-    }
-    false
-}
+use test_store::Mode;
 
 fn item(name: Name, part: Part) -> Item {
     Item::Op(Op { name, key: 0, part })
@@ -62,9 +47,14 @@ fn config(
 ) -> Result<Config, Refusal> {
     let child = Box::new(alloc, Gen::Ops(Cycle::new(items)))?;
     Ok(Config {
+        concurrency: 2,
+        kind: ModelKind::Register,
+        budget: 4096,
+        replicas: 1,
+        mode: Mode::Strict,
         generator: Gen::Limit(operations, child),
         schedule,
-        ..Config::to_judge(alloc, 2, ModelKind::Register, 4096)
+        seed: 0,
     })
 }
 

@@ -1,7 +1,7 @@
 -- The board of the one-thread object may be shared by threads, and its seats may go to them.
 use denote.Param.Send.{param_send, param_sync}
 use Rattle.board.proofs.Crossing.{board_sync, seat_send}
-use Rattle.clients_tests.proofs.cut.run_and_cut.Goals as goal
+use Rattle.board_tests.proofs.cut.run_and_cut.Goals as goal
 
 pub run_three-first-requires-sync-M : goal.run_three-first-requires-sync-M
 run_three-first-requires-sync-M g c κs within =

@@ -1,7 +1,8 @@
 //! Faults that are due before a client begins.
 ghost use Rattle.std.specs.Prelude.{◌≡◌};
 
-use crate::boards::{TURNS, blank_under, read};
+use crate::boards::TURNS;
+use crate::client_boards::{blank_under, read};
 use board::{Blank, Tag};
 use clients::{Watch, run_clients};
 use edn::Gate;
@@ -87,14 +88,17 @@ fn due_faults_strike(rt: HostRuntime) {
     let Ok(schedule) = heals(alloc) else {
         panic!(&rt; "no memory")
     };
-    strike::<Brand, _>(&rt, alloc, blank_under(&rt, alloc, 2, 1, items, schedule));
+    let blank = blank_under(&rt, alloc, 2, 1, items, schedule);
+    let (missed, events, firsts) = strike::<Brand, _>(&rt, alloc, blank);
+    assert!(rt; !missed && events == 5 && firsts == 3);
 }
 
+// Whether the client waited for too long; how many events there are, and with how many faults they begin.
 fn strike<B: Tag + Send + Sync, R: Threads + Wait + Abort + Sync>(
     rt: &R,
     alloc: Global,
     blank: Blank,
-)
+) -> (bool, usize, usize)
     requires names { (blank.word ≡ B.word) × (blank.ledger.name ≡ B.name)
         × (blank.ledger.parts ≡ B.parts) }
     requires seats { blank.seats ≡ 2 }
@@ -109,10 +113,9 @@ fn strike<B: Tag + Send + Sync, R: Threads + Wait + Abort + Sync>(
     };
     let core = board.end(rt, back);
     let events = core.monitor().history().events();
-    assert!(rt; !tries.missed.load(Ordering::SeqCst));
-    assert_eq!(rt; events.len(), 5);
     let firsts = events
         .iter()
         .take_while(|event| matches!(event.process, Process::Nemesis));
-    assert_eq!(rt; firsts.count(), 3);
+    let missed = tries.missed.load(Ordering::SeqCst);
+    (missed, events.len(), firsts.count())
 }

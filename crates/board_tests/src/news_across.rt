@@ -1,8 +1,8 @@
 //! News from one thread to another.
 ghost use Rattle.std.specs.Prelude.{◌≡◌};
 
-use crate::boards::{append_write, blank};
-use crate::shared::SharedBoard;
+use crate::client_boards::{append_write, blank};
+use crate::commanded::CommandedBoard;
 use board::{Blank, Tag};
 use events::EventKind;
 use harness::Command;
@@ -12,7 +12,7 @@ use std::sync::Wait;
 use std::thread::{Threads, join};
 
 // Two events in a thread, the second of which makes news.
-fn append_there<M: SharedBoard, R: Wait>(
+fn append_there<M: CommandedBoard, R: Wait>(
     rt: &R,
     board: &M,
     mut seat: M::Seat,
@@ -23,7 +23,7 @@ fn append_there<M: SharedBoard, R: Wait>(
 }
 
 // What a glance shows after the news, and the commit of a call after that.
-fn learn_there<M: SharedBoard, R: Wait>(
+fn learn_there<M: CommandedBoard, R: Wait>(
     rt: &R,
     board: &M,
     mut seat: M::Seat,
@@ -41,8 +41,37 @@ where
     (seat, shown, commit)
 }
 
+// The first seat in a thread of its own.
+fn append_in_thread<M: CommandedBoard + Sync, R: Threads + Wait + Sync>(
+    rt: &R,
+    board: &M,
+    seat: M::Seat,
+) -> (M::Seat, Option<(u64, M::News)>)
+where
+    M::Seat: Send + Drop,
+    M::News: Send + Drop,
+{
+    let (told, ()) = join(rt, move || append_there(rt, board, seat), || ());
+    told
+}
+
+// The second seat in another.
+fn learn_in_thread<M: CommandedBoard + Sync, R: Threads + Wait + Sync>(
+    rt: &R,
+    board: &M,
+    seat: M::Seat,
+    news: M::News,
+) -> (M::Seat, Option<u64>, Option<u64>)
+where
+    M::Seat: Send + Drop,
+    M::News: Send + Drop,
+{
+    let (learned, ()) = join(rt, move || learn_there(rt, board, seat, news), || ());
+    learned
+}
+
 // The news of one thread go to another.
-fn tell_across<M: SharedBoard + Sync, R: Threads + Wait + Sync>(
+fn tell_across<M: CommandedBoard + Sync, R: Threads + Wait + Sync>(
     rt: &R,
     board: &M,
     first: M::Seat,
@@ -52,16 +81,14 @@ where
     M::Seat: Send + Drop,
     M::News: Send + Drop,
 {
-    let ((first, told), ()) = join(rt, move || append_there(rt, board, first), || ());
-    let Some((commit, news)) = told else {
-        return (first, second, None);
-    };
-    let ((second, shown, called), ()) = join(
-        rt,
-        move || learn_there(rt, board, second, news),
-        || (),
-    );
-    (first, second, Some((commit, shown, called)))
+    let (first, told) = append_in_thread(rt, board, first);
+    match told {
+        Some((commit, news)) => {
+            let (second, shown, called) = learn_in_thread(rt, board, second, news);
+            (first, second, Some((commit, shown, called)))
+        }
+        None => (first, second, None),
+    }
 }
 
 /// A seat that learns news in another thread sees by its next glance what the caller had seen, and its next call comes
@@ -69,22 +96,26 @@ where
 #[test]
 fn news_between_threads(rt: HostRuntime) {
     let alloc = rt.alloc();
-    tell::<Brand, _>(&rt, blank(&rt, alloc, 2, 0, Vec::new(alloc)));
+    let told = tell::<Brand, _>(&rt, blank(&rt, alloc, 2, 0, Vec::new(alloc)));
+    assert!(rt; told == (true, Some((2, Some(2), Some(3)))));
 }
 
-fn tell<B: Tag + Send + Sync, R: Threads + Wait + Abort + Sync>(rt: &R, blank: Blank)
+// Whether the seats came back, and what they were told.
+fn tell<B: Tag + Send + Sync, R: Threads + Wait + Abort + Sync>(
+    rt: &R,
+    blank: Blank,
+) -> (bool, Option<(u64, Option<u64>, Option<u64>)>)
     requires names { (blank.word ≡ B.word) × (blank.ledger.name ≡ B.name)
         × (blank.ledger.parts ≡ B.parts) }
     requires seats { blank.seats ≡ 2 }
 {
     let Ok((board, mut seats)) = blank.open::<B>() else {
-        panic!(rt; "not opened")
+        return (false, None);
     };
     let second = seats.pop().unwrap();
     let first = seats.pop().unwrap();
     let (first, second, told) = tell_across(rt, &board, first, second);
     let kept = seats.push(first).is_ok() && seats.push(second).is_ok();
     board.end(rt, seats);
-    assert!(rt; kept);
-    assert_eq!(rt; told, Some((2, Some(2), Some(3))));
+    (kept, told)
 }
