@@ -1,4 +1,4 @@
-//! Worked rows of texts, sequential objects, histories, and orders of histories. Each answer is compared with one that follows
+//! Worked rows of texts, sequential objects, histories, orders of histories, and wide sets. Each answer is compared with one that follows
 //! from the grammar, the tables and the definitions by hand. It has tests alone.
 #![tactic(auto)]
 
@@ -8,5 +8,7 @@ mod histories;
 mod objects;
 #[cfg(test)]
 mod orders;
+#[cfg(test)]
+mod sets;
 #[cfg(test)]
 mod texts;
