@@ -10,7 +10,7 @@ use Rattle.events.proofs.OneEvent.{spell_one}
 use Rattle.models.specs.Objects.{object_of}
 use Rattle.linspec.specs.declared.verdict.KeyStatus.{KeyStatus}
 use Rattle.linspec.specs.declared.verdict.Verdict.{Verdict}
-use Rattle.linspec.specs.Ends.{is_no_read}
+use Rattle.linspec.specs.Counts.{CountsMoreThan}
 use Rattle.linspec.specs.KeyHistory.{IsStatusOf}
 use Rattle.linspec.specs.JudgedHistory.{JudgedHistory, kind_of, budget_of, entries_in, history_of_key, IsVerdictOn}
 use Rattle.linspec.proofs.OneAnswer.{one_status, one_verdict}
@@ -48,7 +48,7 @@ rows_one h (x ∷ rows) (y ∷ others) keys a b =
     let rest : map (λ (row : ℕ × KeyStatus). row.0) rows ≡ map (λ (row : ℕ × KeyStatus). row.0) others = cc in
     let here : IsStatusOf (history_of_key h y.0) x.1 = subst (λ k. IsStatusOf (history_of_key h k) x.1) key (All-head P x rows a) in
     let of_key = history_of_key h y.0 in
-    let status : x.1 ≡ y.1 = one_status is_no_read (object_of of_key.kind) of_key.budget (entries_of of_key.events) x.1 y.1 here (All-head P y others b) in
+    let status : x.1 ≡ y.1 = one_status (CountsMoreThan of_key.kind) (object_of of_key.kind) of_key.budget (entries_of of_key.events) x.1 y.1 here (All-head P y others b) in
     ap (λ (k : ℕ). let row : ℕ × KeyStatus = (k, x.1) in row ∷ rows) key ∙ ap (λ (s : KeyStatus). let row : ℕ × KeyStatus = (y.0, s) in row ∷ rows) status ∙ ap (λ l. y ∷ l) (rows_one h rows others rest (All-tail P x rows a) (All-tail P y others b))
 
 report_one : (h : JudgedHistory) (text other : List ℕ) → IsReport h text → IsReport h other → text ≡ other
