@@ -14,6 +14,7 @@ import sys
 import tempfile
 from typing import Dict, List
 
+import forked
 from case_loop import LIMIT, Case, differing, given, read, run_cases, words
 
 TOP = pathlib.Path(__file__).resolve().parent.parent
@@ -24,8 +25,7 @@ PROGRAM = os.environ.get("JEPMON") or str(TOP / "crates" / "jepmon" / "out" / "j
 
 def explained(arguments: List[str], text: bytes = b"", program: str = PROGRAM) -> "subprocess.CompletedProcess[bytes]":
     environment: Dict[str, str] = dict(os.environ, JEPMON=program)
-    return subprocess.run([sys.executable, str(EXPLAIN)] + arguments, input=text, stdout=subprocess.PIPE,
-                          stderr=subprocess.PIPE, timeout=LIMIT, env=environment)
+    return forked.ran([str(EXPLAIN)] + arguments, text, environment=environment)
 
 
 def run_case(case: pathlib.Path) -> List[str]:

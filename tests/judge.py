@@ -20,6 +20,7 @@ import time
 from typing import Dict, List, Optional
 
 import case_loop as histories
+import forked
 import program
 from case_loop import LIMIT, Case, differing, read, run_cases, words
 
@@ -46,8 +47,7 @@ def environment(jepmon: str = PROGRAM) -> Dict[str, str]:
 
 def ran(arguments: List[str], text: bytes = b"", jepmon: str = PROGRAM, folder: Optional[str] = None,
         tool: Optional[List[str]] = None) -> "subprocess.CompletedProcess[bytes]":
-    return subprocess.run((tool or JUDGE) + arguments, input=text, stdout=subprocess.PIPE, stderr=subprocess.PIPE, timeout=LIMIT,
-                          env=environment(jepmon), cwd=folder)
+    return forked.ran((tool or JUDGE)[1:] + arguments, text, folder, environment(jepmon))
 
 
 def run_case(case: pathlib.Path) -> List[str]:
