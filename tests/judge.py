@@ -41,7 +41,7 @@ Ran = "subprocess.CompletedProcess[bytes]"
 
 def environment(jepmon: str = PROGRAM) -> Dict[str, str]:
     kept = {name: value for name, value in os.environ.items() if name not in ("COLUMNS", "PYTHONPATH")}
-    return dict(kept, JEPMON=jepmon, PYTHONPATH=str(TOP / "python"), PYTHONIOENCODING="utf-8", PYTHONDONTWRITEBYTECODE="1")
+    return dict(kept, JEPMON=jepmon, PYTHONPATH=str(TOP / "python"), PYTHONIOENCODING="utf-8", **program.COMPILED)
 
 
 def ran(arguments: List[str], text: bytes = b"", jepmon: str = PROGRAM, folder: Optional[str] = None,
