@@ -1,11 +1,13 @@
 #!/usr/bin/env python3
-"""Compares the tables of public calls in docs/CALLS.md with the sources: each call of each crate must stand in them
-once, and none that is not there; and a call must stand among those that refuse something exactly where it gives
-back a Result. A row of calls that may want memory must name tests in which they succeed, and these tests must be there. Prints what
-differs, and ends with 'N passed, M failed', one for each crate.
+"""Compares the tables of public calls in docs/CALLS.md with the sources: each call that gives back a Result must be in them once, and
+a row must not name a call that is not there. A row says `only memory` if and only if the error of its calls is AllocError, and
+`none` if they give back no Result. A row of calls that may run out of memory must name tests in which they succeed, and these tests must
+be there. Prints what differs, and ends with 'N passed, M failed', one for each crate.
 
-A call is public where its crate's root gives it: of a `pub mod`, or one that `pub use` names, or of a type that it names. What a
-derive or a trait of std asks for is no call of ours, nor is a law, which has no code."""
+    tests/calls.py --rows      prints a row for each call that is missing, to be completed by hand
+
+A call is public if its crate's root gives it: of a `pub mod`, or one that `pub use` names, or of a type that it names. Calls of derives
+and of std's traits do not count, nor do laws, which have no code."""
 import pathlib
 import re
 import sys
@@ -40,8 +42,14 @@ def head_of(lines, at):
     return " ".join(head)
 
 
+def error_of(head):
+    """The type of the error of a function with this head, or None if it gives back no Result."""
+    back = re.search(r"->\s*(?:io::)?Result<(.*)>", re.split(r"\b(?:ensures|requires)\b", head)[0])
+    return back.group(1).rpartition(",")[2].strip() if back else None
+
+
 def calls_of(path, modules, items, types):
-    """The public calls of a file, each as 'Holder::name' or 'name', with whether it may refuse."""
+    """The public calls of a file, each as 'Holder::name' or 'name', with the type of its error, or None if it gives back no Result."""
     found, holder, in_trait, of_trait = {}, None, False, False
     lines = path.read_text().splitlines()
     for at, line in enumerate(lines):
@@ -61,13 +69,12 @@ def calls_of(path, modules, items, types):
         is_law = "()" in head.split("ensures")[0] and "->" not in head
         if is_public and not is_law:
             name = f"{holder}::{call.group(2)}" if holder else call.group(2)
-            back = re.search(r"->\s*(?:io::)?(\w+)", head)
-            found[name] = bool(back) and back.group(1) == "Result"
+            found[name] = error_of(head)
     return found
 
 
 def public_calls(crate):
-    """The public calls of a crate, each with whether it may refuse."""
+    """The public calls of a crate, each with the type of its error."""
     src = TOP / "crates" / crate / "src"
     root = src / "lib.rt" if (src / "lib.rt").exists() else src / "main.rt"
     modules, items = given(root.read_text())
@@ -87,11 +94,21 @@ def rows_of_tables():
 
 
 def told():
-    """What the tables say of each crate: the calls of each row, with whether the row says that they may refuse."""
+    """What the tables say of each crate: each call with the begin of its third cell."""
     found = {}
     for crate, (calls, refusals, *_) in rows_of_tables():
-        found.setdefault(crate, []).extend((call, not refusals.startswith("none")) for call in spelled(calls))
+        found.setdefault(crate, []).extend((call, kind_told(refusals)) for call in spelled(calls))
     return found
+
+
+def kind_told(refusals):
+    """What a cell says of refusals: `none`, `only memory`, or names of refusals."""
+    return next((kind for kind in ("none", "only memory") if refusals.startswith(kind)), "names of refusals")
+
+
+def kind_of(error):
+    """What a cell has to say of a call with this error."""
+    return "none" if error is None else "only memory" if error == "AllocError" else "names of refusals"
 
 
 def spelled(cell):
@@ -127,17 +144,34 @@ def unseen(rows):
     return faults
 
 
+def faults_of(crate, named):
+    """What is wrong with the rows of a crate, which name these calls."""
+    calls = public_calls(crate)
+    names = [name for name, _ in named]
+    faults = [f"does not have {name}" for name, error in calls.items() if error and name not in names]
+    faults += [f"has {name}, which is not there" for name in names if name not in calls]
+    faults += [f"has {name} twice" for name in set(names) if names.count(name) > 1]
+    return faults + [f"says of {name}: {kind}, and not: {kind_of(calls[name])}" for name, kind in named
+                     if name in calls and kind != kind_of(calls[name])]
+
+
+def print_rows(table):
+    """A row for each call that is missing."""
+    for crate in CRATES:
+        names = {name for name, _ in table.get(crate, [])}
+        for name, error in public_calls(crate).items():
+            if error and name not in names:
+                print(f"| `{crate}` | `{name}` | " + ("only memory | yes" if error == "AllocError" else f"`..`: `{error}` | ..") + " | | |")
+
+
 def main():
     table, failed = told(), 0
+    if sys.argv[1:] == ["--rows"]:
+        print_rows(table)
+        return 0
     seen = unseen(rows_of_memory())
     for crate in CRATES:
-        calls, named = public_calls(crate), table.get(crate, [])
-        names = [name for name, _ in named]
-        faults = seen.get(crate, []) + [f"does not have {name}" for name in calls if name not in names]
-        faults += [f"has {name}, which is not there" for name in names if name not in calls]
-        faults += [f"has {name} twice" for name in set(names) if names.count(name) > 1]
-        faults += [f"says of {name} that it refuses nothing" for name, refuses in named if calls.get(name) and not refuses]
-        faults += [f"says of {name} that it refuses something" for name, refuses in named if name in calls and refuses > calls[name]]
+        faults = seen.get(crate, []) + faults_of(crate, table.get(crate, []))
         failed += bool(faults)
         for fault in faults:
             print(f"docs/CALLS.md, {crate}: {fault}")

@@ -1,21 +1,24 @@
 #!/usr/bin/env python3
 """Checks the documents without running anything: each link to a file or a heading of this repository leads there; and docs/DECISIONS.md
-is as its first lines say: its index has each heading once, in order and in the same words, with an answer, and an entry has at most 120
-words, link targets left out, and says why not the other way and what would change it (tables after an entry are not counted).
+is as its first lines say: its index has each heading once and in order, and an entry has at most 120 words, link targets left out, and
+says why not another way and what would change it (tables after an entry do not count).
 
-The drawing of the layers in docs/ARCHITECTURE.md is that of crates.txt. Prints what is wrong, and ends with 'N passed, M failed', one for each document, one for the decisions and one for the layers."""
+    tests/links.py             prints what is wrong, and 'N passed, M failed': one for each document, one for the decisions, one for the layers
+    tests/links.py --index     writes the index of docs/DECISIONS.md from its headings
+
+The drawing of the layers in docs/ARCHITECTURE.md is that of crates.txt."""
 import pathlib
 import re
 import subprocess
 import sys
-from typing import Dict, Iterator, List, Set, Tuple
+from typing import Dict, Iterator, List, NamedTuple, Set
 
 import layers
 
 TOP = pathlib.Path(__file__).resolve().parent.parent
 DECISIONS = TOP / "docs" / "DECISIONS.md"
 LINK = re.compile(r"\]\(([^()\s]+)\)")
-ENTRY = re.compile(r"\| (\*\*)?\[(.+?)\]\(#([^)]*)\)(?:\*\*)? \| (.*?) ?\|")
+INDEX = re.compile(r"(?:^- .*\n)+", re.M)
 MOST_WORDS = 120
 
 
@@ -64,53 +67,62 @@ def broken(file: pathlib.Path) -> List[str]:
     return found
 
 
-def headings() -> List[Tuple[bool, str, List[str]]]:
-    """The headings of the decisions, whether each is a section's, and its lines up to the first table."""
-    found: List[Tuple[bool, str, List[str]]] = []
+class Heading(NamedTuple):
+    is_section: bool
+    name: str
+    lines: List[str]  # up to the first table
+
+
+def headings() -> List[Heading]:
+    """The headings of the decisions."""
+    found: List[Heading] = []
     in_table = False
     for line in DECISIONS.read_text(encoding="utf-8").splitlines():
         heading = re.match(r"(###?) (.*)", line)
         if heading:
-            found.append((heading[1] == "##", heading[2], []))
+            found.append(Heading(heading[1] == "##", heading[2], []))
             in_table = False
         elif found:
             in_table = in_table or line.startswith("|")
             if not in_table:
-                found[-1][2].append(line)
+                found[-1].lines.append(line)
     return found
+
+
+def index_of(every: List[Heading]) -> str:
+    """The index that these headings make."""
+    return "".join(f"- **[{one.name}](#{anchor(one.name)})**\n" if one.is_section else f"- [{one.name}](#{anchor(one.name)})\n" for one in every)
+
+
+def write_index() -> None:
+    text = DECISIONS.read_text(encoding="utf-8")
+    before, mark, behind = text.partition("\n## ")
+    before = INDEX.sub("", before).rstrip("\n") + "\n\n" + index_of(headings())
+    DECISIONS.write_text(before + mark + behind, encoding="utf-8")
 
 
 def of_decisions() -> List[str]:
     """What is wrong with the decisions."""
     faults = []
-    text = DECISIONS.read_text(encoding="utf-8")
-    index = [ENTRY.fullmatch(line) for line in text.split("\n## ", 1)[0].splitlines() if line.startswith("| [") or line.startswith("| **[")]
-    listed = [(bool(entry[1]), entry[2], entry[3], entry[4]) for entry in index if entry]
     every = headings()
-    if len(listed) != len(index):
-        faults.append("a line of the index can't be read")
-    for (is_section, name, _), (says_section, said, target, answer) in zip(every, listed):
-        if (is_section, name) != (says_section, said):
-            faults.append(f"the index has '{said}' where the heading is '{name}'")
-            break
-        if target != anchor(name):
-            faults.append(f"the index leads from '{said}' to #{target}")
-        if not is_section and not answer:
-            faults.append(f"the index has no answer to '{said}'")
-    if len(every) != len(listed):
-        faults.append(f"there are {len(every)} headings, and {len(listed)} in the index")
+    index = INDEX.search(DECISIONS.read_text(encoding="utf-8").split("\n## ", 1)[0])
+    if (index[0] if index else "") != index_of(every):
+        faults.append("the index is not that of the headings: run python3 tests/links.py --index")
     for is_section, name, lines in every:
         shown = LINK.sub("]", "\n".join(lines))
         words = len(shown.split())
         if words > MOST_WORDS:
             faults.append(f"'{name}' has {words} words, more than {MOST_WORDS}")
-        for wanted in () if is_section else ((r"\*\*(Not|Nor|not)\*\*", "why not the other way"), (r"\*\*Would\s+change\*\*", "what would change it")):
+        for wanted in () if is_section else ((r"\*\*(Not|Nor|not)\*\*", "why not another way"), (r"\*\*Would\s+change\*\*", "what would change it")):
             if not re.search(wanted[0], shown):
                 faults.append(f"'{name}' does not say {wanted[1]}")
     return faults
 
 
 def main() -> int:
+    if sys.argv[1:] == ["--index"]:
+        write_index()
+        return 0
     listed = subprocess.run(["git", "ls-files", "-z", "*.md"], cwd=TOP, stdout=subprocess.PIPE, stderr=subprocess.DEVNULL).stdout.decode()
     files = [TOP / name for name in listed.split("\0") if name] or [TOP / "README.md", TOP / "CHANGELOG.md", *sorted((TOP / "docs").glob("*.md"))]
     results = [(str(file.relative_to(TOP)), broken(file)) for file in files if file.exists()]

@@ -16,7 +16,7 @@ import threading
 import time
 
 TICKS = os.sysconf("SC_CLK_TCK")
-MOST_OF_A_CHECK = 3_300_000_000  # bytes: the most that a check of a crate has taken (docs/PERFORMANCE_RUNS.md)
+MOST_OF_A_CHECK = 3_300_000_000  # bytes: the most that a check of a crate has taken (bench/results/runs.md)
 PLANNED = 6_000_000_000  # bytes, at most, that `rt ci` plans for a check; it leaves a part of the free memory
 UNPLANNED = 0.15
 KINDS = ("proofs", "tests")

@@ -7,7 +7,7 @@
                              names.txt     what the numbers of Monitor.number stand for, where there are any
                              cause.txt     why it is illegal or unknown, in words
                              page.html     and as a picture
-                             run.html      rates, latencies and faults over time, and all keys (docs/PAGE.md); made at the end
+                             run.html      rates, latencies and faults over time, and all keys (docs/guide/PAGE.md); made at the end
     runs/latest                            a link to the newest
 
 `jepmon check` on the history, with these options, gives the verdict of the run. Notes of faults stand in it where they were taken

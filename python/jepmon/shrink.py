@@ -3,7 +3,7 @@
     part = smallest(events, report, options)
     part.text    # a history, which `jepmon check` with the key's model and budget calls illegal at its last event
 
-Only what can't make a legal history illegal is taken out (docs/SHRINKING.md says what that is, and why), and the program judges
+Only what can't make a legal history illegal is taken out (docs/guide/SHRINKING.md says what that is, and why), and the program judges
 each try. So the part is illegal by itself, and what is illegal in it is so in the whole history. It is smallest in that nothing
 more of it may go out; there may be smaller ones.
 """

@@ -1,4 +1,4 @@
-"""What may be taken out of a history of one key so that a legal one stays legal: docs/SHRINKING.md says why each may."""
+"""What may be taken out of a history of one key so that a legal one stays legal: docs/guide/SHRINKING.md says why each may."""
 from __future__ import annotations
 
 from typing import Callable, Dict, List, Sequence, Tuple

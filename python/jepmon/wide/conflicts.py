@@ -1,4 +1,4 @@
-"""An illegal part of a key's history, which the program is asked about: what may go out of it goes out (docs/SHRINKING.md says what may,
+"""An illegal part of a key's history, which the program is asked about: what may go out of it goes out (docs/guide/SHRINKING.md says what may,
 and why), as the searches of this package judge, and the program judges what is left."""
 from __future__ import annotations
 

@@ -1,0 +1,3 @@
+module jepmon
+
+go 1.19

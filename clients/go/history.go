@@ -1,0 +1,117 @@
+package jepmon
+
+import (
+	"bytes"
+	"context"
+	"encoding/json"
+	"fmt"
+	"os"
+	"os/exec"
+	"path/filepath"
+	"strconv"
+	"strings"
+	"time"
+)
+
+// verdictOf takes a reply apart, if it is `illegal` or `unknown`.
+func verdictOf(reply string) (*Verdict, bool) {
+	words := strings.Split(reply, " ")
+	if len(words) != 5 || words[0] != "illegal" && words[0] != "unknown" || words[1] != "key" || words[3] != "index" {
+		return nil, false
+	}
+	key, err := strconv.Atoi(words[2])
+	index, err2 := strconv.Atoi(words[4])
+	return &Verdict{Status: words[0], Key: key, Index: index, Reply: reply}, err == nil && err2 == nil
+}
+
+// events gives the pieces without the first lines.
+func events(pieces [][]byte, skip int) [][]byte {
+	for len(pieces) > 0 && skip > 0 {
+		at := bytes.IndexByte(pieces[0], '\n') + 1
+		pieces = append([][]byte{pieces[0][at:]}, pieces[1:]...)
+		skip--
+	}
+	return pieces
+}
+
+// tail gives the last events of the verdict's key, each after its index.
+func tail(pieces [][]byte, verdict *Verdict) []string {
+	const most = 12
+	var last []string
+	of, index := []byte(fmt.Sprintf(" :value [%d ", verdict.Key)), 0
+	for _, piece := range pieces {
+		for len(piece) > 0 && index <= verdict.Index {
+			at := bytes.IndexByte(piece, '\n')
+			if line := piece[:at]; bytes.Contains(line, of) {
+				last = append(last, fmt.Sprintf("%d %s", index, line))
+			}
+			piece = piece[at+1:]
+			index++
+		}
+	}
+	if len(last) > most {
+		last = last[len(last)-most:]
+	}
+	return last
+}
+
+// withCause writes the history to a file, and asks jepmon-judge for the cause in words, if it is there.
+func withCause(verdict Verdict, o Options, program string, pieces [][]byte) *Verdict {
+	if verdict.Index < 0 && len(pieces) == 0 {
+		return &verdict
+	}
+	file, err := os.CreateTemp(o.Out, "jepmon-*.edn")
+	if err != nil {
+		return &verdict
+	}
+	defer file.Close()
+	for _, piece := range pieces {
+		file.Write(piece)
+	}
+	verdict.History, _ = filepath.Abs(file.Name())
+	if verdict.Status == "illegal" {
+		verdict.Cause = cause(verdict.History, o, program)
+	}
+	return &verdict
+}
+
+func cause(history string, o Options, program string) string {
+	judge := findJudge(program)
+	if judge == "" {
+		return ""
+	}
+	ctx, cancel := context.WithTimeout(context.Background(), time.Minute)
+	defer cancel()
+	command := exec.CommandContext(ctx, judge, history, "--json", "--model", string(o.Model), "--concurrency", strconv.Itoa(o.Concurrency))
+	command.Env = append(os.Environ(), "JEPMON="+program)
+	text, _ := command.Output()
+	var report struct {
+		BadKeys []struct {
+			Cause struct {
+				Headline  string
+				Sentences []string
+			}
+		} `json:"bad_keys"`
+	}
+	if json.Unmarshal(text, &report) != nil || len(report.BadKeys) == 0 {
+		return ""
+	}
+	of := report.BadKeys[0].Cause
+	return strings.Join(append([]string{of.Headline}, of.Sentences...), "\n    ")
+}
+
+// findJudge gives the path of jepmon-judge: the one that JEPMON_JUDGE names (`no` is none), else the one beside the program or in its
+// clone, else the one on the PATH.
+func findJudge(program string) string {
+	if named := os.Getenv("JEPMON_JUDGE"); named != "" {
+		return strings.TrimSuffix(named, "no")
+	}
+	candidates := []string{filepath.Join(filepath.Dir(program), "jepmon-judge"), filepath.Join(filepath.Dir(filepath.Dir(program)), "jepmon-judge")}
+	for _, path := range candidates {
+		if info, err := os.Stat(path); err == nil && info.Mode()&0o111 != 0 {
+			return path
+		}
+	}
+	found, _ := exec.LookPath("jepmon-judge")
+	return found
+}

@@ -1,0 +1,200 @@
+package jepmon
+
+import (
+	"bufio"
+	"bytes"
+	"context"
+	"errors"
+	"fmt"
+	"io"
+	"os"
+	"os/exec"
+	"path/filepath"
+	"regexp"
+	"runtime"
+	"strconv"
+	"strings"
+	"sync"
+	"syscall"
+	"time"
+)
+
+// The oldest program that this package works with.
+const needsMajor, needsMinor = 1, 4
+
+const patience = 10 * time.Second // for what takes milliseconds
+
+// program is a running `jepmon script`.
+type program struct {
+	path    string
+	command *exec.Cmd
+	input   io.WriteCloser
+	output  *bufio.Reader
+	errors  lastBytes
+}
+
+func refused(reply string) *Verdict {
+	if !strings.HasPrefix(reply, "refused") {
+		reply = "refused: " + reply
+	}
+	return &Verdict{Status: "refused", Key: -1, Index: -1, Reply: reply}
+}
+
+func startProgram(o Options) (*program, error) {
+	path, err := findProgram(o.Program)
+	if err != nil {
+		return nil, refused(err.Error())
+	}
+	if err := testVersion(path); err != nil {
+		return nil, refused(err.Error())
+	}
+	words := []string{"script", "--strict", "--concurrency", strconv.Itoa(o.Concurrency), "--model", string(o.Model)}
+	if o.Budget > 0 {
+		words = append(words, "--budget", strconv.Itoa(o.Budget))
+	}
+	p := &program{path: path, command: exec.Command(path, words...)}
+	p.command.SysProcAttr = &syscall.SysProcAttr{Setpgid: true} // Ctrl-C in a terminal is for the test
+	p.command.Stderr = &p.errors
+	if p.input, err = p.command.StdinPipe(); err != nil {
+		return nil, err
+	}
+	output, err := p.command.StdoutPipe()
+	if err != nil {
+		return nil, err
+	}
+	p.output = bufio.NewReaderSize(output, 1<<16)
+	if err = p.command.Start(); err != nil {
+		return nil, refused(err.Error())
+	}
+	return p, nil
+}
+
+// findProgram gives the path of the program: the one that is named, or that JEPMON names; else the one that lies beside this
+// package, or in the clone in which this package lies; else jepmon on the PATH.
+func findProgram(named string) (string, error) {
+	if named == "" {
+		named = os.Getenv("JEPMON")
+	}
+	if named != "" {
+		return named, nil
+	}
+	if found := beside("jepmon", filepath.Join("dist", "jepmon")); found != "" {
+		return found, nil
+	}
+	found, err := exec.LookPath("jepmon")
+	if err != nil {
+		return "", errors.New("there is no jepmon: JEPMON names the program, or it is on the PATH")
+	}
+	return found, nil
+}
+
+// beside looks for a program in the folder of this package and in each folder above it. A script of a clone is none.
+func beside(names ...string) string {
+	_, file, _, _ := runtime.Caller(0)
+	for folder := filepath.Dir(file); ; folder = filepath.Dir(folder) {
+		for _, name := range names {
+			if isProgram(filepath.Join(folder, name)) {
+				return filepath.Join(folder, name)
+			}
+		}
+		if folder == filepath.Dir(folder) {
+			return ""
+		}
+	}
+}
+
+// isProgram says whether this is a file of machine code.
+func isProgram(path string) bool {
+	file, err := os.Open(path)
+	if err != nil {
+		return false
+	}
+	defer file.Close()
+	first := make([]byte, 4)
+	_, err = io.ReadFull(file, first)
+	return err == nil && string(first) == "\x7fELF"
+}
+
+var versionLine = regexp.MustCompile(`^jepmon (\d+)\.(\d+)\.\d+\n`)
+
+// testVersion says what is wrong with the version of the program.
+func testVersion(path string) error {
+	ctx, cancel := context.WithTimeout(context.Background(), patience)
+	defer cancel()
+	said, err := exec.CommandContext(ctx, path, "--version").Output()
+	if err != nil {
+		return fmt.Errorf("%s can't be used: %v", path, err)
+	}
+	found := versionLine.FindSubmatch(said)
+	if found == nil {
+		return fmt.Errorf("%s is no jepmon: its --version prints %.80q", path, said)
+	}
+	major, _ := strconv.Atoi(string(found[1]))
+	minor, _ := strconv.Atoi(string(found[2]))
+	if major != needsMajor || minor < needsMinor {
+		return fmt.Errorf("%s is %s: this package needs jepmon %d.%d or a later %d", path, bytes.SplitN(said, []byte("\n"), 2)[0], needsMajor, needsMinor, needsMajor)
+	}
+	return nil
+}
+
+// legalReplies takes the replies `legal` that have come already, and says how many they are.
+func (p *program) legalReplies() int {
+	text, _ := p.output.Peek(p.output.Buffered())
+	count := 0
+	for bytes.HasPrefix(text, legal) {
+		text = text[len(legal):]
+		count++
+	}
+	p.output.Discard(count * len(legal))
+	return count
+}
+
+func (p *program) kill() { syscall.Kill(-p.command.Process.Pid, syscall.SIGKILL) }
+
+// ending is how a program has ended, and what it wrote to standard error.
+type ending struct{ ending, errors string }
+
+func (e ending) why() string {
+	if e.errors == "" {
+		return ""
+	}
+	return ": " + e.errors
+}
+
+// end waits until the program ends, and says how and by which status. A program that is not needed any more is killed after a while.
+func (p *program) end(isOver bool) (ending, int) {
+	if isOver {
+		timer := time.AfterFunc(time.Second, p.kill)
+		defer timer.Stop()
+	}
+	io.Copy(io.Discard, p.output)
+	p.command.Wait()
+	state := p.command.ProcessState
+	how := fmt.Sprintf("with status %d", state.ExitCode())
+	if signal, ok := state.Sys().(syscall.WaitStatus); ok && signal.Signaled() {
+		how = fmt.Sprintf("by signal %d", signal.Signal())
+	}
+	return ending{how, p.errors.line()}, state.ExitCode()
+}
+
+// lastBytes keeps the last bytes that were written to it.
+type lastBytes struct {
+	mutex sync.Mutex
+	text  []byte
+}
+
+func (l *lastBytes) Write(piece []byte) (int, error) {
+	l.mutex.Lock()
+	defer l.mutex.Unlock()
+	l.text = append(l.text, piece...)
+	if len(l.text) > 4000 {
+		l.text = l.text[len(l.text)-2000:]
+	}
+	return len(piece), nil
+}
+
+func (l *lastBytes) line() string {
+	l.mutex.Lock()
+	defer l.mutex.Unlock()
+	return strings.Join(strings.Fields(string(l.text)), " ")
+}
