@@ -37,6 +37,7 @@ JAVA = ("javac", "jar", "java")
 LANGUAGES: Dict[str, Language] = {
     "go": Language(("go",)),
     "rust": Language(("cargo",)),
+    "c": Language(("cc",)),
 }
 
 
