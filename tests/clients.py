@@ -36,6 +36,7 @@ JAVA = ("javac", "jar", "java")
 
 LANGUAGES: Dict[str, Language] = {
     "go": Language(("go",)),
+    "java": Language(JAVA, (JARS + "junit-jupiter-engine.jar", JARS + "junit-platform-console.jar")),
     "rust": Language(("cargo",)),
     "c": Language(("cc",)),
 }
