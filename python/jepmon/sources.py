@@ -49,6 +49,6 @@ class Sources:
         if self._brought[key, value] > 0 or value == str(ABSENT):
             return ""
         if self.are_new:
-            return f"no operation that was told brought {value} in"
+            return f"no recorded operation wrote {value}"
         begin = "" if name == "dequeue" else f" monitor.begin({key}, value)"
-        return f"no operation that was told brought {value} in: did key {key} hold it before?{begin}"
+        return f"no recorded operation wrote {value}: did key {key} hold it before?{begin}"

@@ -9,11 +9,11 @@ from .names import capital, client, listed
 
 
 def of_failure(case: Case) -> Found:
-    """Of an operation that was told as failed, though what others found shows that it took place."""
+    """Of an operation that was recorded as failed, though what others found shows that it took place."""
     forced = case.forced_by()
     told: List[Mention] = mentions([case.fatal])
     shown = case.names.operation(case.fatal)
-    headline = (f"{capital(client(case.fatal))}'s {shown} on {case.object} was told as failed (event {case.front[-1].index}), but it "
+    headline = (f"{capital(client(case.fatal))}'s {shown} on {case.object} was recorded as failed (event {case.front[-1].index}), but it "
                 "must have taken place.")
     sentences: List[str] = []
     if forced is not None:
