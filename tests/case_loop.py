@@ -1,7 +1,5 @@
 """What scripts of cases share: the files of a case, and the loop over cases."""
 import pathlib
-import subprocess
-import sys
 from typing import Callable, List, Tuple
 
 LIMIT = 60  # seconds for one run
@@ -15,14 +13,6 @@ def read(path: pathlib.Path, default: bytes = b"") -> bytes:
 def words(path: pathlib.Path) -> List[str]:
     """The words of a file, one a line; none where there is no file."""
     return [word for word in read(path).decode().split("\n") if word]
-
-
-def given(case: pathlib.Path, name: str) -> bytes:
-    """What a case is given by this name: its file NAME.edn, or what its script NAME.py prints."""
-    script = case / f"{name}.py"
-    if not script.exists():
-        return read(case / f"{name}.edn")
-    return subprocess.run([sys.executable, str(script)], stdout=subprocess.PIPE, check=True, timeout=LIMIT).stdout
 
 
 def differing(what: str, got: object, want: object) -> List[str]:

@@ -18,7 +18,7 @@ import sys
 import tempfile
 
 TOP = pathlib.Path(__file__).resolve().parent.parent
-from program import PROGRAM  # noqa: E402
+from program import COMPILED, PROGRAM  # noqa: E402
 GUIDE = sorted(str(page.relative_to(TOP)) for page in TOP.glob("docs/guide/*.md"))
 DOCUMENTS = ["README.md", "docs/GUIDE.md", *GUIDE, "docs/READING_PROOFS.md", "docs/FORMATS.md", "docs/ADDING.md"]
 TOOLS = ["judge", "shards", "explain", "from-jepsen", "from-json", "test"]
@@ -75,8 +75,7 @@ def run(commands, files):
             (tools / f"jepmon-{name}").write_text(f'#!/bin/sh\nPYTHONPATH={TOP}/python exec python3 -m jepmon {name} "$@"\n')
             (tools / f"jepmon-{name}").chmod(0o755)
         shell = subprocess.Popen(["bash", "-c", script], cwd=room, stdin=subprocess.DEVNULL, stdout=subprocess.PIPE, start_new_session=True,
-                                 env={**os.environ, "PATH": f"{tools}:{os.environ['PATH']}", "LC_ALL": "C.UTF-8",
-                                      "PYTHONDONTWRITEBYTECODE": "1"})
+                                 env={**os.environ, **COMPILED, "PATH": f"{tools}:{os.environ['PATH']}", "LC_ALL": "C.UTF-8"})
         try:
             told, _ = shell.communicate(timeout=120)
         except subprocess.TimeoutExpired:

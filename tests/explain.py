@@ -14,7 +14,8 @@ import sys
 import tempfile
 from typing import Dict, List
 
-from case_loop import LIMIT, Case, differing, given, read, run_cases, words
+import forked
+from case_loop import LIMIT, Case, differing, read, run_cases, words
 
 TOP = pathlib.Path(__file__).resolve().parent.parent
 CASES = TOP / "tests" / "explain"
@@ -24,12 +25,11 @@ PROGRAM = os.environ.get("JEPMON") or str(TOP / "crates" / "jepmon" / "out" / "j
 
 def explained(arguments: List[str], text: bytes = b"", program: str = PROGRAM) -> "subprocess.CompletedProcess[bytes]":
     environment: Dict[str, str] = dict(os.environ, JEPMON=program)
-    return subprocess.run([sys.executable, str(EXPLAIN)] + arguments, input=text, stdout=subprocess.PIPE,
-                          stderr=subprocess.PIPE, timeout=LIMIT, env=environment)
+    return forked.ran([str(EXPLAIN)] + arguments, text, environment=environment)
 
 
 def run_case(case: pathlib.Path) -> List[str]:
-    text = given(case, "history")
+    text = forked.given(case, "history")
     ran = explained(["-"] + words(case / "args"), text)
     plain = subprocess.run([PROGRAM, "check", "/dev/stdin"] + words(case / "args"), input=text, stdout=subprocess.PIPE,
                            stderr=subprocess.PIPE, timeout=LIMIT)

@@ -15,7 +15,8 @@ import sys
 import tempfile
 from typing import List
 
-from case_loop import LIMIT, Case, differing, given, read, run_cases, words
+import forked
+from case_loop import LIMIT, Case, differing, read, run_cases, words
 
 TOP = pathlib.Path(__file__).resolve().parent.parent
 CASES = TOP / "tests" / "from-jepsen"
@@ -28,9 +29,8 @@ SCRIPT = re.compile(rb"judge it by jepmon script (.*?), these lines before it:\n
 def turned(case: pathlib.Path) -> "subprocess.CompletedProcess[bytes]":
     """Runs the filter where the history is called input.edn, so that what it says is the same everywhere."""
     with tempfile.TemporaryDirectory() as folder:
-        (pathlib.Path(folder) / "input.edn").write_bytes(given(case, "input"))
-        return subprocess.run([sys.executable, str(FILTER), "input.edn"] + words(case / "args"), cwd=folder,
-                              stdin=subprocess.DEVNULL, stdout=subprocess.PIPE, stderr=subprocess.PIPE, timeout=LIMIT)
+        (pathlib.Path(folder) / "input.edn").write_bytes(forked.given(case, "input"))
+        return forked.ran([str(FILTER), "input.edn"] + words(case / "args"), folder=folder)
 
 
 def judge(arguments: List[str], text: bytes) -> bytes:
@@ -67,15 +67,13 @@ def run_example() -> List[str]:
 def run_standard_input() -> List[str]:
     """A history comes by standard input as by a file."""
     case = CASES / "maps"
-    ran = subprocess.run([sys.executable, str(FILTER)], input=given(case, "input"), stdout=subprocess.PIPE, stderr=subprocess.PIPE,
-                         timeout=LIMIT)
+    ran = forked.ran([str(FILTER)], forked.given(case, "input"))
     return differing("standard output", ran.stdout, read(case / "stdout"))
 
 
 def refused(arguments: List[str]) -> List[str]:
     """These words are refused: status 3, a reason, and an output that jepmon check refuses."""
-    ran = subprocess.run([sys.executable, str(FILTER)] + arguments, stdin=subprocess.DEVNULL, stdout=subprocess.PIPE,
-                         stderr=subprocess.PIPE, timeout=LIMIT)
+    ran = forked.ran([str(FILTER)] + arguments)
     got = (ran.returncode, ran.stderr.startswith(b"from-jepsen: refused: "), verdict(ran))
     return [] if got == (3, True, b"refused 11 Unreadable 0") else [f"{arguments} ended with {got!r}: {ran.stderr!r}"]
 

@@ -19,7 +19,7 @@ import tempfile
 import time
 from typing import Dict, List, Optional
 
-import case_loop as histories
+import forked
 import program
 from case_loop import LIMIT, Case, differing, read, run_cases, words
 
@@ -41,13 +41,12 @@ Ran = "subprocess.CompletedProcess[bytes]"
 
 def environment(jepmon: str = PROGRAM) -> Dict[str, str]:
     kept = {name: value for name, value in os.environ.items() if name not in ("COLUMNS", "PYTHONPATH")}
-    return dict(kept, JEPMON=jepmon, PYTHONPATH=str(TOP / "python"), PYTHONIOENCODING="utf-8", PYTHONDONTWRITEBYTECODE="1")
+    return dict(kept, JEPMON=jepmon, PYTHONPATH=str(TOP / "python"), PYTHONIOENCODING="utf-8", **program.COMPILED)
 
 
 def ran(arguments: List[str], text: bytes = b"", jepmon: str = PROGRAM, folder: Optional[str] = None,
         tool: Optional[List[str]] = None) -> "subprocess.CompletedProcess[bytes]":
-    return subprocess.run((tool or JUDGE) + arguments, input=text, stdout=subprocess.PIPE, stderr=subprocess.PIPE, timeout=LIMIT,
-                          env=environment(jepmon), cwd=folder)
+    return forked.ran((tool or JUDGE)[1:] + arguments, text, folder, environment(jepmon))
 
 
 def run_case(case: pathlib.Path) -> List[str]:
@@ -55,7 +54,7 @@ def run_case(case: pathlib.Path) -> List[str]:
         room = pathlib.Path(folder, "room")
         shutil.copytree(case, room, symlinks=True, ignore=lambda _, names: [name for name in names if name in TOLD])
         if (case / "make.py").exists():
-            subprocess.run([sys.executable, str(case / "make.py")], cwd=room, check=True, timeout=LIMIT)
+            forked.ran([str(case / "make.py")], folder=str(room)).check_returncode()
         tool = FROM_JSON if words(case / "tool") == ["from-json"] else JUDGE
         got = ran(words(case / "args"), read(room / "stdin"), folder=str(room), tool=tool)
         return (differing("standard output", got.stdout, read(case / "stdout"))
@@ -78,7 +77,7 @@ def run_cases_of_check() -> List[str]:
     for case in sorted((TOP / "tests" / "cases").iterdir()) + sorted((TOP / "tests" / "explain").iterdir()):
         given = words(case / "args")
         if case.parent.name == "explain":
-            history, want = histories.given(case, "history"), read(case / "stdout").splitlines(True)[-1:]
+            history, want = forked.given(case, "history"), read(case / "stdout").splitlines(True)[-1:]
         elif given[:1] == ["check"] and len(given) > 1 and (TOP / given[1]).is_file() and not (case / "memory").exists():
             history, want, given = read(TOP / given[1]), read(case / "stdout").splitlines(True), given[2:]
         else:
@@ -95,7 +94,7 @@ def run_cases_of_check() -> List[str]:
 
 def with_defaults(options: List[str]) -> List[str]:
     """The options of a check with what jepmon takes where they say nothing. What is over its budget stays so."""
-    return (options + ["--wide-seconds", "0", "--least", "0"] + ([] if "--model" in options else ["--model", "register"])
+    return (options + ["--wide-seconds", "0", "--least", "0", "--nil-is-unknown"] + ([] if "--model" in options else ["--model", "register"])
             + ([] if "--concurrency" in options else ["--concurrency", "2"]))
 
 

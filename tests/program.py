@@ -13,3 +13,5 @@ def program() -> pathlib.Path:
 
 
 PROGRAM = program()
+# Python keeps what it compiles where ./check says, and else nowhere: the repository has none of it.
+COMPILED = {} if "PYTHONPYCACHEPREFIX" in os.environ else {"PYTHONDONTWRITEBYTECODE": "1"}

@@ -6,6 +6,7 @@ import unittest
 from typing import Any, List
 
 from jepmon.forms.account import Account
+from jepmon.forms.order import APART, ONE_CLOCK
 from jepmon.from_jepsen import Refusal, turn
 from jepmon.from_jepsen.events import Event
 
@@ -39,6 +40,9 @@ class Turned(unittest.TestCase):
 
     def guesses(self) -> List[str]:
         return [guess.option for guess in self.account.guesses]
+
+    def assumed(self) -> List[str]:
+        return [guess.assumed for guess in self.account.guesses]
 
 
 class Order(Turned):
@@ -144,10 +148,44 @@ class Order(Turned):
             self.assertEqual(self.guesses(), [])
         self.turned(text(*first[:2], *second[:2]))
         self.assertEqual(self.guesses(), ["--order lines"])
-        for given in (text(*first, *second[:2], *first[:2]), text(*first), text(*first, *second, indices="0 1 2 3 4 5 6 7"),
-                      text(*(f"{event} {place}" for place, event in enumerate([*first, *second])))):
+        for given in (text(*first, *second[:2], *first[:2]), text(*first), text(*first, *second, indices="0 1 2 3 4 5 6 7")):
             self.turned(given)
             self.assertEqual(self.guesses(), [])
+
+    def test_clients_one_behind_the_other_with_times(self) -> None:
+        """That their times are of one clock is a guess."""
+        events = [f"{process} {kind} {part}" for process in (0, 1) for kind, part in (("invoke", "write 1"), ("ok", "write 1"))]
+        given = text(*(f"{event} {place}" for place, event in enumerate(events)))
+        self.turned(given)
+        self.assertEqual(self.assumed(), [ONE_CLOCK])
+        self.turned(given, order="lines")
+        self.assertEqual(self.guesses(), [])
+        self.turned(given, skew=0)
+        self.assertEqual(self.guesses(), [])
+        self.turned(text(*(f"{event} {place}" for place, event in zip((0, 1, 200, 201), events))))
+        self.assertEqual(self.assumed(), [APART])
+        self.turned(text(*(f"{event} {place}" for place, event in enumerate(events)), indices="0 1 2 3"))
+        self.assertEqual(self.guesses(), [])
+        # An :index of each operation says nothing of the order of events.
+        self.turned(text(*(f"{event} {place}" for place, event in enumerate(events)), indices="0 0 1 1"))
+        self.assertEqual(self.assumed(), [ONE_CLOCK])
+
+    def test_nodes_one_behind_the_other(self) -> None:
+        """Several clients that stand together behind all others."""
+        events = [f"{process} {kind} write 1" for first in (0, 2) for kind in ("invoke", "ok") for process in (first, first + 1)]
+        self.turned(text(*events))
+        self.assertEqual(self.assumed(), ["the events of some clients stand behind those of all others, as in files put one behind the other, and "
+                                          "have no times: they are taken in the order in which they stand"])
+        self.turned(text(*(f"{event} {place}" for place, event in enumerate(events))))
+        self.assertEqual(self.assumed(), [ONE_CLOCK])
+        self.turned(text(*(f"{event} {place}" for place, event in enumerate([*events, "1 invoke write 1", "1 ok write 1"]))))
+        self.assertEqual(self.guesses(), [])
+
+    def test_times_that_not_all_have(self) -> None:
+        events = [f"{process} {kind} write 1" for process in (0, 1) for kind in ("invoke", "ok")]
+        given = text(*(f"{event} {place}" if place < 2 else event for place, event in enumerate(events)))
+        self.turned(given)
+        self.assertIn("and not all have times", self.assumed()[0])
 
     def test_events_that_do_not_pair_as_they_stand(self) -> None:
         self.assertEqual(self.turned(text(*(HOLD[place] for place in (1, 0, 2, 3, 5, 4)), indices="1 0 4 5 3 2")), self.want(IN_TIME))

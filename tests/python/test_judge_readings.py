@@ -46,6 +46,35 @@ class Readings(Judged):
         self.settled(APART, "the history is illegal, and by their times some clients had long ended when others began", [(("--skew", "0ms"), 1), (("--time-unit", "ms", "--skew", "2s"), 0)])
         self.assertEqual(self.judged(lines([dict(row, start=row["start"] % 1000, end=row["end"] % 1000) for row in APART])).status, 0)
 
+    def test_clients_that_stand_together_and_are_apart(self) -> None:
+        """Two clients' files, one behind the other, by clocks that differ: in every form of events."""
+        rows = [event(client, kind, op, None if (op, kind) == ("read", "invoke") else value, time + 1000 * client)
+                for client, op, value, time in ((0, "write", 1, 0), (0, "write", 2, 4), (1, "read", 1, 2), (1, "read", 2, 6))
+                for kind, time in (("invoke", time), ("ok", time + 1))]
+        self.settled(rows, "the history is illegal, and by their times some clients had long ended when others began",
+                     [(("--skew", "0ms"), 1), (("--order", "lines"), 1), (("--time-unit", "ms", "--skew", "1s"), 0)])
+        csv = "client,type,op,key,value,time\n" + "".join(",".join("" if field is None else str(field) for field in row.values()) + "\n" for row in rows)
+        edn = "".join("{{:process {client}, :type :{type}, :f :{op}, :value [0 {part}], :time {time}}}\n".format(
+            **row, part="nil" if row["value"] is None else row["value"]) for row in rows)
+        for text, name in ((csv, "history.csv"), (edn, "history.edn"), (edn.replace("[0 ", "").replace("], :t", ", :key 0, :t"), "keyed.edn")):
+            for shards in ((), ("--jobs", "1")):
+                ran = self.judged(text, *shards, name=name)
+                self.assertEqual(ran.status, 3, ran.err)
+                self.assertIn("some clients had long ended when others began", ran.err)
+                self.assertEqual(self.judged(text, "--skew", "0ms", *shards, name=name).status, 1)
+
+    def test_clients_that_stand_together_and_are_near(self) -> None:
+        """Their verdict stands, beside the guess; --strict-input refuses it."""
+        rows = [event(client, kind, op, None if (op, kind) == ("read", "invoke") else 1, time + end) for client, op, time in
+                ((0, "write", 0), (1, "read", 2)) for end, kind in enumerate(("invoke", "ok"))]
+        for shards in ((), ("--jobs", "1")):
+            ran = self.judged(lines(rows), *shards)
+            self.assertEqual(ran.status, 0)
+            self.assertIn("guess of the order: the times of all clients are of one clock, or of clocks that agree; --skew 0ms settles it", ran.err)
+            self.assertEqual(self.judged(lines(rows), "--strict-input", "--model", "register", *shards).status, 3)
+            for said in (("--skew", "0ms"), ("--order", "lines")):
+                self.assertEqual(self.judged(lines(rows), "--strict-input", "--model", "register", *said, *shards).status, 0)
+
     def test_a_clock_that_is_behind_before_one_recorder(self) -> None:
         self.settled(TURNS, "in the order of their times, and legal if they took place in that of their lines; say --order times or --order lines",
                      [(("--order", "lines"), 0), (("--order", "times", "--skew", "0ms"), 1)])

@@ -6,6 +6,7 @@ import unittest
 from typing import Any, Dict, List
 
 from jepmon.forms.mapping import Mapping
+from jepmon.forms.order import APART, ONE_CLOCK
 
 from .translated import Case, events, lines, made, operation
 
@@ -141,6 +142,33 @@ class Times(Case):
         self.assertNotIn("--order lines", self.guessed(lines(*rows, *rows[:4])))
         self.assertNotIn("--order lines", self.guessed(lines(*rows[:4])))
         self.assertEqual(self.guessed(lines(*({**row, "index": place} for place, row in enumerate(rows)))), self.guessed(lines(*rows[:4])))
+
+    def test_clients_that_stand_together_have_one_clock(self) -> None:
+        """That is a guess, unless another client or an index shows who recorded them; by each way to read a row."""
+        for count in (1, 9):
+            rows = [event(client, kind, (count * client + place) * 2 + end, "write", value=place) for client in (0, 1) for place in range(count)
+                    for end, kind in enumerate(("invoke", "ok"))]
+            for given in (rows, [{**row, "ts": str(row["ts"])} for row in rows]):
+                self.assertEqual(self.assumed(lines(*given)), [ONE_CLOCK])
+                for said in ({"skew": "0ms"}, {"order": "lines"}):
+                    self.assertEqual(self.assumed(lines(*given), mapping=SAYS._replace(**said)), [])
+                self.assertEqual(self.assumed(lines(*given, event(0, "invoke", 99, "write", value=0))), [])
+                self.assertEqual(self.assumed(lines(*({**row, "index": place} for place, row in enumerate(given)))), [])
+            far = [{**row, "ts": row["ts"] + 9999 * row["client"]} for row in rows]
+            self.assertEqual(self.assumed(lines(*far)), [APART])
+
+    def test_nodes_that_stand_together_have_one_clock(self) -> None:
+        events = [(client, kind) for node in (0, 2) for kind in ("invoke", "ok") for client in (node, node + 1)]
+        rows = [event(client, kind, time, "write", value=1) for time, (client, kind) in enumerate(events)]
+        self.assertEqual(self.assumed(lines(*rows)), [ONE_CLOCK])
+        bare = [{name: field for name, field in row.items() if name != "ts"} for row in rows]
+        self.assertIn("the events of some clients stand behind those of all others, as in files put one behind the other, and have no times",
+                      self.assumed(lines(*bare))[0])
+        self.assertEqual(self.assumed(lines(*bare, *bare[:2])), [])
+
+    def test_times_that_not_all_have(self) -> None:
+        rows = [event(client, kind, 5 if client == 0 else None, op) for client in (0, 1) for op in ("acquire", "release") for kind in ("invoke", "ok")]
+        self.refused(lines(*rows), "and not all have times: which came first? say --order lines")
 
     def test_events_that_carry_the_begin_of_their_operation(self) -> None:
         rows = [{"client": 0, "type": kind, "op": "write", "key": 1, "value": 1, "start": 1, **({"end": 2} if kind == "ok" else {})}

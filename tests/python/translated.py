@@ -7,6 +7,7 @@ import unittest
 from typing import Any, Dict, List
 
 from jepmon.forms import Refused, mapping
+from jepmon.forms.account import ORDER
 from jepmon.forms.files import of_text
 from jepmon.forms.recorded import Options, Recorded, recorded
 
@@ -43,6 +44,10 @@ class Case(unittest.TestCase):
     def guessed(self, text: str, **options: Any) -> List[str]:
         """The options that settle what is guessed."""
         return [guess.option for guess in made(text, **options).account.guesses]
+
+    def assumed(self, text: str, **options: Any) -> List[str]:
+        """What is guessed of the order."""
+        return [guess.assumed for guess in made(text, **options).account.guesses if guess.of == ORDER]
 
     def refused(self, text: str, reason: str, **options: Any) -> None:
         with self.assertRaises(Refused) as caught:

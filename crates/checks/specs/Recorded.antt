@@ -74,10 +74,10 @@ ComesTo setup bytes (Judged verdict text) = IsSetup setup × ((end : Machine) ×
 ComesTo setup bytes (RefusedEvent i why) = IsSetup setup × IsRefusedAt setup bytes i why
 ComesTo setup bytes (Refused why) = (IsSetup setup × IsWhy bytes why) ⊎ MayNotOpen setup why
 
--- a verdict was found, and the report
-abbrev pub IsJudged : Findings → Type 0
-IsJudged (Judged verdict text) = Unit {0}
-IsJudged _ = ⊥
+-- memory did not run out: the bytes alone decide what is found
+abbrev pub IsOfBytes : Findings → Type 0
+IsOfBytes (Refused NoMemory) = ⊥
+IsOfBytes found = Unit {0}
 
 -- the line of an event that is refused
 abbrev pub event_line : ℕ → Refusal → List ℕ

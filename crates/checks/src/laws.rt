@@ -1,12 +1,13 @@
 //! Laws of the definitions.
 ghost use Rattle.std.specs.Prelude.{◌≡◌, ℕ, List};
 ghost use Rattle.machine.specs.Machine.{Setup};
-ghost use Rattle.checks.specs.Recorded.{ComesTo, IsJudged, findings_status, findings_text};
+ghost use Rattle.checks.specs.Recorded.{ComesTo, IsOfBytes, findings_status, findings_text};
 ghost use Rattle.checks.specs.declared.recorded.Findings.{Findings};
 
-/// A setup and the bytes of a recorded history have one report at most, and one verdict, so one exit status. No call cites it.
+/// A setup and the bytes of a recorded history have one report at most, or one refusal, and so one exit status, but that memory may run
+/// out. No call cites it.
 pub fn one_report()
     ensures { (setup : Setup) (bytes : List ℕ) (found other : Findings) → ComesTo setup bytes found
-        → ComesTo setup bytes other → IsJudged found → IsJudged other
+        → ComesTo setup bytes other → IsOfBytes found → IsOfBytes other
         → (findings_text found ≡ findings_text other) × (findings_status found ≡ findings_status other) }
 {}

@@ -1,12 +1,16 @@
-"""What is known of the order of events: not that of events without times if each client's stand together; and all times are of one clock."""
+"""What is known of the order of events in which some clients come behind all others, as in files put one behind the other: with times only
+that of clocks, without them none. All times are of one clock."""
 from __future__ import annotations
 
-from typing import Any, Dict, Iterable
+import array
+from typing import Any, Dict, Iterator, Optional, Sequence, Tuple
 
 from . import Refused
 from .account import ORDER, Account
+from .timeline import Time, are_apart
 
-TOGETHER = "the events of each client stand together, as in files put one behind the other, and have no times"
+TOGETHER = "the events of each client stand together, as in files put one behind the other, and {}"
+BEHIND = "the events of some clients stand behind those of all others, as in files put one behind the other, and {}"
 EITHER = "--order lines or --order times"  # which settles the order of events with one time
 BY_TIMES = "--order times"  # which settles that of events whose times go back
 ONE_CLOCK = "the times of all clients are of one clock, or of clocks that agree"
@@ -16,34 +20,69 @@ LEAST = 4  # events of each of two clients, of which the order is not known
 
 
 class Blocks:
-    """Whether the events of each client stand together."""
+    """Follows which clients have all of their events behind those of all others. The events of a block stand together: none of their clients
+    has any before or behind them."""
 
     def __init__(self, is_ordered: bool = False) -> None:
-        self.is_decided = is_ordered  # that they do not, or that this is the order
-        self._counts: Dict[Any, int] = {}
-        self._last: Any = None
-        self._second = 0  # the line of the first event of the second client
+        self._is_ordered = is_ordered  # whether the lines are known to be the order
+        self._first: Dict[Any, int] = {}  # the place of each client's first event
+        self._starts = array.array("Q")  # of each block: the place of its first event,
+        self._lines = array.array("Q")  # its line,
+        self._times = array.array("d")  # the time of the event before it, and its own
+        self._count = self._timed = 0  # events, and those with times
+        self._latest: Time = 0
 
-    def take(self, client: Any, line: int) -> None:
-        if self.is_decided:
+    def take(self, client: Any, line: int, time: Optional[Time]) -> None:
+        """Takes the next event. O(1), amortized."""
+        first = self._first.get(client)
+        if first is None:
+            self._first[client] = self._count
+            self._starts.append(self._count)
+            self._lines.append(line)
+            self._times.extend((self._latest, time or 0))
+        elif self._starts[-1] > first:
+            self._join(first)
+        self._count += 1
+        if time is not None:
+            self._timed += 1
+            self._latest = time
+
+    def take_run(self, clients: Sequence[Any], line: int, times: Sequence[Time]) -> None:
+        """Takes events that stand a line each, from this line on; all have times, or none."""
+        known = set(clients)
+        if known <= self._first.keys():
+            self._join(min(self._first[client] for client in known))
+            self._count += len(clients)
+            self._timed += len(times)
+            self._latest = times[-1] if times else self._latest
             return
-        if client != self._last:
-            self.is_decided = client in self._counts
-            self._second = self._second or (line if self._counts else 0)
-            self._last = client
-        self._counts[client] = self._counts.get(client, 0) + 1
-
-    def take_run(self, clients: Iterable[Any], line: int) -> None:
-        """Takes the clients of events that stand a line each, from this line on."""
-        for place, client in enumerate(clients, line):
-            if self.is_decided:
-                return
-            self.take(client, place)
+        for place, client in enumerate(clients):
+            self.take(client, line + place, times[place] if times else None)
 
     def close(self, account: Account) -> None:
-        """Refuses an order that is not known; that of few events is a guess."""
-        if self.is_decided or len(self._counts) < 2:
+        """Tells the account what is guessed of the order; one of which nothing is known is refused, but for few events."""
+        if self._is_ordered or len(self._starts) < 2:
             return
-        if sum(count >= LEAST for count in self._counts.values()) > 1:
-            raise Refused(f"line {self._second}: {TOGETHER}: which came first? say --order lines if they stand in their order")
-        account.guess(ORDER, f"{TOGETHER}: they are taken in the order in which they stand", "--order lines")
+        if self._timed == self._count:
+            account.guess(ORDER, APART if are_apart(self._spans(), self._count // 2) else ONE_CLOCK, SKEW)
+            return
+        is_each = len(self._starts) == len(self._first)
+        how = (TOGETHER if is_each else BEHIND).format("not all have times" if self._timed else "have no times")
+        if is_each and sum(size >= LEAST for size in self._sizes()) > 1:
+            raise Refused(f"line {self._lines[1]}: {how}: which came first? say --order lines if they stand in their order")
+        account.guess(ORDER, f"{how}: they are taken in the order in which they stand", "--order lines")
+
+    def _join(self, first: int) -> None:
+        """Joins the blocks from that with this place on."""
+        while self._starts[-1] > first:
+            self._starts.pop()
+            self._lines.pop()
+            del self._times[-2:]
+
+    def _sizes(self) -> Iterator[int]:
+        """How many events each block has."""
+        return (end - start for start, end in zip(self._starts, [*self._starts[1:], self._count]))
+
+    def _spans(self) -> Iterator[Tuple[Time, Time]]:
+        """The times of the first and the last event of each block."""
+        return zip(self._times[1::2], [*self._times[2::2], self._latest])

@@ -31,6 +31,7 @@ FAULTS = frozenset({"partition", "heal", "pause", "resume", "crash", "restart", 
 
 NIL, NUMBER, PAIR, SET = "n", "0", "[", "#"  # the parts of events, by how they begin
 TOLD = {"read": NIL, "dequeue": NIL, "acquire": NIL, "release": NIL, "write": NUMBER, "enqueue": NUMBER, "add": NUMBER, "cas": PAIR}
+SETS_VALUES = ("write", "cas")
 ANSWERS = {"read": (NIL, NUMBER, SET), "dequeue": (NUMBER,)}
 
 Opened = Dict[str, Tuple[str, str, str]]  # the operation of each process that is open: its name, key and part
@@ -45,6 +46,8 @@ class KeyFacts:
         self.reads = 0  # that were answered
         self.reads_of_nil = 0
         self.reads_of_sets = 0
+        self.has_value = False  # whether a write, a cas or a read has shown a value of a register
+        self.nils_after_values = 0  # reads that were answered by nil, and began after that
 
 
 def possible(facts: KeyFacts) -> List[str]:
@@ -147,6 +150,7 @@ def facts_of(events: List[str], numbers: List[int]) -> Optional[Facts]:
     """What these lines tell, where each is an event that the program takes after those before it."""
     facts, opened = Facts(), {}  # type: Facts, Opened
     keys, infos, count = facts.keys, facts.infos, facts.outcomes
+    had_value: Dict[str, bool] = {}  # whether the key of each process's operation had a value as that began
     latest = 0
     for index, (line, number) in enumerate(zip(events, numbers)):
         found = EVENT.fullmatch(line)
@@ -180,9 +184,17 @@ def facts_of(events: List[str], numbers: List[int]) -> Optional[Facts]:
             infos.add(index)
         if kind == "ok" and name == "read":
             of_key.reads += 1
-            of_key.reads_of_nil += part == "nil"
             of_key.reads_of_sets += part[0] == SET
-        if kind != "invoke":
+            if part == "nil":
+                of_key.reads_of_nil += 1
+                of_key.nils_after_values += had_value[process]
+            elif part[0] != SET:
+                of_key.has_value = True
+        elif kind == "ok" and name in SETS_VALUES:
+            of_key.has_value = True
+        if kind == "invoke":
+            had_value[process] = of_key.has_value
+        else:
             count[f"{name} {kind}"] += 1
     return facts
 

@@ -50,7 +50,7 @@ class Events:
             return
         kind = kind_of(told, self._reader)
         process = self._process(told)
-        self._blocks.take(process, told.line)
+        self._blocks.take(process, told.line, told.time)
         opened = self._opened.pop(process, None)
         invoked = self._plans.told(opened) if isinstance(opened, Row) else opened
         kind = completed(told, kind, told.name or (invoked.name if invoked else None), self._writer.counts)
@@ -125,8 +125,7 @@ class Events:
                 if time == self._latest:
                     self._tie(line, client)
                 self._latest, self._latest_client = time, client
-            else:
-                self._blocks.take(process, line)
+            self._blocks.take(process, line, time if has_time else None)
             if numbered is not None:
                 reader.last_index = fields[numbered]
             shape.count += 1
@@ -173,7 +172,7 @@ class Events:
         if self._order is None and self._ties:
             self._account.guess(ORDER, f"events of several clients have one time, {self._ties} times, first in line {self._first_tie}: they are taken "
                                 "in the order in which they stand, not as open at once", EITHER)
-        if self._order is None and self._latest is None and self._reader.last_index < 0:
+        if self._order is None and self._reader.last_index < 0:
             self._blocks.close(self._account)
         return [f"client {number} is {element(name)}" for name, number in self._clients.items()]
 

@@ -9,7 +9,7 @@ from __future__ import annotations
 
 import collections
 import heapq
-from typing import Any, Dict, Iterator, List, NamedTuple, Optional, Tuple, Union
+from typing import Any, Dict, Iterable, Iterator, List, NamedTuple, Optional, Sequence, Tuple, Union
 
 from ..kinds import THREADS
 from ..sorted_rows import SortedRows
@@ -49,15 +49,7 @@ class Timeline:
 
     def are_apart(self) -> bool:
         """Whether by their times some clients had long ended when others began, as by clocks that differ."""
-        groups: List[List[Time]] = []
-        for first, last in sorted(self._spans.values()):
-            if groups and first <= groups[-1][1]:
-                groups[-1][1] = max(groups[-1][1], last)
-            else:
-                groups.append([first, last])
-        longest = max((last - first for first, last in groups), default=0)
-        gaps = (after[0] - before[1] for before, after in zip(groups, groups[1:]))
-        return len(groups) > 1 and min(gaps) > (FAR if self._count > len(groups) else FAR_ALONE) * max(longest, 1)
+        return are_apart(self._spans.values(), self._count)
 
     def begun(self) -> Iterator[Tuple[Time, Any]]:
         """When each operation was called, and what is given of that, in the order of the calls."""
@@ -99,6 +91,19 @@ class Timeline:
         while end is not None:
             yield seats.leave(end[1]), end[2], end[3]
             end = next(ends, None)
+
+
+def are_apart(spans: Iterable[Sequence[Time]], operations: int) -> bool:
+    """Whether clients that worked within these times had long ended when others began. They did so many operations."""
+    groups: List[List[Time]] = []
+    for first, last in sorted(spans):
+        if groups and first <= groups[-1][1]:
+            groups[-1][1] = max(groups[-1][1], last)
+        else:
+            groups.append([first, last])
+    longest = max((last - first for first, last in groups), default=0)
+    gaps = (after[0] - before[1] for before, after in zip(groups, groups[1:]))
+    return len(groups) > 1 and min(gaps) > (FAR if operations > len(groups) else FAR_ALONE) * max(longest, 1)
 
 
 class _Seats:

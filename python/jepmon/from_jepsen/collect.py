@@ -139,10 +139,8 @@ class Collector:
         if self.clients.are_named or ":error" in run.text and OK_WITH_ERROR.search(run.text):
             return True
         if self.order is not None:
-            if not self.order.take_run(run.line, *plain.order(run)):
+            if not self.order.take_run(run.line, plain.processes(run), *plain.order(run)):
                 return True
-            if not self.order.blocks.is_decided:
-                self.order.blocks.take_run(plain.processes(run), run.line)
         self.account.took(run.line, run.line + len(run.rows) - 1)
         self.clients.has_numbers()
         return False
@@ -203,8 +201,7 @@ class Collector:
         if process is not None and not (kind == ":info" and process in self.clients.names and process not in self.open):
             self.apart.take(element.line, fields)
             if self.order is not None:
-                self.order.take(element.line, stated, self.order.times.of(element.line, fields.get(":time")))
-                self.order.blocks.take(process, element.line)
+                self.order.take(element.line, process, stated, self.order.times.of(element.line, fields.get(":time")))
             self.account.took(element.line, element.last_line)
             self.take_event(element.line, process, fields, index)
         elif faults.is_fault(fields):

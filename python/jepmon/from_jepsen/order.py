@@ -58,7 +58,7 @@ class Order:
 
     def __init__(self, blocks: Blocks) -> None:
         self.times = Times()
-        self.blocks = blocks
+        self._blocks = blocks
         self.back = 0  # how often the time went back while the :index rose
         self.most: Time = 0  # by how much at most
         self.first = 0  # the line of the first one
@@ -66,8 +66,9 @@ class Order:
         self._index = -1
         self._time: Optional[Time] = None  # the latest
 
-    def take(self, line: int, index: Optional[int], time: Optional[Time]) -> None:
+    def take(self, line: int, process: int, index: Optional[int], time: Optional[Time]) -> None:
         """Takes the next event. OutOfOrder if it does not come after those before it."""
+        self._blocks.take(process, line, time)
         if index is None:
             self._is_indexed = False
         elif index <= self._index:
@@ -81,7 +82,7 @@ class Order:
         if self.back and not self._is_indexed:
             raise OutOfOrder(f"line {self.first}: the :time goes back, and not each event has an :index")
 
-    def take_run(self, line: int, indices: Sequence[int], times: Sequence[int]) -> bool:
+    def take_run(self, line: int, processes: Sequence[int], indices: Sequence[int], times: Sequence[int]) -> bool:
         """Takes as many events at once, from this line on. Whether both rise; if not, none was taken."""
         if not (all(map(operator.lt, indices, indices[1:])) and self._index < indices[0] if indices else True) or not rise(times, self._time):
             return False
@@ -91,12 +92,13 @@ class Order:
             self._is_indexed = False
         if times:
             self._time = self.times.of(line, str(times[-1]))
+        self._blocks.take_run(processes, line, times)
         return not self.back or self._is_indexed
 
     def close(self, account: Account) -> None:
         """Tests that there is an order, or tells the account which one is guessed."""
-        if self._time is None and not self._is_indexed:
-            self.blocks.close(account)
+        if not self._is_indexed:
+            self._blocks.close(account)
 
 
 def rise(numbers: Sequence[int], before: Optional[Time]) -> bool:

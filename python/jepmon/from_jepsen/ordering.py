@@ -14,7 +14,7 @@ from .. import edn
 from ..edn import Value, integer, spelling
 from ..forms.account import ORDER, Account
 from ..forms.mapping import INDEX, LINES, TIMES
-from ..forms.order import APART, BY_TIMES, ONE_CLOCK, SKEW
+from ..forms.order import APART, BY_TIMES, ONE_CLOCK, SKEW, Blocks
 from ..forms.timeline import Timeline
 from ..sorted_rows import SortedRows
 from .apart import Apart, fields_of
@@ -90,6 +90,13 @@ class Facts:
                 last = time
         return None
 
+    def test_blocks(self, account: Account) -> None:
+        """Tells what is guessed if some clients stand behind all others, as if each event lacked an :index."""
+        blocks = Blocks(self.is_indexed())
+        for line, process, time in zip(self.lines, self.processes, self.times):
+            blocks.take(process, line, time)
+        blocks.close(account)
+
     def on_both_sides(self) -> Optional[str]:
         """A client that has events before and after its file's :index begins again."""
         before: Set[str] = set()
@@ -113,6 +120,7 @@ def ordered(texts: Texts, asked: Asked, account: Account, fault: Optional[Refusa
     order = asked.order or (TIMES if asked.skew is not None else of_files(facts, account) if asked.clients is not None else found(facts, account, fault))
     collector = Collector(asked._replace(order=order), scratch := Account())
     if order == LINES:
+        facts.test_blocks(account)
         history = collector.collect(texts())
     else:
         collector.count = by_index(texts(), asked, facts, collector) if order == INDEX else by_time(texts(), asked, collector, account)

@@ -47,9 +47,10 @@ class Plain(NamedTuple):
         groups = self.line.groupindex
         return tuple([int(row[groups[name] - 1]) for row in run.rows] if name in groups else [] for name in ("index", "time"))  # type: ignore[return-value]
 
-    def processes(self, run: Element) -> Iterator[int]:
+    def processes(self, run: Element) -> List[int]:
         """The process of each event of a run."""
-        return (int(row[self.line.groupindex["process"] - 1]) for row in run.rows)
+        place = self.line.groupindex["process"] - 1
+        return [int(row[place]) for row in run.rows]
 
     def events(self, run: Element, lone_key: Optional[Value], count: int) -> Iterator[Row]:
         """The events of a run, before which so many came."""

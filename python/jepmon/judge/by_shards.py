@@ -133,6 +133,7 @@ def _judge(given: Given, found: Large, history: Asked, session: shards.Session, 
     path = os.path.join(session.tools.folder, "report.txt")
     with open(path, "wb") as file:
         verdict = session.report(judged(given, session, options), file)
+    doubts.account_for_nils(session.nils_after_values(), given, history.account)
     task = Task("", choice, {}, options, in_shards=True)
     for line in said(found, history, session.tally, verdict, task):
         say(line)
@@ -150,7 +151,7 @@ def _judge(given: Given, found: Large, history: Asked, session: shards.Session, 
     recorded = _recorded(found, history, page is not None or folder is not None)
     of_report = bad_keys.found(filter(None, map(wide.key_line, lines_of(path))))
     keys = bad_keys.shown(recorded, task, report, of_report.bad, functools.partial(events_of, session, found, history), given.cause, decided)
-    beside = [*nil_hints(tally, choice), *said_of_bad(report, task, keys, given.cause)]
+    beside = [*nil_hints(tally, choice, given), *said_of_bad(report, task, keys, given.cause)]
     for line in beside:
         say(line)
     if few:
@@ -181,8 +182,8 @@ def _test_readings(given: Given, found: Large, history: Asked, session: shards.S
 
 def _word_of(found: Large, options: Options, given: Given) -> str:
     """The verdict of the history, read as these words say."""
-    assert found.made is not None
-    made = door.translated(found.source, found.made.form, given.said).turned(in_shards=True)
+    form = door.JEPSEN if found.made is None else found.made.form
+    made = door.translated(found.source, form, given.said).turned(in_shards=True)
     options = options._replace(concurrency=made.concurrency, model=given.model or options.model)
     with open(os.devnull, "wb") as nothing:
         return shards.check(made.texts(), options, given.jobs, temporary=given.temporary, out=nothing).word
@@ -329,11 +330,11 @@ def judged_by(found: Large, history: Asked, task: Task) -> str:
     return f"judged in shards: {task.again('FILE')}, where FILE is history.edn of --out DIR"
 
 
-def nil_hints(tally: Tally, choice: Choice) -> Iterator[str]:
+def nil_hints(tally: Tally, choice: Choice, given: Given) -> Iterator[str]:
     """Reads of a register that are answered by nil say nothing, unless nil is what a missing key answers."""
     reads, of_nil = tally.number_of("read", "ok"), tally.reads_of_nil()
     if choice.common in kinds.REGISTERS and of_nil:
-        yield from of_nil_reads(reads, of_nil, None)
+        yield from of_nil_reads(reads, of_nil, given.nil_is_unknown)
 
 
 def hints_of_refusal(found: Large, line: str, options: Options) -> Iterator[str]:

@@ -4,7 +4,7 @@ from __future__ import annotations
 import re
 from typing import Dict, Iterator, List, Mapping, Optional, Sequence
 
-from ..forms.account import TYPE, Account
+from ..forms.account import ABSENT, TYPE, Account
 from ..from_jepsen.meant import NUMBERS, Meant, text_of
 from ..history import Event, Operation, operations
 from ..kinds import REGISTERS
@@ -13,6 +13,7 @@ from ..shrinking.registers import brought, wanted
 from .words import Given
 
 FEW = 3  # groups that are named
+NIL = "--nil-is-absent or --nil-is-unknown"  # which settles what nil says
 MAY_BE_ALIKE = re.compile(r'"\s*(?:[+-]?[0-9][0-9.eEMN+-]*|true|false|True|False)\s*"|[+-]?[0-9].*|true|false|" .*"|".* "|"?[\[(].*')
 
 
@@ -24,6 +25,13 @@ def account_for_types(keys: Mapping[int, str], values: Mapping[int, str], given:
             more = f", and {len(groups) - FEW} more groups" if len(groups) > FEW else ""
             shown = "; ".join(" and ".join(group) for group in groups[:FEW])
             account.guess(TYPE, f"{shown} are different {what}{more}", "--values exact|text|number")
+
+
+def account_for_nils(count: int, given: Given, account: Account) -> None:
+    """Records that so many answers of nil, which may say that a value is lost, are taken to say nothing."""
+    if count and not given.nil_is_unknown:
+        account.guess(ABSENT, f"nil says nothing of what a register holds, and {count:,} {'read' if count == 1 else 'reads'} answered it after a "
+                      "value was there", NIL)
 
 
 def alike(names: Mapping[int, str]) -> List[List[str]]:

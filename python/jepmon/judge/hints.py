@@ -1,23 +1,22 @@
 """What jepmon-judge says of a history beside the cause: what was found, what was not judged, what else may have been meant."""
 from __future__ import annotations
 
-from typing import Counter, Iterator, Optional, Sequence
+from typing import Counter, Iterator, Sequence
 
 from ..explain.event import Options as Explained
 from ..explain.said import said as explained
-from ..forms import Refused
 from ..forms.files import Source
 from ..forms.own import Facts
-from ..forms.recorded import Options as Said
-from ..forms.recorded import Recorded, recorded
+from ..forms.recorded import Recorded
 from ..history import Event
 from ..program import Options, ProgramError, Report, check
 from ..shrinking.part import as_asked, text_of
 from ..walk import walk
 from . import models
 from .events import of_key
-from .judging import Task, judged
+from .judging import Task
 from .models import ALIKE
+from .words import Given
 
 MOST_EVENTS = 100_000  # of a history that is judged once more for a hint
 
@@ -55,15 +54,15 @@ def outcomes(counts: Counter[str]) -> Iterator[str]:
         yield "no operation is ok: nothing was judged"
 
 
-def after(history: Recorded, task: Task, report: Report, source: Source, said: Said, asks: bool) -> Iterator[str]:
+def after(history: Recorded, task: Task, report: Report, given: Given) -> Iterator[str]:
     """What may be said beside the report. What the program would say otherwise, it is asked."""
     if report.key is not None and report.key in history.key_names:
         yield f"key {report.key} is {history.key_names[report.key]}"
     if report.word == "refused" and report.index is not None:
         yield from _of_refusal(history, task, report, report.index)
-    if asks and report.word == "illegal" and report.key is not None:
+    if given.cause and report.word == "illegal" and report.key is not None:
         yield from _of_order(history, task, report.key)
-    yield from _of_nil(history, task, report, source, said, asks)
+    yield from _of_nil(history, task, given)
 
 
 def _of_refusal(history: Recorded, task: Task, report: Report, index: int) -> Iterator[str]:
@@ -99,35 +98,21 @@ def of_order(key: int, model: str, events: Sequence[Event], options: Options) ->
         yield f"key {key} is judged as a {model}, and is legal as an {other}: where no order was promised, say --model {other}"
 
 
-def _of_nil(history: Recorded, task: Task, report: Report, source: Source, said: Said, asks: bool) -> Iterator[str]:
+def _of_nil(history: Recorded, task: Task, given: Given) -> Iterator[str]:
     """Reads of a register that are answered by nil say nothing, unless nil is what a missing key answers."""
     reads = of_nil = 0
     for key, facts in history.facts.keys.items():
         if task.choice.of(key) in ("register", "cas-register"):
             reads, of_nil = reads + facts.reads, of_nil + facts.reads_of_nil
     if of_nil:
-        yield from of_nil_reads(reads, of_nil, _with_nil(history, task, report, source, said) if asks else None)
+        yield from of_nil_reads(reads, of_nil, given.nil_is_unknown)
 
 
-def of_nil_reads(reads: int, of_nil: int, verdict: Optional[str]) -> Iterator[str]:
-    """Reports how many reads of registers are answered by nil, and the verdict if nil is the answer for a missing key, if that is known."""
+def of_nil_reads(reads: int, of_nil: int, is_unknown: bool) -> Iterator[str]:
+    """Reports how many reads of registers are answered by nil, and how to have them judged, unless the user says that nil says nothing."""
     if of_nil == reads:
         yield f"NOTHING IS SAID OF WHAT A REGISTER HOLDS: each read is answered by nil, which fits whatever it holds: {of_nil}"
     else:
         yield f"reads answered by nil, which fits whatever a register holds: {of_nil} of {reads}"
-    then = ", and they are judged" if verdict is None else f": then the history is {verdict}"
-    yield f"where nil is what a missing key answers, say --nil-is-absent{then}"
-
-
-def _with_nil(history: Recorded, task: Task, report: Report, source: Source, said: Said) -> Optional[str]:
-    if report.word == "illegal" or history.facts.events > MOST_EVENTS:
-        return None
-    try:
-        again = recorded(source, said._replace(nil_is_absent=True))
-        threads = models.concurrency_of(again.facts)
-        if threads is None:
-            return None
-        options = task.options._replace(concurrency=threads)
-        return judged(task._replace(text=again.text, options=options)).word
-    except (Refused, ProgramError):
-        return None
+    if not is_unknown:
+        yield "where nil is what a missing key answers, say --nil-is-absent, and they are judged"

@@ -5,7 +5,7 @@ from typing import Callable, Dict, Iterator, List, Mapping, NamedTuple, Optional
 
 from ..errors import ProgramError
 from ..forms import Refused
-from ..forms.account import MODEL, TYPE, Guess
+from ..forms.account import ABSENT, MODEL, TYPE, Guess
 from ..forms.door import Translation
 from ..forms.mapping import LINES, TIMES
 from ..forms.mapping_words import KINDS
@@ -48,9 +48,10 @@ class Judged(NamedTuple):
 
 def test(given: Given, judged: Judged, judge: Callable[[Given], str]) -> None:
     """Refuses a verdict that another reading of the input does not have. `judge` gives the verdict of such a reading."""
-    if judged.found.is_own or judged.word not in VERDICTS:
+    if judged.word not in VERDICTS:
         return
-    _test_sets(judged)
+    if not judged.found.is_own:
+        _test_sets(judged)
     ways = list(_ways(given, judged))
     for tried in [[way] for way in ways] + ([ways] if len(ways) > 1 else []):
         _test_one(given, judged.word, tried, judge)
@@ -85,10 +86,15 @@ def _test_one(given: Given, word: str, ways: List[Way], judge: Callable[[Given],
 def _ways(given: Given, judged: Judged) -> Iterator[Way]:
     """The other ways to read the input."""
     for guess in judged.found.account.guesses:
+        if guess.of == ABSENT and judged.word == "legal":
+            yield Way(lambda given: given._replace(nil_is_absent=True), "nil says nothing of what a register holds",
+                      "it is what a missing key answers", guess.option)
+        if judged.found.is_own:
+            continue
         yield from _of_both(guess, given)
         if judged.word == "illegal":
             yield from _of_order(guess, judged)
-    if judged.word == "illegal":
+    if judged.word == "illegal" and not judged.found.is_own:
         yield from _of_answers(given, judged)
 
 

@@ -15,6 +15,8 @@ def of(found: Recorded, given: Given) -> Task:
     choice = models.chosen(found.facts, given.model, found.stated, found.possible)
     models.account_for(choice, found.account)
     doubts.account_for_types(found.key_names, found.value_names, given, found.account)
+    if not found.has_commands:  # what was told to jepmon script is in its own form, in which nil says nothing
+        doubts.account_for_nils(sum(facts.nils_after_values for facts in found.facts.keys.values()), given, found.account)
     concurrency = given.concurrency or models.concurrency_of(found.facts)
     if concurrency is None:
         raise Refused("its processes fit no concurrency from 1 to 64")

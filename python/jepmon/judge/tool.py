@@ -150,7 +150,7 @@ def _judge_whole(source: files.Source, found: Recorded, given: Given, page: Opti
     with named(source):
         readings.test(given, readings.Judged(found, task.choice, report.word, report.keys, task.options.concurrency, functools.partial(events.of_keys, found)),
                       functools.partial(tasks.word_of, source))
-    beside = list(hints.after(found, task, report, source, given.said, given.cause))
+    beside = list(hints.after(found, task, report, given))
     few = least.reason(given, report.word, least.telling(found.facts.outcomes, models.answered(found.facts)))
     if not given.json and not few:
         command.write_output([report.text or report.error])

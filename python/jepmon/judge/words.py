@@ -50,6 +50,7 @@ class Given(NamedTuple):
     absent: Sequence[str] = ()
     initial: Optional[str] = None
     mapping: Mapping = Mapping()  # what is said of the fields of rows
+    nil_is_unknown: bool = False
 
     @property
     def said(self) -> Said:
@@ -98,7 +99,9 @@ def given(words: Optional[List[str]]) -> Given:
                         "history")
     parser.add_argument("--key", metavar="K", type=number("a key", kinds.KEYS),
                         help="the history has no keys: each value in it is of key K")
-    parser.add_argument("--nil-is-absent", action="store_true", help="nil is the answer of a missing key, and is judged")
+    nil = parser.add_mutually_exclusive_group()
+    nil.add_argument("--nil-is-absent", action="store_true", help="nil is the answer of a missing key, and is judged")
+    nil.add_argument("--nil-is-unknown", action="store_true", help="nil as the answer of a register does not tell its value")
     parser.add_argument("--strict-input", action="store_true", help="refuse each guess, for example of the model, instead of judging by it")
     mapping_words.add(parser)
     meant_words.add(parser)
@@ -125,4 +128,4 @@ def given(words: Optional[List[str]]) -> Given:
     seconds = parsed.wide_seconds if parsed.wide_seconds is not None else LONG if parsed.wide else SHORT
     return Given(parsed.history or ["-"], parsed.model, parsed.concurrency, parsed.budget, parsed.workers, key, parsed.nil_is_absent,
                  parsed.html, parsed.out, parsed.cause, parsed.jobs, parsed.dask, parsed.temporary, seconds, parsed.strict_input,
-                 parsed.json, parsed.least, parsed.values, tuple(parsed.absent), parsed.initial, mapping)
+                 parsed.json, parsed.least, parsed.values, tuple(parsed.absent), parsed.initial, mapping, parsed.nil_is_unknown)

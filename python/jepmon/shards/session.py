@@ -16,6 +16,7 @@ from .by_key import FIELDS, events_of
 from .doubt import Doubt, ShardsError
 from .judging import Judged, ShardTask, judge_shard
 from .lines import of_code
+from .nils import NilsTask, nils_of
 from .progress import Progress
 from .refusal import first_refusal
 from .report import Verdict, merged, verdict_of, write_report
@@ -89,6 +90,13 @@ class Session:
                 return [judged for _, judged in found]
             except Doubt as doubt:
                 self.read_exactly(doubt)
+
+    def nils_after_values(self) -> int:
+        """How many reads of registers were answered by nil, and began after a value was there."""
+        if self.tally.reads_of_nil() <= 0:
+            return 0
+        tasks = [NilsTask(shard.sources, shard.number) for shard in self.shards]
+        return sum(count for _, count in self.tools.team.run(nils_of, tasks))
 
     def report(self, judged: Sequence[Judged], out: BinaryIO) -> Verdict:
         """Writes the report, and gives the verdict."""

@@ -1,4 +1,4 @@
-use Rattle.std.proofs.Common.{Some, IfSome, true, sym, subst}
+use Rattle.std.proofs.Common.{◌≡◌, Some, IfSome, true, sym, subst}
 use Rattle.harness.specs.Setups.{setup_of}
 use Rattle.checks.proofs.Recording.{checks_none, checks_held}
 use Rattle.checks.proofs.check.check_file.Goals as goal

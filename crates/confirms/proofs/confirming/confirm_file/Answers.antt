@@ -1,4 +1,4 @@
-use Rattle.std.proofs.Common.{Some, IfSome, true, false, [], inr, inl, refl, sym, subst}
+use Rattle.std.proofs.Common.{◌≡◌, Some, IfSome, true, false, [], inr, inl, refl, sym, subst}
 use Rattle.edn.specs.declared.refusal.Refusal.TheVariants.{ReadFailed}
 use Rattle.checks.proofs.Recording.{reads_none}
 use Rattle.confirms.specs.declared.found.Found.TheVariants.{Refused}

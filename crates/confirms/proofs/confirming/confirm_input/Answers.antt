@@ -1,4 +1,4 @@
-use Rattle.std.proofs.Common.{Some, IfSome, true, [], inr, inl, refl, sym, subst}
+use Rattle.std.proofs.Common.{◌≡◌, Some, IfSome, true, [], inr, inl, refl, sym, subst}
 use Rattle.edn.specs.declared.refusal.Refusal.TheVariants.{ReadFailed}
 use Rattle.checks.proofs.Recording.{reads_none}
 use Rattle.confirms.specs.declared.found.Found.TheVariants.{RefusedOrder}
@@ -8,7 +8,7 @@ use Rattle.confirms.proofs.confirming.confirm_input.Goals as goal
 pub returns-in-Ok : goal.returns-in-Ok
 returns-in-Ok g c =
     let held = g.X.Opens.holds c.args.rt.now c.args.order_path.now in
-    (_, _, confirms_held c.args.concurrency c.args.kind _ _ _ _ held _ _ _ _ _ _ _ _
+    (_, _, confirms_held c.args.concurrency c.args.kind held _ _ _ held _ _ _ _ _ _ _ _
     (subst (λ f. IfSome held (λ bytes. g.X.Opened.Read.remaining f ≡ Some bytes)) (sym c.new.ensures.inner) c.in-Ok.ensures) c.confirm_text.ensures)
 
 pub returns-in-Err : goal.returns-in-Err
