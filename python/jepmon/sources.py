@@ -30,7 +30,7 @@ class Sources:
         brought = key, part.strip("[]").split()[-1]
         self._brought[brought] += 1 if kind == "invoke" else -1
         if kind == "fail":
-            self._failed[brought] = f"{VERBS[name]} by process {process} in events {began}-{index}, told as a fail"
+            self._failed[brought] = f"{VERBS[name]} by process {process} in events {began}-{index}, recorded as a fail"
 
     def hint(self, line: str) -> str:
         """What is strange in the answer that this line tells, if anything."""

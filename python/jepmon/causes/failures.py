@@ -22,7 +22,7 @@ def of_failure(case: Case) -> Found:
         sentences.append(f"Without it no order of the operations is possible from event {forced.index} on, the :{forced.kind} of "
                          f"{case.names.owned(by)}.")
     if case.legal_with([case.front[-1]._replace(kind="info")]):
-        sentences.append("Asked of jepmon: an :info would have been legal. Only what certainly did not take place may be told as "
+        sentences.append("Asked of jepmon: an :info would have been legal. Only what certainly did not take place may be recorded as "
                          ":fail.")
     return Found(headline, sentences, told)
 
