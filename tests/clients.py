@@ -1,6 +1,6 @@
 #!/usr/bin/env python3
-"""Runs the tests of the libraries in clients/, each of which has the scenarios of clients/conformance among its own, and the first
-test of each library's README, which has to find its planted fault. Ends with 'N passed, M failed, K skipped'.
+"""Runs the tests of the libraries in clients/, each of which has the scenarios of clients/conformance among its own. Ends with
+'N passed, M failed', or 'N passed, M failed, K skipped'.
 
 A library whose language is not installed is skipped, and counts as one: tests/setup installs the languages. With words, it runs the
 libraries of these names alone. The tests of a library say what they came to, and its last line is 'N passed, M failed'.
@@ -31,8 +31,12 @@ class Language(NamedTuple):
         return [name for name in self.commands if shutil.which(name) is None] + [name for name in self.files if not os.path.exists(name)]
 
 
+JARS = "/usr/share/java/"
+JAVA = ("javac", "jar", "java")
+
 LANGUAGES: Dict[str, Language] = {
     "go": Language(("go",)),
+    "rust": Language(("cargo",)),
 }
 
 
@@ -46,7 +50,7 @@ def run(name: str) -> Tuple[int, int]:
     """Runs the tests of a library: how many passed, and how many failed."""
     begun = time.monotonic()
     try:
-        ran = subprocess.run([str(TOP / "clients" / name / "test")], stdin=subprocess.DEVNULL, stdout=subprocess.PIPE,
+        ran = subprocess.run([str(TOP / "clients" / name / "run-tests")], stdin=subprocess.DEVNULL, stdout=subprocess.PIPE,
                              stderr=subprocess.STDOUT, env=environment(), timeout=LIMIT, universal_newlines=True)
     except (subprocess.TimeoutExpired, OSError) as fault:
         print(f"clients {name}: FAILED: {fault}")

@@ -29,10 +29,14 @@ fn part_of(alloc: Global, said: Said) -> Result<Part, AllocError> {
 // An event of the operation with this id, and whether the history with it is linearizable.
 type Row = (u32, EventKind, Name, Said, bool);
 
-fn judge(alloc: Global, rows: &[Row]) -> Result<bool, AllocError> {
+// Whether each event is answered so, by one set, or each event by a copy of the set before it.
+fn judge(alloc: Global, rows: &[Row], copies: bool) -> Result<bool, AllocError> {
     let mut set = WideSet::start(alloc);
     for row in rows {
         let (id, kind, name, said, want) = *row;
+        if copies {
+            set = set.copy()?;
+        }
         let op = Op {
             name,
             key: 7,
@@ -101,20 +105,45 @@ const LATE_ANSWER: [Row; 8] = [
     (0, Done, Read, All(&[]), true),
 ];
 
+const ADDED_AGAIN: [Row; 12] = [
+    (0, Invoke, Add, One(5), true),
+    (0, Done, Add, One(5), true),
+    (1, Invoke, Read, Nil, true),
+    (1, Done, Read, All(&[5]), true),
+    (2, Invoke, Add, One(5), true),
+    (3, Invoke, Read, Nil, true),
+    (3, Done, Read, All(&[5]), true),
+    (2, Failed, Add, One(5), true),
+    (4, Invoke, Add, One(6), true),
+    (4, Crashed, Add, One(6), true),
+    (5, Invoke, Read, Nil, true),
+    (5, Done, Read, All(&[6]), false),
+];
+
 const NIL_IS_NO_SET: [Row; 2] = [(0, Invoke, Read, Nil, true), (0, Done, Read, Nil, false)];
 
 #[test]
 fn wide_set_answers(rt: HostRuntime) -> Result<(), Fail> {
     let alloc = rt.alloc();
-    assert!(rt; judge(alloc, &STALE_READ)?, "stale read");
-    assert!(rt; judge(alloc, &CROSSED_ANSWERS)?, "crossed answers");
+    assert!(rt; judge(alloc, &STALE_READ, false)?, "stale read");
+    assert!(rt; judge(alloc, &CROSSED_ANSWERS, false)?, "crossed answers");
     assert!(rt;
-        judge(alloc, &FAILED_ADD_WAS_READ)?,
+        judge(alloc, &FAILED_ADD_WAS_READ, false)?,
         "a failed add was read"
     );
-    assert!(rt; judge(alloc, &ANOTHER_ADD_STAYS)?, "another add stays");
-    assert!(rt; judge(alloc, &READ_BACKWARDS)?, "read backwards");
-    assert!(rt; judge(alloc, &LATE_ANSWER)?, "late answer");
-    assert!(rt; judge(alloc, &NIL_IS_NO_SET)?, "nil is no set");
+    assert!(rt; judge(alloc, &ANOTHER_ADD_STAYS, false)?, "another add stays");
+    assert!(rt; judge(alloc, &READ_BACKWARDS, false)?, "read backwards");
+    assert!(rt; judge(alloc, &LATE_ANSWER, false)?, "late answer");
+    assert!(rt; judge(alloc, &ADDED_AGAIN, false)?, "added again");
+    assert!(rt; judge(alloc, &NIL_IS_NO_SET, false)?, "nil is no set");
+    Ok(())
+}
+
+#[test]
+fn copies_of_wide_sets(rt: HostRuntime) -> Result<(), Fail> {
+    let alloc = rt.alloc();
+    assert!(rt; judge(alloc, &CROSSED_ANSWERS, true)?, "crossed answers");
+    assert!(rt; judge(alloc, &LATE_ANSWER, true)?, "late answer");
+    assert!(rt; judge(alloc, &ADDED_AGAIN, true)?, "added again");
     Ok(())
 }

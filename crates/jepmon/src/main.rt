@@ -52,5 +52,13 @@ fn main(rt: HostRuntime) -> ExitCode {
         onlooker: &aside,
     };
     let mut writer = Watched::new(rt.stdout());
-    ended(&rt, alloc, order_given(&rt), &input, &mut reader, &mut writer, &aside)
+    ended(
+        &rt,
+        alloc,
+        order_given(&rt),
+        &input,
+        &mut reader,
+        &mut writer,
+        &aside,
+    )
 }

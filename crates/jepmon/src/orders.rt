@@ -3,7 +3,7 @@ ghost use Rattle.std.specs.Prelude.{◌≡◌, ◌≤◌, None, false, IfOk};
 ghost use Rattle.std.specs.Process.{exit_status};
 ghost use Rattle.harness.specs.Setups.{setup_of};
 ghost use Rattle.command_line.specs.Orders.{IsWithinLimits};
-ghost use Rattle.jepmon.specs.Ends.{EndsAs, IsARun, IsCheck, IsConfirmation, IsScript};
+ghost use Rattle.jepmon.specs.Ends.{EndsAs, IsARun, IsCarriedOut, IsCheck, IsConfirmation, IsScript};
 
 use crate::run_line::RunLine;
 use checks::{Opens, SeenFile, check_file, check_text};
@@ -33,12 +33,7 @@ fn greet<R: Eprint>(rt: &R, is_terminal: bool) {
 }
 
 /// Answers the lines of the reader. Says how to go on, where somebody at a terminal has to type them.
-pub fn script<
-    'a,
-    X: Wait + Clock + Eprint,
-    R: ReadsBeside<W>,
-    W: Write + Failed + Flushes,
->(
+pub fn script<'a, X: Wait + Clock + Eprint, R: ReadsBeside<W>, W: Write + Failed + Flushes>(
     rt: &X,
     alloc: Global,
     config: Config,
@@ -118,12 +113,7 @@ pub fn check<
 }
 
 /// Says what an order of operations shows of the history of a file; of that of the reader, where the path is `-`.
-pub fn confirm<
-    'a,
-    X: Wait + Opens + Clock + Eprint,
-    R: Read + Failed,
-    W: Write + Failed + Flushes,
->(
+pub fn confirm<'a, X: Wait + Opens + Clock + Eprint, R: Read + Failed, W: Write + Failed + Flushes>(
     rt: &X,
     alloc: Global,
     path: &str,
@@ -242,8 +232,90 @@ pub fn ended<
         })
         (exit_status result) }
 {
-    let status = match given {
-        Ok(Order::Script { config, is_strict }) => script(
+    let status = status_given(rt, alloc, given, input, reader, writer, aside);
+    ExitCode::from(status)
+}
+
+// The same, or the status of what stands in place of an order.
+fn status_given<
+    'a,
+    'b,
+    X: Wait + Threads + Opens + Sync + Clock + Print + Eprint,
+    T: IsTerminal,
+    R: ReadsBeside<W>,
+    W: Write + Failed + Flushes,
+>(
+    rt: &X,
+    alloc: Global,
+    given: Result<Order, Stop>,
+    input: &T,
+    reader: &mut SeenFile<'b, R, OnStandardError<'a, X>>,
+    writer: &mut W,
+    aside: &OnStandardError<'a, X>,
+) -> u8
+    requires reads { R.has_failed reader.old.file ≡ false }
+    requires writes { W.has_failed writer.old ≡ false }
+    requires within { IfOk given IsWithinLimits }
+    ensures { EndsAs (X.holds rt.now) given
+        (record {
+          had = R.remaining reader.old.file;
+          left = R.remaining reader.new.file;
+          log_before = R.log reader.old.file;
+          log_after = R.log reader.new.file;
+          has_failed = R.has_failed reader.new.file;
+        })
+        (record {
+          before = W.contents writer.old;
+          after = W.contents writer.new;
+          has_failed = W.has_failed writer.new;
+          is_flushed = W.is_flushed writer.new;
+        })
+        result }
+{
+    match given {
+        Ok(order) => carried_out(rt, alloc, order, input, reader, writer, aside),
+        Err(stop) => status_of_stop(rt, alloc, &stop, aside),
+    }
+}
+
+// Carries out an order, of which standard input is this reader and standard output this writer.
+fn carried_out<
+    'a,
+    'b,
+    X: Wait + Threads + Opens + Sync + Clock + Print + Eprint,
+    T: IsTerminal,
+    R: ReadsBeside<W>,
+    W: Write + Failed + Flushes,
+>(
+    rt: &X,
+    alloc: Global,
+    order: Order,
+    input: &T,
+    reader: &mut SeenFile<'b, R, OnStandardError<'a, X>>,
+    writer: &mut W,
+    aside: &OnStandardError<'a, X>,
+) -> u8
+    requires reads { R.has_failed reader.old.file ≡ false }
+    requires writes { W.has_failed writer.old ≡ false }
+    requires within { IsWithinLimits order }
+    ensures { IsCarriedOut (X.holds rt.now) order
+        (record {
+          had = R.remaining reader.old.file;
+          left = R.remaining reader.new.file;
+          log_before = R.log reader.old.file;
+          log_after = R.log reader.new.file;
+          has_failed = R.has_failed reader.new.file;
+        })
+        (record {
+          before = W.contents writer.old;
+          after = W.contents writer.new;
+          has_failed = W.has_failed writer.new;
+          is_flushed = W.is_flushed writer.new;
+        })
+        result }
+{
+    match order {
+        Order::Script { config, is_strict } => script(
             rt,
             alloc,
             config,
@@ -253,42 +325,34 @@ pub fn ended<
             writer,
             aside,
         ),
-        Ok(
-            Order::Check {
-                path,
-                workers,
-                config,
-            },
-        ) => check(
-            rt,
-            alloc,
-            path.as_str(),
+        Order::Check {
+            path,
             workers,
             config,
-            reader,
-            writer,
-            aside,
-        ),
-        Ok(
-            Order::Confirm {
-                path,
-                order_path,
-                concurrency,
-                kind,
-            },
-        ) => confirm(
-            rt,
-            alloc,
-            path.as_str(),
-            order_path.as_str(),
+        } => {
+            let judged = path.as_str();
+            check(rt, alloc, judged, workers, config, reader, writer, aside)
+        }
+        Order::Confirm {
+            path,
+            order_path,
             concurrency,
             kind,
-            reader,
-            writer,
-            aside,
-        ),
-        Ok(Order::Run(config)) => run(rt, alloc, config, writer, aside),
-        Err(stop) => status_of_stop(rt, alloc, &stop, aside),
-    };
-    ExitCode::from(status)
+        } => {
+            let history = path.as_str();
+            let list = order_path.as_str();
+            confirm(
+                rt,
+                alloc,
+                history,
+                list,
+                concurrency,
+                kind,
+                reader,
+                writer,
+                aside,
+            )
+        }
+        Order::Run(config) => run(rt, alloc, config, writer, aside),
+    }
 }

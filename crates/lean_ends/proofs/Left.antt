@@ -1,5 +1,5 @@
 -- ends that are at most another one may be left out
-use Rattle.std.proofs.Common.{◌≡◌, ◌≢◌, ◌↔◌, ℕ, ℤ, inl, inr, ⊎_elim, Bool, true, false, IsTrue, Option, List, [], ◌∷◌, ◌++◌, length, ◌≤◌, refl, sym, ap, ◌∙◌, subst, append_assoc, arith}
+use Rattle.std.proofs.Common.{◌≡◌, ◌≢◌, ◌↔◌, ℕ, ℤ, inl, inr, ⊎_elim, Bool, true, false, IsTrue, Option, List, [], ◌∷◌, ◌++◌, length, ◌<◌, ◌≤◌, refl, sym, ap, ◌∙◌, subst, append_assoc, arith}
 use Rattle.std.proofs.lemmas.List.{append-nil}
 use Rattle.std.specs.List.{Contains}
 use Rattle.models.specs.Objects.{register}
@@ -9,7 +9,7 @@ use Rattle.linspec.specs.Operations.{IsOpen}
 use Rattle.linspec.specs.Orders.{Taken, IsLinearizable, Pairwise}
 use Rattle.linspec.proofs.Counts.{no_longer_than}
 use Rattle.linspec.proofs.Lists.{Contains-nil, Contains-head, Contains-cons_cases, Pairwise-weaker}
-use Rattle.lean_ends.specs.LeanEnds.{LeanEnd, start, IsAtMost, AreLeftBy, AreLeftByAll, AreLeanEnds}
+use Rattle.lean_ends.specs.LeanEnds.{LeanEnd, start, IsAtMost, AreLeftBy, AreLeftByAll, AreLeanEnds, HasMoreLeanEnds}
 use Rattle.lean_ends.proofs.Covers.{Extra, Covers}
 use Rattle.lean_ends.proofs.Complete.{AreComplete, complete_after, at_first}
 use Rattle.lean_ends.proofs.Sound.{IsLeft, left_after, left_at_first}
@@ -76,6 +76,30 @@ some_is_left marks ends well are = (
       lin.0 lin.1 lin.2 in (k.0, k.1))),
   (λ k. (let o = sound_left_by [] marks (start ∷ []) ends well are (λ e h. subst (IsLeft []) (only_start e h) left_at_first) k.0 k.1 in (o.0, o.1, o.2.legal))),
 )
+
+-- something is counted only of a history that has a legal order, so a key that is dead is never blown
+pub counted_order : (marks : List Mark) (n : ℕ) → HasMoreLeanEnds marks n → IsLinearizable register marks
+counted_order marks n h = first h.ends h.are h.many
+  where
+    first : (ends : List LeanEnd) → AreLeanEnds marks ends → n < length ends → IsLinearizable register marks
+    first [] are many = absurd (omega arith)
+    first (e ∷ ends) are many = (some_is_left marks (e ∷ ends) h.well are).1 (e, Contains-head e ends)
+
+-- each stands for an order of the history
+pub are_left : (marks : List Mark) (ends : List LeanEnd) → AreWellFormed marks → AreLeanEnds marks ends → (e : LeanEnd) → Contains ends e → IsLeft marks e
+are_left marks ends well are e h = sound_left_by [] marks (start ∷ []) ends well are (λ f k. subst (IsLeft []) (only_start f k) left_at_first) e h
+
+left_then_by : (before more : List Mark) (m : Mark) (ends left next : List LeanEnd) → AreLeftByAll before ends more left → AreLeftBy (before ++ more) m left next → AreLeftByAll before ends (more ++ m ∷ []) next
+left_then_by before [] m ends left next by then' = (next, subst (λ l. AreLeftBy before m l next) (sym by) (subst (λ ms. AreLeftBy ms m left next) (append-nil before) then'), refl)
+left_then_by before (n ∷ more) m ends left next by then' = (
+  by.0,
+  by.1,
+  left_then_by (before ++ n ∷ []) more m by.0 left next by.2 (subst (λ ms. AreLeftBy ms m left next) (sym (append_assoc before (n ∷ []) more)) then'),
+)
+
+-- and one more mark
+pub left_then : (marks : List Mark) (m : Mark) (ends next : List LeanEnd) → AreLeanEnds marks ends → AreLeftBy marks m ends next → AreLeanEnds (marks ++ m ∷ []) next
+left_then marks m ends next are by = left_then_by [] marks m (start ∷ []) ends next are by
 
 -- two ends that are at most each other are the same
 same_bool : (a b : Bool) → (IsTrue a → IsTrue b) → (IsTrue b → IsTrue a) → a ≡ b

@@ -1,16 +1,16 @@
-mod Splits
-mod Orders
-mod Steps
-mod Once
-mod Makes
-mod Covers
-mod Puts
-mod Ending
-mod Events
-mod Beginning
-mod Complete
-mod Stands
-mod Kept
-mod Sound
-mod Left
-mod BadFronts
+pub mod Splits
+pub mod Orders
+pub mod Steps
+pub mod Once
+pub mod Makes
+pub mod Covers
+pub mod Puts
+pub mod Ending
+pub mod Events
+pub mod Beginning
+pub mod Complete
+pub mod Stands
+pub mod Kept
+pub mod Sound
+pub mod Left
+pub mod BadFronts

@@ -1,5 +1,5 @@
 -- Promise: the lean ends of a register, event by event (this project's own)
-use Rattle.std.specs.Prelude.{◌≡◌, ◌↔◌, ℕ, ℤ, ◌⊎◌, Bool, false, IsTrue, Option, Some, None, List, [], ◌∷◌, ◌++◌}
+use Rattle.std.specs.Prelude.{◌≡◌, ◌↔◌, ℕ, ◌<◌, ℤ, ◌⊎◌, Bool, false, IsTrue, Option, Some, None, List, [], ◌∷◌, ◌++◌, length}
 use Rattle.std.specs.List.{Contains}
 use Rattle.models.specs.declared.operation.Name.TheVariants.{Read, Write}
 use Rattle.models.specs.declared.operation.Part.TheVariants.{Nil, Int}
@@ -8,6 +8,7 @@ use Rattle.models.specs.declared.finding.Answer.{Answer}
 use Rattle.models.specs.declared.finding.Answer.TheVariants.{Nothing, Number}
 use Rattle.events.specs.Events.{Mark}
 use Rattle.events.specs.Events.Mark.{Invoked, Returned, Failed, Crashed}
+use Rattle.linspec.specs.MarkRule.{AreWellFormed}
 use Rattle.linspec.specs.Operations.{HasReturned, IsOpen}
 use Rattle.linspec.specs.Orders.{Pairwise}
 
@@ -144,3 +145,10 @@ AreLeftByAll marks ends (m ∷ more) left =
 -- these are the lean ends of the history, each once
 abbrev pub AreLeanEnds : List Mark → List LeanEnd → Type 0
 AreLeanEnds marks left = AreLeftByAll [] (start ∷ []) marks left
+
+-- the history is well-formed and has more than n lean ends
+pub record HasMoreLeanEnds (marks : List Mark) (n : ℕ) : Type 0 where
+  pub well : AreWellFormed marks
+  pub ends : List LeanEnd
+  pub are : AreLeanEnds marks ends
+  pub many : n < length ends

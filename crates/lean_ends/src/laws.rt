@@ -1,12 +1,12 @@
 //! Laws of lean ends.
-ghost use Rattle.std.specs.Prelude.{◌≡◌, ◌↔◌, List, ◌∷◌, ◌++◌, [], length};
+ghost use Rattle.std.specs.Prelude.{◌≡◌, ◌↔◌, ℕ, List, ◌∷◌, ◌++◌, [], length};
 ghost use Rattle.std.specs.List.{Contains};
 ghost use Rattle.models.specs.Objects.{register};
 ghost use Rattle.events.specs.Events.{Mark, Entry, marks, IsFront};
 ghost use Rattle.linspec.specs.MarkRule.{AreWellFormed};
 ghost use Rattle.linspec.specs.Orders.{IsLinearizable};
 ghost use Rattle.linspec.specs.Verdicts.{EndsShortestBadFront};
-ghost use Rattle.lean_ends.specs.LeanEnds.{LeanEnd, IsLeanEnd, AreLeanEnds};
+ghost use Rattle.lean_ends.specs.LeanEnds.{LeanEnd, IsLeanEnd, AreLeanEnds, HasMoreLeanEnds};
 
 /// A history of a register is linearizable exactly if it has a lean end. Nothing is lost if ends that are at most another one are left out at
 /// each event.
@@ -17,10 +17,11 @@ pub fn lean_law()
         → IsLinearizable register marks ↔ ((e : LeanEnd) × Contains ends e) }
 {}
 
-/// How many lean ends a history has does not depend on how they are found.
+/// How many lean ends a history has does not depend on how they are found, and a history that has more of them than so many is linearizable.
 pub fn count_law()
-    ensures { (marks : List Mark) (ends others : List LeanEnd) → AreLeanEnds marks ends → AreLeanEnds marks others
+    ensures one { (marks : List Mark) (ends others : List LeanEnd) → AreLeanEnds marks ends → AreLeanEnds marks others
         → length ends ≡ length others }
+    ensures order { (marks : List Mark) (n : ℕ) → HasMoreLeanEnds marks n → IsLinearizable register marks }
 {}
 
 /// The history of a register becomes illegal at the event that leaves none of its lean ends.

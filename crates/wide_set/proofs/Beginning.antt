@@ -25,9 +25,12 @@ no_facts_are = record {
   chained = none_chained;
   now = refl;
   pending = record { is = λ p h. absurd (Contains-nil p h); all = λ id o. absurd (Contains-nil _ o.invoked.1) };
-  adds = record { is = λ v s e. cc; all = λ v id n op a c s. absurd (Contains-nil _ a.1) };
-  done = record { is = λ d h. absurd (Contains-nil d h); all = λ v id n answer a s. absurd (Contains-nil _ a.1) };
-  told = λ v s e d. cc;
+  logged = record {
+    is = λ a h. absurd (Contains-nil a h);
+    all = λ v id n op a out c s. absurd (Contains-nil _ a.1);
+    done = λ v id n answer a out s. absurd (Contains-nil _ a.1);
+  };
   answers = record { is = λ a h. absurd (Contains-nil a h); all = λ id n members r s. absurd (Contains-nil _ r.answer) };
   nested = record { ascending = λ a h. absurd (Contains-nil a h); nested = tt };
+  based = λ v h. absurd (Contains-nil v h);
 }

@@ -1,5 +1,5 @@
 -- operations by what they do
-use Rattle.std.proofs.Common.{◌≡◌, ◌≢◌, ℕ, ◌≤◌, ℤ, ◌⊎◌, inl, inr, ⊎_elim, List, refl, sym, ap, ◌∙◌, subst, arith}
+use Rattle.std.proofs.Common.{◌≡◌, ◌≢◌, ℕ, ◌≤◌, ℤ, ◌⊎◌, inl, inr, ⊎_elim, Option, Some, None, List, refl, sym, ap, ◌∙◌, subst, arith}
 use Rattle.std.specs.List.{Contains}
 use Rattle.models.specs.declared.operation.Name.{Name}
 use Rattle.models.specs.declared.operation.Name.TheVariants.{Read, Add}
@@ -9,7 +9,7 @@ use Rattle.models.specs.declared.operation.Op.{Op}
 use Rattle.models.specs.declared.finding.Answer.TheVariants.{Many}
 use Rattle.models.specs.Objects.{answer_of}
 use Rattle.events.specs.Events.{Mark}
-use Rattle.events.specs.Events.Mark.{Invoked, Failed, Crashed}
+use Rattle.events.specs.Events.Mark.{Invoked, Returned, Failed, Crashed}
 use Rattle.linspec.specs.Operations.{IsOpen, IsInvoked}
 use Rattle.linspec.specs.MarkRule.{AreWellFormed}
 use Rattle.linspec.proofs.Fates.{returned_or_not, crashed_or_not}
@@ -17,7 +17,7 @@ use Rattle.set_chains.specs.Chains.{Adds, IsAddOf}
 use Rattle.set_chains.proofs.Once.{one_op, one_completion, returned_not_failed}
 use Rattle.wide_set.specs.declared.known.Call.TheVariants as calls
 use Rattle.wide_set.specs.declared.known.Pending.{Pending}
-use Rattle.wide_set.specs.Facts.{call_by, StandsAt, CannotFail, Facts, AreFacts, HasAdd}
+use Rattle.wide_set.specs.Facts.{call_by, StandsAt, CannotFail, IsSettledBy, Facts, AreFacts, HasAdd}
 use Rattle.wide_set.proofs.Moments.{stands_contains, stands_of, invoked_at_once}
 
 pub read_by : (name : Name) (part : Part) → call_by name part ≡ calls.Read → (name ≡ Read) × (part ≡ Nil)
@@ -41,6 +41,10 @@ answer_many Nil members e = cc
 answer_many (Int a) members e = cc
 answer_many (Pair a b) members e = cc
 answer_many (Set those) members e = let q : Many those ≡ Many members = e in let r : those ≡ members = cc in ap Set r
+
+pub settled_by : (ms : List Mark) (id : ℕ) (by : Option ℕ) → IsSettledBy ms id by → CannotFail ms id
+settled_by ms id None c = inr c
+settled_by ms id (Some n) r = inl (r.0, stands_contains ms n (Returned id r.0) r.1)
 
 module _ (f : Facts) (ms : List Mark) (facts : AreFacts f ms) where
   well : AreWellFormed ms
@@ -84,13 +88,16 @@ module _ (f : Facts) (ms : List Mark) (facts : AreFacts f ms) where
 
   pub from_has_add : (but : ℕ) → IsOpen ms but → (v : ℤ) (moment : ℕ) → HasAdd f but v moment → IsAdd but v moment
   from_has_add but open' v moment h = ⊎_elim
-      (λ s. (let k = facts.adds.is v s.0 s.1 in (k.0, k.1, k.2, not_failed k.0 k.3, (λ e. not_open k.0 k.3 (subst (IsOpen ms) (sym e) open')), subst (λ n. StandsAt ms n (Invoked k.0 k.1)) s.2 k.4)))
+      (λ s.
+      let k = facts.logged.is s.0 s.1 in
+      let c = settled_by ms k.0 s.0.by k.4 in
+      (k.0, k.1, subst (IsAddOf ms k.0) s.2 k.2, not_failed k.0 c, (λ e. not_open k.0 c (subst (IsOpen ms) (sym e) open')), subst (λ n. StandsAt ms n (Invoked k.0 k.1)) s.3 k.3))
       (λ p. (let k = facts.pending.is p.0 p.1 in (p.0.id, k.1.0, adds_of_call p.0 p.1 v p.3, k.0.not_failed, p.2, subst (λ n. StandsAt ms n (Invoked p.0.id k.1.0)) p.4 k.1.1)))
       h
 
-  -- and an add of the history is known, or one that is no later
-  pub to_has_add : (but : ℕ) (v : ℤ) (id : ℕ) → IsAddOf ms id v → ¬ Contains ms (Failed id) → id ≢ but → (op : Op) × (n : ℕ) × StandsAt ms n (Invoked id op) × ((moment : ℕ) × HasAdd f but v moment × (moment ≤ n))
-  to_has_add but v id a nf ne =
+  -- and an add of the history is known, or one that is no later, if its value is not in the base
+  pub to_has_add : (but : ℕ) (v : ℤ) (id : ℕ) → ¬ Contains f.base v → IsAddOf ms id v → ¬ Contains ms (Failed id) → id ≢ but → (op : Op) × (n : ℕ) × StandsAt ms n (Invoked id op) × ((moment : ℕ) × HasAdd f but v moment × (moment ≤ n))
+  to_has_add but v id out a nf ne =
       let s = stands_of ms (Invoked id a.0) a.1 in (
         a.0,
         s.0,
@@ -105,6 +112,6 @@ module _ (f : Facts) (ms : List Mark) (facts : AreFacts f ms) where
               inr (p.0, p.1, (λ e. ne (sym p.2 ∙ e)), call_of_add p.0 p.1 v (subst (λ i. IsAddOf ms i v) (sym p.2) a), refl),
               omega arith,
             ))
-            (λ c. (let k = facts.adds.all v id s.0 a.0 a c s.1 in (k.0.since, inl (k.0, k.1, refl), k.2)))
+            (λ c. (let k = facts.logged.all v id s.0 a.0 a out c s.1 in (k.0.since, inl (k.0, k.1, k.2, refl), k.3)))
             (open_or_settled id (a.0, a.1) nf),
       )

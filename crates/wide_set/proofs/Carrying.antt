@@ -1,5 +1,5 @@
 -- what is known stays known with one more mark, apart from what that mark says
-use Rattle.std.proofs.Common.{◌≡◌, ◌≢◌, ℕ, ◌≤◌, ℤ, ◌⊎◌, inl, inr, ⊎_elim, Option, List, [], ◌∷◌, ◌++◌, length, refl, sym, ap, ◌∙◌, subst, append_assoc, nat_eq, not, true}
+use Rattle.std.proofs.Common.{◌≡◌, ◌≢◌, ℕ, ◌≤◌, ℤ, ◌⊎◌, inl, inr, ⊎_elim, Option, Some, None, List, [], ◌∷◌, ◌++◌, length, refl, sym, ap, ◌∙◌, subst, append_assoc, nat_eq, not, true}
 use Rattle.std.specs.List.{Contains, filter}
 use Rattle.std.proofs.lemmas.List.Elements.{Contains-append_left, Contains-push, Contains-push_cases}
 use Rattle.std.proofs.lemmas.Bool.{cases_Bool, true≢false, eqb-true, eq-eqb, ne_eqb}
@@ -14,10 +14,9 @@ use Rattle.linspec.proofs.Open.{IsCompletion, was_open, stays_open, open_with_ne
 use Rattle.set_chains.specs.Chains.{IsAddOf, HasRead}
 use Rattle.set_chains.proofs.Once.{returned_invoked}
 use Rattle.wide_set.specs.declared.known.Pending.{Pending}
-use Rattle.wide_set.specs.declared.known.Settled.{Settled}
-use Rattle.wide_set.specs.declared.known.DoneAdd.{DoneAdd}
 use Rattle.wide_set.specs.declared.known.Answered.{Answered}
-use Rattle.wide_set.specs.Facts.{StandsAt, ArePending, CannotFail, AreAdds, AreDone, AreAnswers, call_by, is_other}
+use Rattle.wide_set.specs.declared.log.Added.{Added}
+use Rattle.wide_set.specs.Facts.{StandsAt, ArePending, CannotFail, IsSettledBy, AreLogged, AreAnswers, Facts, IsBase, call_by, is_other, without}
 use Rattle.wide_set.proofs.Moments.{stands_contains, stands_on, stands_cases, stands_last}
 use Rattle.wide_set.proofs.Lists.{was_in, passes, stays_in}
 
@@ -27,8 +26,12 @@ not_same a b e same = let t : nat_eq a b ≡ true = eq-eqb a b same in true≢fa
 is_not_same : (a b : ℕ) → a ≢ b → not (nat_eq a b) ≡ true
 is_not_same a b ne = ap not (ne_eqb a b ne)
 
-same_or_not : (a b : ℕ) → (a ≡ b) ⊎ (a ≢ b)
+pub same_or_not : (a b : ℕ) → (a ≡ b) ⊎ (a ≢ b)
 same_or_not a b = ⊎_elim (λ e. inl (eqb-true a b e)) (λ e. inr (λ same. true≢false (sym (eq-eqb a b same) ∙ e))) (cases_Bool (nat_eq a b))
+
+-- what is logged of an add
+abbrev pub IsLogged : List Mark → Added → Type 0
+IsLogged marks a = (id : ℕ) × (op : Op) × IsAddOf marks id a.value × StandsAt marks a.since (Invoked id op) × IsSettledBy marks id a.by
 
 module _ (ms : List Mark) (m : Mark) (well : AreWellFormed (ms ++ m ∷ [])) where
   abbrev pub longer : List Mark
@@ -62,35 +65,39 @@ module _ (ms : List Mark) (m : Mark) (well : AreWellFormed (ms ++ m ∷ [])) whe
   pub add_was : (id : ℕ) (v : ℤ) → IsInvoked ms id → IsAddOf longer id v → IsAddOf ms id v
   add_was id v i a = (a.0, invoked_was id i a.0 a.1, a.2)
 
-  -- the adds that can no longer fail
-  pub adds_carried : (adds : ℤ → Option Settled) → ((id : ℕ) (v : ℤ) → IsAddOf longer id v → CannotFail longer id → IsInvoked ms id × CannotFail ms id) → AreAdds adds ms → AreAdds adds longer
-  adds_carried adds back are = record {
-    is = λ v s e. (let k = are.is v s e in (k.0, k.1, add_is k.0 v k.2, cannot_fail_is k.0 k.3, stands_on ms (m ∷ []) s.since _ k.4));
-    all = λ v id n op a c s. (let b = back id v a c in are.all v id n op (add_was id v b.0 a) b.1 (stood id b.0 op n s));
-  }
-
   pub well_before : AreWellFormed ms
   well_before before after x cut = well before (after ++ m ∷ []) x (sym (append_assoc before (x ∷ after) (m ∷ [])) ∙ ap (λ l. l ++ m ∷ []) cut)
 
   pub invoked_before : (id : ℕ) (answer : Answer) → Contains ms (Returned id answer) → IsInvoked ms id
   invoked_before id answer h = returned_invoked ms well_before id answer h
 
-  -- the done adds
-  pub done_carried : (done : List DoneAdd) → ((id : ℕ) (v : ℤ) (answer : Answer) → IsAddOf longer id v → m ≢ Returned id answer) → AreDone done ms → AreDone done longer
-  done_carried done other are = record {
-    is = λ d h. (let k = are.is d h in (k.0, k.1, add_is k.0 d.value k.2, stands_on ms (m ∷ []) d.by _ k.3));
-    all = λ v id n answer a s. ⊎_elim
-        (λ k. are.all v id n answer (add_was id v (invoked_before id answer (stands_contains ms n _ k)) a) k)
-        (λ e. absurd (other id v answer a (sym e.0)))
+  settled_is : (id : ℕ) (by : Option ℕ) → IsSettledBy ms id by → IsSettledBy longer id by
+  settled_is id None c = kept _ c
+  settled_is id (Some n) r = (r.0, stands_on ms (m ∷ []) n _ r.1)
+
+  pub logged_is : (a : Added) → IsLogged ms a → IsLogged longer a
+  logged_is a k = (k.0, k.1, add_is k.0 a.value k.2, stands_on ms (m ∷ []) a.since _ k.3, settled_is k.0 a.by k.4)
+
+  -- the log stays that of the history, if the mark makes no add of a value beyond the base one that can no longer fail
+  pub logged_carried : (log : List Added) (base : List ℤ)
+      → ((id : ℕ) (v : ℤ) → IsAddOf longer id v → ¬ Contains base v → CannotFail longer id → IsInvoked ms id × CannotFail ms id)
+      → ((id : ℕ) (v : ℤ) (answer : Answer) → IsAddOf longer id v → ¬ Contains base v → m ≢ Returned id answer)
+      → AreLogged log base ms → AreLogged log base longer
+  logged_carried log base back other are = record {
+    is = λ a h. logged_is a (are.is a h);
+    all = λ v id n op a out c s. (let b = back id v a out c in are.all v id n op (add_was id v b.0 a) out b.1 (stood id b.0 op n s));
+    done = λ v id n answer a out s. ⊎_elim
+        (λ k. are.done v id n answer (add_was id v (invoked_before id answer (stands_contains ms n _ k)) a) out k)
+        (λ e. absurd (other id v answer a out (sym e.0)))
         (stands_cases ms m n (Returned id answer) s);
   }
 
   -- what reads have answered
-  pub answers_carried : (answers more : List Answered) → ((a : Answered) → Contains answers a → Contains more a)
+  pub answers_carried : (base : List ℤ) (answers more : List Answered) → ((a : Answered) → Contains answers a → Contains more a)
       → ((a : Answered) → Contains more a → Contains answers a ⊎ ((id : ℕ) × HasRead longer id a.members × StandsAt longer a.by (Returned id (Many a.members))))
       → ((id n : ℕ) (members : List ℤ) → HasRead longer id members → m ≡ Returned id (Many members) → n ≡ length ms → (a : Answered) × Contains more a × (a.members ≡ members) × (a.by ≤ n))
-      → AreAnswers answers ms → AreAnswers more longer
-  answers_carried answers more stay new own are = record {
+      → AreAnswers base answers ms → AreAnswers base more longer
+  answers_carried base answers more stay new own are = record {
     is = λ a h. ⊎_elim
         (λ k. (let r = are.is a k in (r.0, read_is r.0 a.members r.1, stands_on ms (m ∷ []) a.by _ r.2)))
         (λ r. r)
@@ -99,9 +106,8 @@ module _ (ms : List Mark) (m : Mark) (well : AreWellFormed (ms ++ m ∷ [])) whe
         (λ k.
         let contained : Contains ms (Returned id (Many members)) = stands_contains ms n _ k in
         let was : HasRead ms id members = record { op = r.op; invoked = invoked_was id (invoked_before id _ contained) r.op r.invoked; reads = r.reads; of_all = r.of_all; answer = contained } in
-        let a = are.all id n members was k in
-        (a.0, stay a.0 a.1, a.2, a.3))
-        (λ e. own id n members r (sym e.0) e.1)
+        ⊎_elim inl (λ a. inr (a.0, stay a.0 a.1, a.2, a.3)) (are.all id n members was k))
+        (λ e. inr (own id n members r (sym e.0) e.1))
         (stands_cases ms m n (Returned id (Many members)) s);
   }
 
@@ -115,6 +121,10 @@ module _ (ms : List Mark) (m : Mark) (completes : IsCompletion m) where
     ));
     all = λ id o. (let w = was_open ms m completes id o in let k = are.all id w.0 in (k.0, stays_in (is_other (id_of m)) pending k.0 k.1 (is_not_same k.0.id (id_of m) (λ e. w.1 (sym k.2 ∙ e))), k.2));
   }
+
+-- the base stays one after a completion
+pub still_based : (f : Facts) (id : ℕ) → ((v : ℤ) → Contains f.base v → IsBase f) → (v : ℤ) → Contains f.base v → IsBase (without id f)
+still_based f id based v h = let b = based v h in (b.0, b.1, b.2, (λ p k. b.3 p (was_in (is_other id) f.pending p k)))
 
 module _ (ms : List Mark) (id : ℕ) (op : Op) (new : IsNew ms id) where
   pub pending_with : (pending : List Pending) (p : Pending) → p.id ≡ id → p.since ≡ length ms → call_by op.name op.part ≡ p.call → ArePending pending ms → ArePending (pending ++ p ∷ []) (ms ++ Invoked id op ∷ [])

@@ -1,10 +1,10 @@
+pub mod Tests
 pub mod Moments
 pub mod Lists
 pub mod Calls
 pub mod Answering
 pub mod Failing
 pub mod Carrying
-pub mod Putting
 pub mod Events
 pub mod Adding
 pub mod Reading
@@ -15,3 +15,4 @@ pub mod Taking
 pub mod Searching
 pub mod Beginning
 pub mod Prepared
+pub mod Bases

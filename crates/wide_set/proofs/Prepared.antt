@@ -12,12 +12,12 @@ use Rattle.linspec.specs.MarkRule.{MayFollow}
 use Rattle.set_chains.proofs.Build.{linearizable_if_chained}
 use Rattle.set_chains.proofs.Quiet.{quiet}
 use Rattle.wide_set.specs.declared.change.Change.{Change}
-use Rattle.wide_set.specs.declared.change.Change.TheVariants.{Dies, Invokes, Leaves, Adds, Crashes, Answers}
+use Rattle.wide_set.specs.declared.change.Change.TheVariants.{Dies, Invokes, Leaves, Logs, Answers}
 use Rattle.wide_set.specs.Facts.{Facts, AreFacts}
 use Rattle.wide_set.specs.Kept.{IsDead, StandAfter}
 use Rattle.wide_set.specs.Meaning.{IsAnswer}
 use Rattle.wide_set.specs.Views.{kills}
-use Rattle.wide_set.proofs.Putting.{not_true, is_not}
+use Rattle.wide_set.proofs.Tests.{not_true, is_not}
 use Rattle.wide_set.proofs.Taking.{still_dead}
 
 lives : (f : Facts) (ms : List Mark) → AreFacts f ms → IsLinearizable set_of_numbers ms
@@ -28,8 +28,7 @@ dead_or_alive : (change : Change) (f : Facts) (ms : List Mark) → StandAfter ch
 dead_or_alive Dies f ms h = inl (refl, h)
 dead_or_alive (Invokes p) f ms h = inr ((λ e. cc), lives _ ms h)
 dead_or_alive (Leaves id) f ms h = inr ((λ e. cc), lives _ ms h)
-dead_or_alive (Adds id v since) f ms h = inr ((λ e. cc), lives _ ms h)
-dead_or_alive (Crashes id v since) f ms h = inr ((λ e. cc), lives _ ms h)
+dead_or_alive (Logs id a) f ms h = inr ((λ e. cc), lives _ ms h)
 dead_or_alive (Answers id at a) f ms h = inr ((λ e. cc), lives _ ms h)
 
 module _ (f : Facts) (ms : List Mark) (facts : AreFacts f ms) (change : Change) (b : Bool) (is : IsTrue b ↔ (Some change ≡ Some Dies)) where

@@ -21,7 +21,7 @@ use Rattle.set_chains.proofs.Steps.{no_both}
 use Rattle.wide_set.specs.declared.known.Answered.{Answered}
 use Rattle.wide_set.specs.Facts.{StandsAt, CannotFail, Nests, AreNested, Facts, AreFacts, without, with_answer, IsPlace}
 use Rattle.wide_set.proofs.Moments.{stands_below, stands_last}
-use Rattle.wide_set.proofs.Carrying.{kept, adds_carried, done_carried, answers_carried, pending_without}
+use Rattle.wide_set.proofs.Carrying.{kept, logged_carried, answers_carried, pending_without, still_based}
 use Rattle.wide_set.proofs.Events.{one_more, settled_invoked}
 
 -- what is in the chain with one more
@@ -78,14 +78,14 @@ module _ (f : Facts) (ms : List Mark) (facts : AreFacts f ms) (id : ℕ) (op : O
       (λ k. inr (inr (⊎_elim (λ j. j) (λ q. cc) (Contains-push_cases ms last _ k))))
       c
 
-  back : (i : ℕ) (v : ℤ) → IsAddOf more i v → CannotFail more i → IsInvoked ms i × CannotFail ms i
-  back i v a c = ⊎_elim
+  back : (i : ℕ) (v : ℤ) → IsAddOf more i v → ¬ Contains f.base v → CannotFail more i → IsInvoked ms i × CannotFail ms i
+  back i v a out c = ⊎_elim
       (λ e. absurd (no_add v (subst (λ j. IsAddOf more j v) (sym e) a)))
       (λ k. (settled_invoked ms facts.well i k, k))
       (was i c)
 
-  others : (i : ℕ) (v : ℤ) (answer : Answer) → IsAddOf more i v → last ≢ Returned i answer
-  others i v answer a q = let s : id ≡ i = cc in no_add v (subst (λ j. IsAddOf more j v) (sym s) a)
+  others : (i : ℕ) (v : ℤ) (answer : Answer) → IsAddOf more i v → ¬ Contains f.base v → last ≢ Returned i answer
+  others i v answer a out q = let s : id ≡ i = cc in no_add v (subst (λ j. IsAddOf more j v) (sym s) a)
 
   pub after_known_answer : (a : Answered) → Contains f.answers a → a.members ≡ members → AreFacts (without id f) more
   after_known_answer a h e = record {
@@ -93,11 +93,10 @@ module _ (f : Facts) (ms : List Mark) (facts : AreFacts f ms) (id : ℕ) (op : O
     chained = chained;
     now = one_more ms last f.now facts.now;
     pending = pending_without ms last tt f.pending facts.pending;
-    adds = adds_carried ms last well f.adds back facts.adds;
-    done = done_carried ms last well f.done others facts.done;
-    told = facts.told;
-    answers = answers_carried ms last well f.answers f.answers (λ b k. k) (λ b k. inl k) own facts.answers;
+    logged = logged_carried ms last well f.log f.base back others facts.logged;
+    answers = answers_carried ms last well f.base f.answers f.answers (λ b k. k) (λ b k. inl k) own facts.answers;
     nested = facts.nested;
+    based = still_based f id facts.based;
   }
     where
       own : (i n : ℕ) (those : List ℤ) → HasRead more i those → last ≡ Returned i (Many those) → n ≡ length ms → (b : Answered) × Contains f.answers b × (b.members ≡ those) × (b.by ≤ n)
@@ -113,13 +112,12 @@ module _ (f : Facts) (ms : List Mark) (facts : AreFacts f ms) (id : ℕ) (op : O
     chained = chained;
     now = one_more ms last f.now facts.now;
     pending = pending_without ms last tt f.pending facts.pending;
-    adds = adds_carried ms last well f.adds back facts.adds;
-    done = done_carried ms last well f.done others facts.done;
-    told = facts.told;
-    answers = answers_carried ms last well f.answers (insert f.answers at a) (stays f.answers at a)
+    logged = logged_carried ms last well f.log f.base back others facts.logged;
+    answers = answers_carried ms last well f.base f.answers (insert f.answers at a) (stays f.answers at a)
         (λ b k. ⊎_elim inl (λ same. inr (subst (λ (x : Answered). (i : ℕ) × HasRead more i x.members × StandsAt more x.by (Returned i (Many x.members))) same mine)) (was_or_new f.answers at a b k))
         own facts.answers;
     nested = nested_with f.answers at a (subst (IsPlace f.answers at) (sym e) place) (subst IsAscending (sym e) ascends) facts.nested;
+    based = λ v h. (let b = still_based f id facts.based v h in (b.0, stays f.answers at a b.0 b.1, b.2, b.3));
   }
     where
       own_read : HasRead more id members

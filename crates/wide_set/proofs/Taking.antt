@@ -1,5 +1,5 @@
 -- what each event makes of the facts
-use Rattle.std.proofs.Common.{◌≡◌, ◌≢◌, ℕ, ℤ, ⊎_elim, List, [], ◌∷◌, ◌++◌, sym, ◌∙◌, subst}
+use Rattle.std.proofs.Common.{◌≡◌, ◌≢◌, ℕ, ℤ, ⊎_elim, Option, Some, None, List, [], ◌∷◌, ◌++◌, sym, ◌∙◌, subst}
 use Rattle.std.specs.List.{Contains}
 use Rattle.std.proofs.lemmas.List.Elements.{Contains-push}
 use Rattle.models.specs.declared.operation.Op.{Op}
@@ -23,17 +23,17 @@ use Rattle.wide_set.specs.declared.known.Pending.{Pending}
 use Rattle.wide_set.specs.declared.known.Answered.{Answered}
 use Rattle.wide_set.specs.declared.queries.Place.TheVariants.{Nowhere, Known, Behind}
 use Rattle.wide_set.specs.declared.change.Change.{Change}
-use Rattle.wide_set.specs.declared.change.Change.TheVariants.{Dies, Invokes, Leaves, Adds, Crashes, Answers}
+use Rattle.wide_set.specs.declared.change.Change.TheVariants.{Dies, Invokes, Leaves, Logs, Answers}
 use Rattle.wide_set.specs.Facts.{Facts, AreFacts, call_by, AreSpared}
 use Rattle.wide_set.specs.Queries.{IsAnswered}
-use Rattle.wide_set.specs.Kept.{IsDead, IsTakenBy}
+use Rattle.wide_set.specs.Kept.{IsDead, StandAfter, IsTakenBy, IsAfterAdd}
 use Rattle.wide_set.proofs.Moments.{last_or_before}
 use Rattle.wide_set.proofs.Calls.{read_by, by_reads, op_of, same_call, adds_of_call, call_of_add}
 use Rattle.wide_set.proofs.Answering.{fits, may_answer}
 use Rattle.wide_set.proofs.Failing.{others_may_fail, are_spared, may_fail}
 use Rattle.wide_set.proofs.Carrying.{invoked_was, add_was}
 use Rattle.wide_set.proofs.Events.{after_invoke, after_fail, after_crash}
-use Rattle.wide_set.proofs.Adding.{after_crash_of_add, after_ok_of_add}
+use Rattle.wide_set.proofs.Adding.{after_crash_of_known, after_crash_of_add, after_ok_of_known, after_ok_of_add}
 use Rattle.wide_set.proofs.Reading.{after_known_answer, after_new_answer}
 
 pub well_more : (ms : List Mark) (m : Mark) → AreWellFormed ms → MayFollow ms m → AreWellFormed (ms ++ m ∷ [])
@@ -60,18 +60,34 @@ module _ (f : Facts) where
   not_pending id m change opens none ms facts may = let p = facts.pending.all id (opens ms may) in absurd (none p.0 p.1 p.2)
 
   module _ (p : Pending) (h : Contains f.pending p) where
-    pub done : (v : ℤ) (answer : Answer) → p.call ≡ calls.Add v → IsTakenBy f (Returned p.id answer) (Adds p.id v p.since)
-    done v answer e ms facts may =
+    pub done : (v : ℤ) (answer : Answer) (change : Change) → p.call ≡ calls.Add v → IsAfterAdd f p v (Some f.now) change → IsTakenBy f (Returned p.id answer) change
+    done v answer change e is ms facts may =
         let k = (facts.pending.is p h).1 in
-        after_ok_of_add f ms facts p.id v (adds_of_call f ms facts p h v e) p.since k.0 k.1 answer (well_more ms _ facts.well may)
+        let own = adds_of_call f ms facts p h v e in
+        let well = well_more ms (Returned p.id answer) facts.well may in
+        ⊎_elim
+        (λ q. subst (λ c. StandAfter c f (ms ++ Returned p.id answer ∷ [])) (sym q.0) (after_ok_of_known f ms facts p.id v own answer well q.1))
+        (λ q. subst (λ c. StandAfter c f (ms ++ Returned p.id answer ∷ [])) (sym q.0) (after_ok_of_add f ms facts p.id v own answer well p.since k.0 k.1))
+        is
 
-    pub crashed : (v : ℤ) → p.call ≡ calls.Add v → IsTakenBy f (Crashed p.id) (Crashes p.id v p.since)
-    crashed v e ms facts may =
+    pub crashed : (v : ℤ) (change : Change) → p.call ≡ calls.Add v → IsAfterAdd f p v None change → IsTakenBy f (Crashed p.id) change
+    crashed v change e is ms facts may =
         let k = (facts.pending.is p h).1 in
-        after_crash_of_add f ms facts p.id v (adds_of_call f ms facts p h v e) p.since k.0 k.1 (well_more ms _ facts.well may)
+        let own = adds_of_call f ms facts p h v e in
+        let well = well_more ms (Crashed p.id) facts.well may in
+        ⊎_elim
+        (λ q. subst (λ c. StandAfter c f (ms ++ Crashed p.id ∷ [])) (sym q.0) (after_crash_of_known f ms facts p.id v own well q.1))
+        (λ q. subst (λ c. StandAfter c f (ms ++ Crashed p.id ∷ [])) (sym q.0) (after_crash_of_add f ms facts p.id v own well p.since k.0 k.1))
+        is
+
+    pub after_add_lives : (v : ℤ) (by : Option ℕ) (change : Change) → IsAfterAdd f p v by change → change ≢ Dies
+    after_add_lives v by change is e = ⊎_elim
+        (λ q. (let r : Leaves p.id ≡ Dies = sym q.0 ∙ e in cc))
+        (λ q. (let r : Logs p.id (record { value = v; since = p.since; by = by }) ≡ Dies = sym q.0 ∙ e in cc))
+        is
 
     pub other_crashed : ((v : ℤ) → p.call ≢ calls.Add v) → IsTakenBy f (Crashed p.id) (Leaves p.id)
-    other_crashed none ms facts may = after_crash f ms facts p.id (well_more ms _ facts.well may) (λ v a. none v (call_of_add f ms facts p h v a))
+    other_crashed none ms facts may = after_crash f ms facts p.id (well_more ms _ facts.well may) (λ v out a. none v (call_of_add f ms facts p h v a))
 
     pub failed : (v : ℤ) → p.call ≡ calls.Add v → AreSpared f p.id v → IsTakenBy f (Failed p.id) (Leaves p.id)
     failed v e spared ms facts may =

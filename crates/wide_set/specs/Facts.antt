@@ -1,8 +1,6 @@
 -- Invariant: what is kept of the history of a set, where the moment of a mark is how many marks come before it
-use Rattle.std.specs.Prelude.{◌≡◌, ◌≢◌, ℕ, ◌+◌, ◌<◌, ◌≤◌, ℤ, ◌⊎◌, Bool, true, false, not, nat_eq, Option, Some, None, List, [], ◌∷◌, ◌++◌, length, take, drop, min, cond, ◌||◌, if◌then◌else◌}
+use Rattle.std.specs.Prelude.{◌≡◌, ◌≢◌, ℕ, ◌+◌, ◌<◌, ◌≤◌, ℤ, ◌⊎◌, Bool, not, nat_eq, Option, Some, None, List, [], ◌∷◌, ◌++◌, length, take, drop}
 use Rattle.std.specs.List.{Contains, filter, insert}
-use Rattle.std.specs.Ordering.{int_cmp, is_eq}
-use Rattle.std.specs.BTreeMap.{get}
 use Rattle.models.specs.declared.operation.Name.{Name}
 use Rattle.models.specs.declared.operation.Name.TheVariants.{Read, Add}
 use Rattle.models.specs.declared.operation.Part.{Part}
@@ -20,10 +18,9 @@ use Rattle.set_chains.specs.Chains.{IsAddOf, HasRead, IsWithin, IsChained}
 use Rattle.wide_set.specs.declared.known.Call.{Call}
 use Rattle.wide_set.specs.declared.known.Call.TheVariants as calls
 use Rattle.wide_set.specs.declared.known.Pending.{Pending}
-use Rattle.wide_set.specs.declared.known.Settled.{Settled}
-use Rattle.wide_set.specs.declared.known.DoneAdd.{DoneAdd}
 use Rattle.wide_set.specs.declared.known.Answered.{Answered}
 use Rattle.wide_set.specs.declared.known.Known.{Known}
+use Rattle.wide_set.specs.declared.log.Added.{Added}
 
 -- what an operation does to a set
 abbrev pub call_by : Name → Part → Call
@@ -48,28 +45,30 @@ pub record ArePending (pending : List Pending) (marks : List Mark) : Type 0 wher
 abbrev pub CannotFail : List Mark → ℕ → Type 0
 CannotFail marks id = HasReturned marks id ⊎ Contains marks (Crashed id)
 
--- by value, the least invocation of an add that can no longer fail
-pub record AreAdds (adds : ℤ → Option Settled) (marks : List Mark) : Type 0 where
-  pub is : (v : ℤ) (s : Settled) → adds v ≡ Some s
-      → (id : ℕ) × (op : Op) × IsAddOf marks id v × CannotFail marks id × StandsAt marks s.since (Invoked id op)
-  pub all : (v : ℤ) (id moment : ℕ) (op : Op) → IsAddOf marks id v → CannotFail marks id
-      → StandsAt marks moment (Invoked id op) → (s : Settled) × (adds v ≡ Some s) × (s.since ≤ moment)
+-- the operation has crashed, or returned at this moment
+abbrev pub IsSettledBy : List Mark → ℕ → Option ℕ → Type 0
+IsSettledBy marks id None = Contains marks (Crashed id)
+IsSettledBy marks id (Some moment) = (answer : Answer) × StandsAt marks moment (Returned id answer)
 
--- the values of which an add is done, with its least return
-pub record AreDone (done : List DoneAdd) (marks : List Mark) : Type 0 where
-  pub is : (d : DoneAdd) → Contains done d
-      → (id : ℕ) × (answer : Answer) × IsAddOf marks id d.value × StandsAt marks d.by (Returned id answer)
-  pub all : (v : ℤ) (id moment : ℕ) (answer : Answer) → IsAddOf marks id v
+-- adds that can no longer fail: each that is logged is one, and one of a value that is not in the base is logged, or another of its value
+-- that was invoked no later and, where it is done, was done no later
+pub record AreLogged (log : List Added) (base : List ℤ) (marks : List Mark) : Type 0 where
+  pub is : (a : Added) → Contains log a
+      → (id : ℕ) × (op : Op) × IsAddOf marks id a.value × StandsAt marks a.since (Invoked id op)
+      × IsSettledBy marks id a.by
+  pub all : (v : ℤ) (id moment : ℕ) (op : Op) → IsAddOf marks id v → ¬ Contains base v → CannotFail marks id
+      → StandsAt marks moment (Invoked id op) → (a : Added) × Contains log a × (a.value ≡ v) × (a.since ≤ moment)
+  pub done : (v : ℤ) (id moment : ℕ) (answer : Answer) → IsAddOf marks id v → ¬ Contains base v
       → StandsAt marks moment (Returned id answer)
-      → (d : DoneAdd) × Contains done d × (d.value ≡ v) × (d.by ≤ moment)
+      → (a : Added) × (by : ℕ) × Contains log a × (a.value ≡ v) × (a.by ≡ Some by) × (by ≤ moment)
 
--- what reads have answered, each with its least return
-pub record AreAnswers (answers : List Answered) (marks : List Mark) : Type 0 where
+-- what reads have answered, each with its least return, apart from answers within the base
+pub record AreAnswers (base : List ℤ) (answers : List Answered) (marks : List Mark) : Type 0 where
   pub is : (a : Answered) → Contains answers a
       → (id : ℕ) × HasRead marks id a.members × StandsAt marks a.by (Returned id (Many a.members))
   pub all : (id moment : ℕ) (members : List ℤ) → HasRead marks id members
       → StandsAt marks moment (Returned id (Many members))
-      → (a : Answered) × Contains answers a × (a.members ≡ members) × (a.by ≤ moment)
+      → IsWithin members base ⊎ ((a : Answered) × Contains answers a × (a.members ≡ members) × (a.by ≤ moment))
 
 -- each answer ascends, and is within each later one, which has more
 abbrev pub Nests : Answered → Answered → Type 0
@@ -83,27 +82,30 @@ pub record AreNested (answers : List Answered) : Type 0 where
 pub record Facts : Type 0 where
   pub now : ℕ
   pub pending : List Pending
-  pub adds : ℤ → Option Settled
-  pub done : List DoneAdd
+  pub log : List Added
+  pub base : List ℤ
   pub answers : List Answered
 
 -- those of a history without events
 abbrev pub no_facts : Facts
-no_facts = record { now = 0; pending = []; adds = λ v. None; done = []; answers = [] }
+no_facts = record { now = 0; pending = []; log = []; base = []; answers = [] }
 
 abbrev pub facts_of : Known → Facts
 facts_of k = record {
   now = k.moment;
   pending = k.pending.items;
-  adds = λ v. get int_cmp k.adds v;
-  done = k.done.items;
+  log = k.log;
+  base = k.base;
   answers = k.answers.items;
 }
 
--- a value that is told as done is among the done ones
-abbrev pub AreTold : (ℤ → Option Settled) → List DoneAdd → Type 0
-AreTold adds done = (v : ℤ) (s : Settled) → adds v ≡ Some s → s.is_done ≡ true
-    → (d : DoneAdd) × Contains done d × (d.value ≡ v)
+-- the answer was given before each open operation was invoked
+abbrev pub IsBeforePending : List Pending → ℕ → Type 0
+IsBeforePending pending by = (p : Pending) → Contains pending p → by < p.since
+
+-- these members were answered before each open operation was invoked
+abbrev pub IsBase : Facts → Type 0
+IsBase f = (a : Answered) × Contains f.answers a × (a.members ≡ f.base) × IsBeforePending f.pending a.by
 
 -- these are the facts of the history, which is chained
 pub record AreFacts (f : Facts) (marks : List Mark) : Type 0 where
@@ -111,11 +113,15 @@ pub record AreFacts (f : Facts) (marks : List Mark) : Type 0 where
   pub chained : IsChained marks
   pub now : f.now ≡ length marks
   pub pending : ArePending f.pending marks
-  pub adds : AreAdds f.adds marks
-  pub done : AreDone f.done marks
-  pub told : AreTold f.adds f.done
-  pub answers : AreAnswers f.answers marks
+  pub logged : AreLogged f.log f.base marks
+  pub answers : AreAnswers f.base f.answers marks
   pub nested : AreNested f.answers
+  -- the base is empty, or an answer that all later ones have
+  pub based : (v : ℤ) → Contains f.base v → IsBase f
+
+-- an add of the value that is logged was invoked at this moment
+abbrev pub HasLogged : List Added → ℤ → ℕ → Type 0
+HasLogged log v moment = (a : Added) × Contains log a × (a.value ≡ v) × (a.since ≡ moment)
 
 -- an open add of the value, another operation than this one, was invoked at this moment
 abbrev pub HasPendingAdd : List Pending → ℕ → ℤ → ℕ → Type 0
@@ -124,8 +130,7 @@ HasPendingAdd pending but v moment =
 
 -- an add of the value, another operation than this one, was invoked at this moment and has not failed
 abbrev pub HasAdd : Facts → ℕ → ℤ → ℕ → Type 0
-HasAdd f but v moment =
-    ((s : Settled) × (f.adds v ≡ Some s) × (s.since ≡ moment)) ⊎ HasPendingAdd f.pending but v moment
+HasAdd f but v moment = HasLogged f.log v moment ⊎ HasPendingAdd f.pending but v moment
 
 -- the answer is in the chain, and none that has more came before this moment
 pub record IsInChain (answers : List Answered) (since : ℕ) (members : List ℤ) : Type 0 where
@@ -134,49 +139,38 @@ pub record IsInChain (answers : List Answered) (since : ℕ) (members : List ℤ
   pub in_turn : (a : Answered) → Contains answers a → IsWithin members a.members
       → ¬ IsWithin a.members members → since ≤ a.by
 
+-- an add of another value than these is logged as done at this moment
+abbrev pub IsDoneBeyond : List Added → List ℤ → Added → ℕ → Type 0
+IsDoneBeyond log members a moment = Contains log a × (a.by ≡ Some moment) × (¬ Contains members a.value)
+
 -- the members of an answer were added in time, where the read was invoked at this moment
 pub record WereAdded (f : Facts) (but since : ℕ) (members : List ℤ) : Type 0 where
-  pub has_add : (v : ℤ) → Contains members v → (moment : ℕ) × HasAdd f but v moment
-  pub in_time : (v : ℤ) (d : DoneAdd) → Contains members v → Contains f.done d
-      → ¬ Contains members d.value → (moment : ℕ) × HasAdd f but v moment × (moment ≤ d.by)
-  pub not_before : (d : DoneAdd) → Contains f.done d → ¬ Contains members d.value → since ≤ d.by
+  pub has_add : (v : ℤ) → Contains members v → ¬ Contains f.base v → (moment : ℕ) × HasAdd f but v moment
+  pub in_time : (v : ℤ) (a : Added) (by : ℕ) → Contains members v → ¬ Contains f.base v
+      → IsDoneBeyond f.log members a by → (moment : ℕ) × HasAdd f but v moment × (moment ≤ by)
+  pub not_before : (a : Added) (by : ℕ) → IsDoneBeyond f.log members a by → since ≤ by
 
 -- a value that an operation puts in may miss it, as far as this answer goes
 pub record IsSpared (f : Facts) (but : ℕ) (v : ℤ) (a : Answered) : Type 0 where
   pub in_time : (moment : ℕ) × HasAdd f but v moment × (moment ≤ a.by)
-  pub before_done : (d : DoneAdd) → Contains f.done d → ¬ Contains a.members d.value
-      → (moment : ℕ) × HasAdd f but v moment × (moment ≤ d.by)
+  pub before_done : (d : Added) (by : ℕ) → IsDoneBeyond f.log a.members d by
+      → (moment : ℕ) × HasAdd f but v moment × (moment ≤ by)
 
+-- the same as far as all answers go. A value of the base has an add that came before each open operation
 abbrev pub AreSpared : Facts → ℕ → ℤ → Type 0
-AreSpared f but v = (a : Answered) → Contains f.answers a → Contains a.members v → IsSpared f but v a
+AreSpared f but v = ¬ Contains f.base v → (a : Answered) → Contains f.answers a → Contains a.members v → IsSpared f but v a
 
 -- the pending operations but this one
 abbrev pub is_other : ℕ → Pending → Bool
 is_other id p = not (nat_eq p.id id)
-
--- the adds of a value with one more, which was invoked at this moment
-abbrev pub settled_with : Option Settled → ℕ → Bool → Settled
-settled_with None since is_done = record { since = since; is_done = is_done }
-settled_with (Some s) since is_done = record { since = min s.since since; is_done = s.is_done || is_done }
-
-abbrev pub put_add : (ℤ → Option Settled) → ℤ → Settled → ℤ → Option Settled
-put_add adds v s = λ w. cond (is_eq (int_cmp v w)) (Some s) (adds w)
-
-abbrev pub is_told : Option Settled → Bool
-is_told None = false
-is_told (Some s) = s.is_done
-
--- the values of which an add is done, with one that is done at this moment, if its value is new
-abbrev pub done_with : Option Settled → List DoneAdd → ℤ → ℕ → List DoneAdd
-done_with s done v by = if is_told s then done else done ++ record { value = v; by = by } ∷ []
 
 -- the facts after one more event: an operation is invoked
 abbrev pub with_invoked : Pending → Facts → Facts
 with_invoked p f = record {
   now = f.now + 1;
   pending = f.pending ++ p ∷ [];
-  adds = f.adds;
-  done = f.done;
+  log = f.log;
+  base = f.base;
   answers = f.answers;
 }
 
@@ -185,28 +179,18 @@ abbrev pub without : ℕ → Facts → Facts
 without id f = record {
   now = f.now + 1;
   pending = filter (is_other id) f.pending;
-  adds = f.adds;
-  done = f.done;
+  log = f.log;
+  base = f.base;
   answers = f.answers;
 }
 
--- an add of this value, invoked at this moment, has crashed
-abbrev pub with_crashed : ℕ → ℤ → ℕ → Facts → Facts
-with_crashed id v since f = record {
+-- an add is done or has crashed
+abbrev pub with_logged : ℕ → Added → Facts → Facts
+with_logged id a f = record {
   now = f.now + 1;
   pending = filter (is_other id) f.pending;
-  adds = put_add f.adds v (settled_with (f.adds v) since false);
-  done = f.done;
-  answers = f.answers;
-}
-
--- an add of this value, invoked at this moment, is done
-abbrev pub with_done : ℕ → ℤ → ℕ → Facts → Facts
-with_done id v since f = record {
-  now = f.now + 1;
-  pending = filter (is_other id) f.pending;
-  adds = put_add f.adds v (settled_with (f.adds v) since true);
-  done = done_with (f.adds v) f.done v f.now;
+  log = f.log ++ a ∷ [];
+  base = f.base;
   answers = f.answers;
 }
 
@@ -215,8 +199,8 @@ abbrev pub with_answer : ℕ → ℕ → Answered → Facts → Facts
 with_answer id at a f = record {
   now = f.now + 1;
   pending = filter (is_other id) f.pending;
-  adds = f.adds;
-  done = f.done;
+  log = f.log;
+  base = f.base;
   answers = insert f.answers at a;
 }
 

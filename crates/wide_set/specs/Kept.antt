@@ -1,20 +1,21 @@
 -- Invariant: changes of the facts, and the histories that facts with a change that is due stand for
-use Rattle.std.specs.Prelude.{Option, Some, None, List, [], ◌∷◌, ◌++◌}
+use Rattle.std.specs.Prelude.{◌≡◌, ◌⊎◌, ℕ, ℤ, Option, Some, None, List, [], ◌∷◌, ◌++◌}
+use Rattle.std.specs.List.{Contains}
 use Rattle.models.specs.Objects.{set_of_numbers}
 use Rattle.events.specs.Events.{Mark}
 use Rattle.linspec.specs.MarkRule.{MayFollow, AreWellFormed}
 use Rattle.linspec.specs.Orders.{IsLinearizable}
+use Rattle.wide_set.specs.declared.known.Pending.{Pending}
 use Rattle.wide_set.specs.declared.change.Change.{Change}
-use Rattle.wide_set.specs.declared.change.Change.TheVariants.{Dies, Invokes, Leaves, Adds, Crashes, Answers}
-use Rattle.wide_set.specs.Facts.{Facts, AreFacts, with_invoked, without, with_done, with_crashed, with_answer}
+use Rattle.wide_set.specs.declared.change.Change.TheVariants.{Dies, Invokes, Leaves, Logs, Answers}
+use Rattle.wide_set.specs.Facts.{Facts, AreFacts, with_invoked, without, with_logged, with_answer}
 
 -- the facts after the change
 abbrev pub after : Change → Facts → Facts
 after Dies f = f
 after (Invokes p) f = with_invoked p f
 after (Leaves id) f = without id f
-after (Adds id v since) f = with_done id v since f
-after (Crashes id v since) f = with_crashed id v since f
+after (Logs id a) f = with_logged id a f
 after (Answers id at a) f = with_answer id at a f
 
 -- the history is linearizable no longer
@@ -26,8 +27,7 @@ abbrev pub StandAfter : Change → Facts → List Mark → Type 0
 StandAfter Dies f marks = IsDead marks
 StandAfter (Invokes p) f marks = AreFacts (with_invoked p f) marks
 StandAfter (Leaves id) f marks = AreFacts (without id f) marks
-StandAfter (Adds id v since) f marks = AreFacts (with_done id v since f) marks
-StandAfter (Crashes id v since) f marks = AreFacts (with_crashed id v since f) marks
+StandAfter (Logs id a) f marks = AreFacts (with_logged id a f) marks
 StandAfter (Answers id at a) f marks = AreFacts (with_answer id at a f) marks
 
 -- the same, where a change may be due
@@ -39,3 +39,13 @@ StandBy (Some change) f marks = StandAfter change f marks
 abbrev pub IsTakenBy : Facts → Mark → Change → Type 0
 IsTakenBy f mark change =
     (marks : List Mark) → AreFacts f marks → MayFollow marks mark → StandAfter change f (marks ++ mark ∷ [])
+
+-- what an add of this value makes of the facts, which is done by this moment or has crashed: nothing is logged of a value in the base
+abbrev pub IsAfterAdd : Facts → Pending → ℤ → Option ℕ → Change → Type 0
+IsAfterAdd f p v by change =
+    ((change ≡ Leaves p.id) × Contains f.base v)
+    ⊎ ((change ≡ Logs p.id (record { value = v; since = p.since; by = by })) × (¬ Contains f.base v))
+
+-- each history that the old facts are of, the new ones are of too
+abbrev pub IsKept : Facts → Facts → Type 0
+IsKept old new = (marks : List Mark) → AreFacts old marks → AreFacts new marks

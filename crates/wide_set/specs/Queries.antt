@@ -1,11 +1,13 @@
 -- Invariant: what is asked of the facts
-use Rattle.std.specs.Prelude.{◌≡◌, ℕ, ◌<◌, ◌≤◌, ℤ, ◌⊎◌, Option, Some, None, List, min}
+use Rattle.std.specs.Prelude.{◌≡◌, ◌≢◌, ℕ, ◌<◌, ◌≤◌, ℤ, ◌⊎◌, Option, Some, None, List, [], ◌∷◌, ◌++◌, get_or, length, min}
 use Rattle.std.specs.List.{Contains}
-use Rattle.wide_set.specs.declared.known.DoneAdd.{DoneAdd}
 use Rattle.wide_set.specs.declared.known.Answered.{Answered}
+use Rattle.wide_set.specs.declared.known.Call.TheVariants as calls
+use Rattle.wide_set.specs.declared.known.Pending.{Pending}
+use Rattle.wide_set.specs.declared.log.Added.{Added}
 use Rattle.wide_set.specs.declared.queries.Place.{Place}
 use Rattle.wide_set.specs.declared.queries.Place.TheVariants.{Nowhere, Known, Behind}
-use Rattle.wide_set.specs.Facts.{Facts, HasAdd, IsInChain, WereAdded, IsPlace}
+use Rattle.wide_set.specs.Facts.{Facts, IsInChain, WereAdded, IsPlace}
 
 abbrev pub IsNoLater : Option ℕ → ℕ → Type 0
 IsNoLater None moment = ⊥
@@ -15,27 +17,51 @@ abbrev pub earlier_of : Option ℕ → ℕ → ℕ
 earlier_of None moment = moment
 earlier_of (Some n) moment = min n moment
 
--- the greater of the moment and of the first add of the value, where there is one
-abbrev pub IsRaised : Facts → ℕ → ℤ → ℕ → Option ℕ → Type 0
-IsRaised f but v latest None = (moment : ℕ) → ¬ HasAdd f but v moment
-IsRaised f but v latest (Some n) =
-    (latest ≤ n)
-    × ((moment : ℕ) × HasAdd f but v moment × (moment ≤ n))
-    × ((n ≡ latest) ⊎ ((moment : ℕ) → HasAdd f but v moment → n ≤ moment))
+-- the moment comes before the other one, which may be none
+abbrev pub IsBefore : ℕ → Option ℕ → Type 0
+IsBefore moment None = Unit {0}
+IsBefore moment (Some n) = moment < n
 
--- the greatest of the moment and of the first adds of these values, where each has one
-abbrev pub IsRaisedByAll : Facts → ℕ → List ℤ → ℕ → Option ℕ → Type 0
-IsRaisedByAll f but members since None =
-    (v : ℤ) × Contains members v × ((moment : ℕ) → ¬ HasAdd f but v moment)
-IsRaisedByAll f but members since (Some n) =
-    (since ≤ n)
-    × ((v : ℤ) → Contains members v → (moment : ℕ) × HasAdd f but v moment × (moment ≤ n))
-    × ((n ≡ since) ⊎ ((v : ℤ) × Contains members v × ((moment : ℕ) → HasAdd f but v moment → n ≤ moment)))
+-- the moment is no later than the limit, if there is one
+abbrev pub IsWithinLimit : ℕ → Option ℕ → Type 0
+IsWithinLimit moment None = Unit {0}
+IsWithinLimit moment (Some n) = moment ≤ n
 
--- an add of a value that is not among these was done before the moment
-abbrev pub HasBeyond : List DoneAdd → List ℤ → ℕ → Type 0
-HasBeyond done members moment =
-    (d : DoneAdd) × Contains done d × (d.by < moment) × (¬ Contains members d.value)
+-- the add is one of the value, and was invoked by the limit. Likewise an open one, which is another operation than this
+abbrev pub IsTimelyAdd : Added → Option ℕ → ℤ → Type 0
+IsTimelyAdd a limit v = (a.value ≡ v) × IsWithinLimit a.since limit
+
+abbrev pub IsTimelyCall : Pending → ℕ → Option ℕ → ℤ → Type 0
+IsTimelyCall p but limit v = (p.id ≢ but) × (p.call ≡ calls.Add v) × IsWithinLimit p.since limit
+
+-- there is such an add
+abbrev pub HasTimelyLogged : List Added → Option ℕ → ℤ → Type 0
+HasTimelyLogged log limit v = (a : Added) × Contains log a × IsTimelyAdd a limit v
+
+abbrev pub HasTimelyPending : List Pending → ℕ → Option ℕ → ℤ → Type 0
+HasTimelyPending pending but limit v = (p : Pending) × Contains pending p × IsTimelyCall p but limit v
+
+abbrev pub HasTimely : List Added → List Pending → ℕ → Option ℕ → ℤ → Type 0
+HasTimely log pending but limit v = HasTimelyLogged log limit v ⊎ HasTimelyPending pending but limit v
+
+-- the moment is at most this one and that of each open operation
+abbrev pub IsLeastSince : List Pending → ℕ → ℕ → Type 0
+IsLeastSince pending moment least = (least ≤ moment) × ((p : Pending) → Contains pending p → least ≤ p.since)
+
+-- the answer at this place was returned before the moment
+abbrev pub IsLastBefore : List Answered → ℕ → ℕ → Type 0
+IsLastBefore answers moment at = (at < length answers) × ((a : Answered) → a ≡ get_or answers at a → a.by < moment)
+
+-- the log with the add behind it, if that is one of another value than these
+abbrev pub IsWithOther : List Added → Added → List ℤ → List Added → Type 0
+IsWithOther log a values next =
+    ((next ≡ log) × Contains values a.value) ⊎ ((next ≡ log ++ a ∷ []) × (¬ Contains values a.value))
+
+-- the first moment so far, or that at which the add was done, if it was and has another value than the members, and if that is less
+pub record IsFirstWith (a : Added) (members : List ℤ) (first result : Option ℕ) : Type 0 where
+  pub from : (result ≡ first) ⊎ ((result ≡ a.by) × (¬ Contains members a.value))
+  pub least : (n : ℕ) → a.by ≡ Some n → ¬ Contains members a.value → IsNoLater result n
+  pub earlier : (n : ℕ) → IsNoLater first n → IsNoLater result n
 
 abbrev pub HasBefore : List Answered → ℕ → Type 0
 HasBefore answers moment = (a : Answered) × Contains answers a × (a.by < moment)

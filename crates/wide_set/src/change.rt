@@ -1,83 +1,59 @@
-//! What an event makes of the facts.
+//! Changes of the facts by events.
 ghost use Rattle.std.specs.Prelude.{◌≡◌, ◌≢◌, ◌+◌, IfOk, OnOk, OnErr, IsTrue};
 ghost use Rattle.std.specs.List.{Contains, filter, insert};
 ghost use Rattle.models.specs.Objects.{answer_of};
 ghost use Rattle.events.specs.Events.{act_by, mark_by_act};
 ghost use Rattle.events.specs.Events.Mark.{Invoked, Returned, Failed, Crashed};
-ghost use Rattle.wide_set.specs.Facts.{done_with, facts_of, is_other, is_told, settled_with, with_answer, with_crashed, with_done, with_invoked, without};
-ghost use Rattle.wide_set.specs.Kept.{IsTakenBy, after};
+ghost use Rattle.wide_set.specs.Facts.{facts_of, is_other, with_answer, with_invoked, with_logged, without};
+ghost use Rattle.wide_set.specs.Kept.{IsAfterAdd, IsTakenBy, after};
 
-use crate::known::{Answered, Call, DoneAdd, Known, Pending, Settled, call_of};
+use crate::known::{Answered, Call, Known, Pending, call_of};
+use crate::log::Added;
+use crate::members::has;
 use crate::queries::{Place, pending_of};
 use events::EventKind;
 use models::{Op, Part};
 use std::alloc::AllocError;
 
-/// What an event makes of the facts.
+/// A change of the facts by an event.
 #[derive(Drop)]
 pub enum Change {
     /// The history is linearizable no longer.
     Dies,
     /// This operation is invoked.
     Invokes(Pending),
-    /// The operation with this id is open no longer, and says nothing new.
+    /// The operation with this id is open no longer, and the facts are the same.
     Leaves(u32),
-    /// The add with this id and value, which was invoked at this moment, is done.
-    Adds(u32, i64, u64),
-    /// It has crashed.
-    Crashes(u32, i64, u64),
-    /// The read with this id has answered what none before it did: this stands behind so many others.
+    /// The add with this id is done or has crashed.
+    Logs(u32, Added),
+    /// The read with this id has a new answer, which stands at this place of the chain.
     Answers(u32, usize, Answered),
 }
 
-// The operation is pending no longer.
+// Removes the operation.
 fn drop_pending(pending: &mut Vec<Pending>, id: u32)
     ensures { pending.new.items ≡ filter (is_other id) pending.old.items }
 {
     pending.retain(|call| call.id != id);
 }
 
-// The adds of a value with one more.
-fn with_add(was: Option<Settled>, since: u64, is_done: bool) -> Settled
-    ensures { result ≡ settled_with was since is_done }
-{
-    match was {
-        None => Settled { since, is_done },
-        Some(settled) => Settled {
-            since: settled.since.min(since),
-            is_done: settled.is_done || is_done,
-        },
+impl Change {
+    /// The same change. Takes constant time.
+    pub fn copy(&self) -> Result<Change, AllocError>
+        ensures { IfOk result (λ change. change ≡ self.now) }
+    {
+        match self {
+            Change::Dies => Ok(Change::Dies),
+            Change::Invokes(call) => Ok(Change::Invokes(*call)),
+            Change::Leaves(id) => Ok(Change::Leaves(*id)),
+            Change::Logs(id, added) => Ok(Change::Logs(*id, *added)),
+            Change::Answers(id, at, answered) => Ok(Change::Answers(*id, *at, answered.copy()?)),
+        }
     }
-}
-
-// Whether an add of the value was told as done.
-fn told(was: &Option<Settled>) -> bool
-    ensures { result ≡ is_told was.now }
-{
-    match was {
-        None => false,
-        Some(settled) => settled.is_done,
-    }
-}
-
-// Puts a value among the done ones.
-fn note_done(
-    done: &mut Vec<DoneAdd>,
-    was: &Option<Settled>,
-    value: i64,
-    by: u64,
-) -> Result<(), AllocError>
-    ensures ok { OnOk result (done.new.items ≡ done_with was.now done.old.items value by) }
-    ensures err { OnErr result (done.new.items ≡ done.old.items) }
-{
-    if !told(was) {
-        done.push(DoneAdd { value, by })?;
-    }
-    Ok(())
 }
 
 impl Known {
-    // The moment of the mark after the next; `AllocError` where there are as many marks as can be counted.
+    // The moment of the mark after the next one; `AllocError` if it is too great to be counted.
     fn next_moment(&self) -> Result<u64, AllocError>
         ensures { IfOk result (λ moment. moment ≡ self.now.moment + 1) }
     {
@@ -106,30 +82,12 @@ impl Known {
         Ok(())
     }
 
-    fn crash(&mut self, id: u32, value: i64, since: u64) -> Result<(), AllocError>
-        ensures ok { OnOk result (facts_of self.new ≡ with_crashed id value since (facts_of self.old)) }
+    fn log_add(&mut self, id: u32, added: Added) -> Result<(), AllocError>
+        ensures ok { OnOk result (facts_of self.new ≡ with_logged id added (facts_of self.old)) }
         ensures err { OnErr result (facts_of self.new ≡ facts_of self.old) }
     {
         let moment = self.next_moment()?;
-        let was = self.adds.get(&value).copied();
-        self.adds.insert(value, with_add(was, since, false))?;
-        drop_pending(&mut self.pending, id);
-        self.moment = moment;
-        Ok(())
-    }
-
-    fn add(&mut self, id: u32, value: i64, since: u64) -> Result<(), AllocError>
-        ensures ok { OnOk result (facts_of self.new ≡ with_done id value since (facts_of self.old)) }
-        ensures err { OnErr result (facts_of self.new ≡ facts_of self.old) }
-    {
-        let moment = self.next_moment()?;
-        let was = self.adds.get(&value).copied();
-        let many = self.done.len();
-        note_done(&mut self.done, &was, value, self.moment)?;
-        if self.adds.insert(value, with_add(was, since, true)).is_err() {
-            self.done.truncate(many);
-            return Err(AllocError);
-        }
+        self.log = self.log.with(added)?;
         drop_pending(&mut self.pending, id);
         self.moment = moment;
         Ok(())
@@ -140,10 +98,7 @@ impl Known {
         ensures err { OnErr result (facts_of self.new ≡ facts_of self.old) }
     {
         let moment = self.next_moment()?;
-        let answered = Answered {
-            members: answered.members.copy()?,
-            by: answered.by,
-        };
+        let answered = answered.copy()?;
         let at = at.min(self.answers.len());
         self.answers.insert(at, answered)?;
         drop_pending(&mut self.pending, id);
@@ -151,8 +106,7 @@ impl Known {
         Ok(())
     }
 
-    /// Carries a change out. On `AllocError` all stays as it was. Takes the time of the open operations, and the logarithm of the
-    /// values; for a new answer the time of the answers behind it.
+    /// Carries a change out. On `AllocError` all stays as it was. O(open operations), and for a new answer O(answers behind it).
     pub fn carry_out(&mut self, change: &Change) -> Result<(), AllocError>
         ensures ok { OnOk result (facts_of self.new ≡ after change.now (facts_of self.old)) }
         ensures err { OnErr result (facts_of self.new ≡ facts_of self.old) }
@@ -161,13 +115,12 @@ impl Known {
             Change::Dies => Ok(()),
             Change::Invokes(call) => self.invoke(*call),
             Change::Leaves(id) => self.leave(*id),
-            Change::Adds(id, value, since) => self.add(*id, *value, *since),
-            Change::Crashes(id, value, since) => self.crash(*id, *value, *since),
+            Change::Logs(id, added) => self.log_add(*id, *added),
             Change::Answers(id, at, answered) => self.answers_with(*id, *at, answered),
         }
     }
 
-    // What an invocation makes of the facts.
+    // The change by an invocation.
     fn after_invoke(&self, id: u32, op: &Op) -> Change
         ensures taken { IsTakenBy (facts_of self.now) (Invoked id op.now) result }
         ensures lives { result ≢ Change.Dies }
@@ -179,7 +132,25 @@ impl Known {
         })
     }
 
-    // What the ok of a read makes of them, which was invoked at this moment.
+    // The change by the ok or the info of an add of this value: the add is done by this moment, or has crashed. Nothing is logged of a
+    // value in the base.
+    fn after_add(&self, call: &Pending, value: i64, by: Option<u64>) -> Change
+        ensures { IsAfterAdd (facts_of self.now) call.now value by result }
+    {
+        if has(self.base.as_slice(), &value) {
+            return Change::Leaves(call.id);
+        }
+        Change::Logs(
+            call.id,
+            Added {
+                value,
+                since: call.since,
+                by,
+            },
+        )
+    }
+
+    // The change by the ok of a read.
     fn after_read(&self, call: &Pending, part: &Part) -> Result<Change, AllocError>
         ensures { call.now.call ≡ Call.Read → Contains self.now.pending.items call.now
             → IfOk result (IsTakenBy (facts_of self.now) (Returned call.now.id (answer_of part.now))) }
@@ -187,7 +158,8 @@ impl Known {
         let Part::Set(members) = part else {
             return Ok(Change::Dies);
         };
-        match self.answer(call.id, call.since, members) {
+        let place = self.answer(call.id, call.since, members)?;
+        match place {
             Place::Nowhere => Ok(Change::Dies),
             Place::Known => Ok(Change::Leaves(call.id)),
             Place::Behind(at) => {
@@ -200,7 +172,7 @@ impl Known {
         }
     }
 
-    // What an ok makes of them.
+    // The change by an ok.
     fn after_ok(&self, id: u32, part: &Part) -> Result<Change, AllocError>
         ensures { IfOk result (IsTakenBy (facts_of self.now) (Returned id (answer_of part.now))) }
     {
@@ -208,33 +180,34 @@ impl Known {
             return Ok(Change::Dies);
         };
         match call.call {
-            Call::Add(value) => Ok(Change::Adds(id, value, call.since)),
+            Call::Add(value) => Ok(self.after_add(&call, value, Some(self.moment))),
             Call::Read => self.after_read(&call, part),
             Call::Other => Ok(Change::Dies),
         }
     }
 
-    // What a fail makes of them.
-    fn after_fail(&self, id: u32) -> Change
-        ensures { IsTakenBy (facts_of self.now) (Failed id) result }
+    // The change by a fail.
+    fn after_fail(&self, id: u32) -> Result<Change, AllocError>
+        ensures { IfOk result (IsTakenBy (facts_of self.now) (Failed id)) }
     {
         let Some(call) = pending_of(&self.pending, id) else {
-            return Change::Leaves(id);
+            return Ok(Change::Leaves(id));
         };
         match &call.call {
             Call::Add(value) => {
-                if self.spares(id, value) {
-                    Change::Leaves(id)
+                let spared = self.spares(id, value)?;
+                if spared {
+                    Ok(Change::Leaves(id))
                 } else {
-                    Change::Dies
+                    Ok(Change::Dies)
                 }
             }
-            Call::Read => Change::Leaves(id),
-            Call::Other => Change::Leaves(id),
+            Call::Read => Ok(Change::Leaves(id)),
+            Call::Other => Ok(Change::Leaves(id)),
         }
     }
 
-    // What an info makes of them.
+    // The change by an info.
     fn after_info(&self, id: u32) -> Change
         ensures taken { IsTakenBy (facts_of self.now) (Crashed id) result }
         ensures lives { result ≢ Change.Dies }
@@ -243,20 +216,20 @@ impl Known {
             return Change::Leaves(id);
         };
         match call.call {
-            Call::Add(value) => Change::Crashes(id, value, call.since),
+            Call::Add(value) => self.after_add(&call, value, None),
             Call::Read => Change::Leaves(id),
             Call::Other => Change::Leaves(id),
         }
     }
 
-    /// What an event of an operation makes of the facts. The id is that of the operation, and the part of an ok is the answer.
+    /// The change by an event of the operation with this id. The part of an ok is the answer.
     pub fn after_event(&self, id: u32, kind: EventKind, op: &Op) -> Result<Change, AllocError>
         ensures taken { IfOk result (IsTakenBy (facts_of self.now) (mark_by_act id id (act_by kind op.now))) }
     {
         match kind {
             EventKind::Invoke => Ok(self.after_invoke(id, op)),
             EventKind::Ok => self.after_ok(id, &op.part),
-            EventKind::Fail => Ok(self.after_fail(id)),
+            EventKind::Fail => self.after_fail(id),
             EventKind::Info => Ok(self.after_info(id)),
         }
     }

@@ -13,17 +13,20 @@ use events::EventKind;
 use models::Op;
 use std::alloc::{AllocError, Global};
 
-/// The history of one set, judged as its events come, by what its reads have answered and when: it is linearizable exactly if the
-/// answers form a chain that fits the times (`set_chains`). Nothing branches, so nothing is counted, and no answer is unknown.
+/// The history of one set, judged as its events come. It is linearizable exactly if the answers of its reads form a chain that fits the
+/// times (`set_chains`). Nothing branches, so nothing is counted, and no answer is unknown.
 ///
-/// An event can be prepared, which may fail for want of memory and leaves what the set stands for, and then committed, which takes
-/// no memory. What was prepared before is dropped.
+/// An event can be prepared and then committed. `prepare` may run out of memory, and changes nothing until `commit`, which takes no
+/// memory. A second `prepare` replaces the first.
+///
+/// Only facts that a later event may need are kept: the open operations, the last answer that came before all of them, and the answers
+/// and the adds since then.
 #[derive(Drop)]
 pub struct WideSet {
     known: Known,
-    /// What the last event made of the facts, until the next one carries it out.
+    /// The change by the last event, which the next one carries out.
     due: Option<Change>,
-    /// What is prepared.
+    /// The prepared change.
     next: Option<Change>,
 }
 
@@ -32,6 +35,16 @@ fn is_dead(change: &Option<Change>) -> bool
     ensures { IsTrue result ↔ (change.now ≡ Some Dies) }
 {
     matches!(change, Some(Change::Dies))
+}
+
+// The same change, if there is one.
+fn copied(change: &Option<Change>) -> Result<Option<Change>, AllocError>
+    ensures { IfOk result (λ other. other ≡ change.now) }
+{
+    match change {
+        Some(change) => Ok(Some(change.copy()?)),
+        None => Ok(None),
+    }
 }
 
 // Whether an event of this kind can kill.
@@ -53,7 +66,19 @@ impl WideSet {
         }
     }
 
-    // Carries out what is due.
+    /// The same set, with nothing prepared. It shares the members of answers, and a log of more than 128 adds. O(open operations and
+    /// answers since the oldest of them was invoked).
+    pub fn copy(&self) -> Result<WideSet, AllocError>
+        ensures { IfOk result (λ set. IsCopy (view_of self.now) (view_of set)) }
+    {
+        Ok(WideSet {
+            known: self.known.copy()?,
+            due: copied(&self.due)?,
+            next: None,
+        })
+    }
+
+    // Carries out the change that is due.
     fn settle(&mut self) -> Result<(), AllocError>
         requires { self.old.due ≢ Some Dies }
         ensures ok { OnOk result ((self.new.due ≡ None)
@@ -65,16 +90,16 @@ impl WideSet {
         if let Some(change) = &self.due {
             self.known.carry_out(change)?;
             self.due = None;
+            self.known.forget()?;
         }
         Ok(())
     }
 
     /// Prepares an event of an operation, and answers whether the history with it is linearizable. The id is the index of the
-    /// operation's invocation, which is new where the event is one, and else is that of an open operation; the part of an ok is
-    /// the answer. An invocation and an info are answered true, since they kill nothing. The set stands for what it stood for
-    /// until [`commit`](Self::commit); after `AllocError` no commit must follow. What was prepared before is dropped. The ok of
-    /// a read takes the time of its members, of the values of which an add is done, and of the answers that have more; another
-    /// event that of the open operations.
+    /// operation's invocation: new for an invocation, else that of an open operation. The part of an ok is the answer. An invocation and
+    /// an info are answered true, since they kill nothing. The history stays the same until [`commit`](Self::commit). After
+    /// `AllocError` no commit must follow. Another prepared event is dropped. The ok of a read takes O(members, answers that have more,
+    /// n log n in the logged adds), another event O(open operations).
     pub fn prepare(&mut self, id: u32, kind: EventKind, op: &Op) -> Result<bool, AllocError>
         ensures { Prepares (view_of self.old) (view_of self.new) (mark_by_act id id (act_by kind op.now)) result }
     {
@@ -90,7 +115,7 @@ impl WideSet {
         Ok(alive)
     }
 
-    /// Carries out what is prepared, if anything is. It takes no memory and cannot fail.
+    /// Carries out the prepared event, if there is one. It takes no memory and cannot fail.
     pub fn commit(&mut self)
         ensures { Commits (view_of self.old) (view_of self.new) }
     {
@@ -99,8 +124,8 @@ impl WideSet {
         }
     }
 
-    /// An event of an operation: [`prepare`](Self::prepare) and [`commit`](Self::commit) in one. On `AllocError` the set stands for
-    /// what it stood for.
+    /// An event of an operation: [`prepare`](Self::prepare) and [`commit`](Self::commit) in one. On `AllocError` the history stays the
+    /// same.
     pub fn observe(&mut self, id: u32, kind: EventKind, op: &Op) -> Result<bool, AllocError>
         ensures { Observes (view_of self.old) (view_of self.new) (mark_by_act id id (act_by kind op.now)) result }
     {

@@ -1,13 +1,16 @@
-//! What is known of the history of a set.
-ghost use Rattle.std.specs.Prelude.{◌≡◌};
+//! The known facts of the history of a set.
+ghost use Rattle.std.specs.Prelude.{◌≡◌, IfOk};
 ghost use Rattle.wide_set.specs.Facts.{call_by, facts_of, no_facts};
 
+use crate::log::Log;
 use models::{Name, Part};
-use std::alloc::Global;
-use std::collections::BTreeMap;
+use std::alloc::{AllocError, Global};
 use values::Members;
 
-/// What an operation does to a set.
+/// The least number of logged adds of which some are forgotten.
+pub const ROOM: usize = 64;
+
+/// A call of a set.
 #[derive(Clone, Copy, Debug, PartialEq, Eq)]
 pub enum Call {
     /// It puts the value in.
@@ -18,7 +21,7 @@ pub enum Call {
     Other,
 }
 
-/// An open operation: its id, what it does, and how many marks came before its invocation.
+/// An open operation: its id, its call, and how many marks came before its invocation.
 #[derive(Clone, Copy)]
 pub struct Pending {
     pub id: u32,
@@ -26,40 +29,29 @@ pub struct Pending {
     pub since: u64,
 }
 
-/// The adds of a value that can no longer fail, since they are done or have crashed: how many marks came before the first of
-/// their invocations, and whether one of them is done.
-#[derive(Clone, Copy)]
-pub struct Settled {
-    pub since: u64,
-    pub is_done: bool,
-}
-
-/// A value of which an add is done, and how many marks came before the first return of one.
-#[derive(Clone, Copy)]
-pub struct DoneAdd {
-    pub value: i64,
-    pub by: u64,
-}
-
-/// What a read has answered, and how many marks came before the first return of such a read.
+/// An answer of a read, and how many marks came before the first return of a read that gave it.
 #[derive(Drop)]
 pub struct Answered {
     pub members: Members,
     pub by: u64,
 }
 
-/// What is known of a history: how many marks it has, the open operations, the adds that can no longer fail by their values, the
-/// values of which an add is done, and the different answers, each within the next.
+/// The known facts of a history: how many marks it has, the open operations, the adds that can no longer fail, and the different
+/// answers, each within the next. Adds of the values in `base` may be forgotten, and so may answers within it.
 #[derive(Drop)]
 pub struct Known {
+    pub alloc: Global,
     pub moment: u64,
     pub pending: Vec<Pending>,
-    pub adds: BTreeMap<i64, Settled>,
-    pub done: Vec<DoneAdd>,
+    pub log: Log,
+    /// An answer that was given before each open operation was invoked, so that each later answer has all of it.
+    pub base: Members,
     pub answers: Vec<Answered>,
+    /// The number of logged adds at which the log is looked through again.
+    pub room: usize,
 }
 
-/// What an operation of this name and part does to a set. Takes constant time.
+/// The call of an operation of this name and part. O(1).
 pub fn call_of(name: Name, part: &Part) -> Call
     ensures { result ≡ call_by name part.now }
 {
@@ -70,17 +62,57 @@ pub fn call_of(name: Name, part: &Part) -> Call
     }
 }
 
+impl Answered {
+    /// The same answer, whose members are shared. O(1).
+    pub fn copy(&self) -> Result<Answered, AllocError>
+        ensures { IfOk result (λ answered. answered ≡ self.now) }
+    {
+        Ok(Answered {
+            members: self.members.copy()?,
+            by: self.by,
+        })
+    }
+}
+
+// The same answers. O(answers).
+fn copies(alloc: Global, answers: &[Answered]) -> Result<Vec<Answered>, AllocError>
+    ensures { IfOk result (λ list. list.items ≡ answers.now) }
+{
+    let mut list = Vec::with_capacity(alloc, answers.len())?;
+    for at in 0..answers.len() {
+        list.push(answers[at].copy()?)?;
+    }
+    Ok(list)
+}
+
 impl Known {
-    /// Of a history without events. Takes constant time, and no memory.
+    /// The facts of a history without events. O(1), and no memory.
     pub fn new(alloc: Global) -> Known
         ensures { facts_of result ≡ no_facts }
     {
         Known {
+            alloc,
             moment: 0,
             pending: Vec::new(alloc),
-            adds: BTreeMap::new(alloc),
-            done: Vec::new(alloc),
+            log: Log::new(alloc),
+            base: Members::new(alloc),
             answers: Vec::new(alloc),
+            room: ROOM,
         }
+    }
+
+    /// The same facts. O(open operations, answers, 128 logged adds).
+    pub fn copy(&self) -> Result<Known, AllocError>
+        ensures { IfOk result (λ known. facts_of known ≡ facts_of self.now) }
+    {
+        Ok(Known {
+            alloc: self.alloc,
+            moment: self.moment,
+            pending: Vec::from_slice(self.alloc, &self.pending)?,
+            log: self.log.copy()?,
+            base: self.base.copy()?,
+            answers: copies(self.alloc, &self.answers)?,
+            room: self.room,
+        })
     }
 }

@@ -1,11 +1,14 @@
-//! The history of one set, judged as its events come, without ends: what its reads have answered, and when, decides.
+//! Judges the history of one set as its events come, without ends: by the answers of its reads, and their moments.
 //!
 //! A call takes memory only where its result can be `AllocError`.
 #![tactic(auto)]
 
 mod change;
+mod forgetting;
 pub mod judged;
 mod known;
+mod log;
+mod members;
 mod queries;
 
 pub use judged::WideSet;

@@ -1,14 +1,17 @@
-//! What is asked of the facts.
-ghost use Rattle.std.specs.Prelude.{◌≡◌, ◌≢◌, ◌↔◌, ◌<◌, ◌≤◌, ℕ, Some, None, IsTrue, IfSome, length, take, drop};
+//! Questions about the facts.
+ghost use Rattle.std.specs.Prelude.{◌≡◌, ◌≢◌, ◌↔◌, ◌⊎◌, ◌<◌, ◌≤◌, ℕ, ℤ, Some, None, IsTrue, IfSome, IfOk, OnOk, length, take, drop};
 ghost use Rattle.std.specs.List.{Contains};
 ghost use Rattle.values.specs.Members.{IsAscending};
-ghost use Rattle.set_chains.specs.Chains.{IsWithin};
 ghost use Rattle.wide_set.specs.declared.known.Answered.{Answered};
 ghost use Rattle.wide_set.specs.declared.known.Pending.{Pending};
-ghost use Rattle.wide_set.specs.Facts.{AreNested, AreSpared, HasAdd, HasPendingAdd, facts_of};
-ghost use Rattle.wide_set.specs.Queries.{HasBefore, HasBeyond, IsAnswered, IsNoLater, IsPlaced, IsRaised, IsRaisedByAll, earlier_of};
+ghost use Rattle.wide_set.specs.declared.log.Added.{Added};
+ghost use Rattle.wide_set.specs.Facts.{AreNested, AreSpared, HasAdd, HasLogged, HasPendingAdd, IsDoneBeyond, facts_of};
+ghost use Rattle.wide_set.specs.Queries.{HasBefore, HasTimely, HasTimelyLogged, HasTimelyPending, IsAnswered, IsBefore, IsFirstWith, IsLastBefore, IsLeastSince, IsNoLater, IsPlaced, IsTimelyAdd, IsTimelyCall, IsWithinLimit, earlier_of};
 
-use crate::known::{Answered, Call, DoneAdd, Known, Pending};
+use crate::known::{Answered, Call, Known, Pending};
+use crate::log::Added;
+use crate::members::{has, is_covered, is_within};
+use std::alloc::{AllocError, Global};
 use values::Members;
 
 /// Where an answer stands in the chain.
@@ -18,11 +21,11 @@ pub enum Place {
     Nowhere,
     /// Where a read has answered the same before.
     Known,
-    /// Behind so many others.
+    /// At this place, behind all before it.
     Behind(usize),
 }
 
-/// The open operation with this id, if it is one. Takes the time of the open operations.
+/// The open operation with this id, if there is one. O(open operations).
 pub fn pending_of(pending: &[Pending], id: u32) -> Option<Pending>
     ensures found { IfSome result (λ p. Contains pending.now p × (p.id ≡ id)) }
     ensures none { result ≡ None → (p : Pending) → Contains pending.now p → p.id ≢ id }
@@ -35,7 +38,7 @@ pub fn pending_of(pending: &[Pending], id: u32) -> Option<Pending>
     None
 }
 
-// Whether the operation is an open add of the value, and another one than this.
+// Whether the operation adds the value and has another id than this.
 fn adds(call: &Pending, value: &i64, but: u32) -> bool
     ensures { IsTrue result ↔ ((call.now.id ≢ but) × (call.now.call ≡ Call.Add value.now)) }
 {
@@ -45,7 +48,7 @@ fn adds(call: &Pending, value: &i64, but: u32) -> bool
     }
 }
 
-// The lesser of both moments, of which the first may be none.
+// The lesser of both moments. The first may be none.
 fn earlier(first: Option<u64>, moment: u64) -> u64
     ensures { result ≡ earlier_of first moment }
 {
@@ -55,7 +58,7 @@ fn earlier(first: Option<u64>, moment: u64) -> u64
     }
 }
 
-// When the first open add of the value was invoked, apart from this operation. Takes the time of the open operations.
+// The moment at which the first open add of the value was invoked, apart from this operation. O(open operations).
 fn first_pending(pending: &[Pending], value: &i64, but: u32) -> Option<u64>
     ensures found { IfSome result (λ moment. HasPendingAdd pending.now but value.now moment) }
     ensures least { (moment : ℕ) → HasPendingAdd pending.now but value.now moment → IsNoLater result moment }
@@ -69,42 +72,7 @@ fn first_pending(pending: &[Pending], value: &i64, but: u32) -> Option<u64>
     first
 }
 
-// Whether the value is a member. Takes the logarithm of how many there are.
-fn has(members: &[i64], value: &i64) -> bool
-    requires { IsAscending members.now }
-    ensures { IsTrue result ↔ Contains members.now value.now }
-{
-    members.binary_search(value).is_ok()
-}
-
-// Whether each of these is among those. Takes the time of these, each with the logarithm of those.
-fn is_within(these: &[i64], those: &[i64]) -> bool
-    requires { IsAscending those.now }
-    ensures { IsTrue result ↔ IsWithin these.now those.now }
-{
-    for value in these {
-        if !has(those, value) {
-            return false;
-        }
-    }
-    true
-}
-
-// Whether an add of a value that is not a member was done before the moment. Takes the time of the values of which an add is
-// done, each with the logarithm of the members.
-fn has_beyond(done: &[DoneAdd], members: &[i64], moment: u64) -> bool
-    requires { IsAscending members.now }
-    ensures { IsTrue result ↔ HasBeyond done.now members.now moment }
-{
-    for add in done {
-        if add.by < moment && !has(members, &add.value) {
-            return true;
-        }
-    }
-    false
-}
-
-// Whether one of these answers was returned before the moment. Takes their time.
+// Whether one of these answers was returned before the moment. O(answers).
 fn has_before(answers: &[Answered], moment: u64) -> bool
     ensures { IsTrue result ↔ HasBefore answers.now moment }
 {
@@ -116,7 +84,7 @@ fn has_before(answers: &[Answered], moment: u64) -> bool
     false
 }
 
-// The place behind the last answer that has no more members than so many. Takes the time of the answers behind it.
+// The place behind the last answer that has at most this many members. O(answers behind it).
 fn first_longer(answers: &[Answered], many: usize) -> usize
     ensures within { result ≤ length answers.now }
     ensures more { (a : Answered) → Contains (drop result answers.now) a → many < length a.members }
@@ -130,7 +98,7 @@ fn first_longer(answers: &[Answered], many: usize) -> usize
     at
 }
 
-// The place of the first answer that has the value. Takes the time of the answers behind it.
+// The place of the first answer that has the value. O(answers behind it), each with the logarithm of its members.
 fn first_with(answers: &[Answered], value: &i64) -> usize
     ensures within { result ≤ length answers.now }
     ensures with { (a : Answered) → Contains (drop result answers.now) a → Contains a.members value.now }
@@ -144,8 +112,7 @@ fn first_with(answers: &[Answered], value: &i64) -> usize
     at
 }
 
-/// Where these members stand in the chain, for a read that was invoked at this moment. Takes the time of the members, and of the
-/// answers that have more.
+/// The place of these members in the chain, for a read that was invoked at this moment. O(members, answers that have more).
 pub fn place_of(answers: &[Answered], members: &Members, since: u64) -> Place
     ensures { AreNested answers.now → IsPlaced answers.now since members.now result }
 {
@@ -174,81 +141,248 @@ pub fn place_of(answers: &[Answered], members: &Members, since: u64) -> Place
     }
 }
 
+// Whether the moment comes before the least one so far, if there is one.
+fn is_earlier(moment: u64, least: &Option<u64>) -> bool
+    ensures { IsTrue result ↔ IsBefore moment least.now }
+{
+    match least {
+        Some(other) => moment < *other,
+        None => true,
+    }
+}
+
+// The lesser of the first moment so far and of that at which the add was done, if it was and has another value than the members.
+fn first_with_add(added: &Added, members: &[i64], first: Option<u64>) -> Option<u64>
+    requires { IsAscending members.now }
+    ensures { IsFirstWith added.now members.now first result }
+{
+    let Some(by) = added.by else {
+        return first;
+    };
+    if !is_earlier(by, &first) {
+        return first;
+    }
+    if has(members, &added.value) {
+        return first;
+    }
+    Some(by)
+}
+
+// The moment at which the first of these adds was done that has another value than the members. O(n log m) for n adds and m members.
+fn first_beyond(log: &[Added], members: &[i64]) -> Option<u64>
+    requires { IsAscending members.now }
+    ensures found { IfSome result (λ moment. (a : Added) × IsDoneBeyond log.now members.now a moment) }
+    ensures least { (a : Added) (moment : ℕ) → IsDoneBeyond log.now members.now a moment → IsNoLater result moment }
+{
+    let mut first = None;
+    for added in log {
+        first = first_with_add(added, members, first);
+    }
+    first
+}
+
+// Whether the add is of this value.
+fn is_of(added: &Added, value: &i64) -> bool
+    ensures { IsTrue result ↔ (added.now.value ≡ value.now) }
+{
+    added.value == *value
+}
+
+// The moment at which the first logged add of the value was invoked. O(adds).
+fn first_logged(log: &[Added], value: &i64) -> Option<u64>
+    ensures found { IfSome result (λ moment. HasLogged log.now value.now moment) }
+    ensures least { (moment : ℕ) → HasLogged log.now value.now moment → IsNoLater result moment }
+{
+    let mut first = None;
+    for added in log {
+        if is_of(added, value) {
+            first = Some(earlier(first, added.since));
+        }
+    }
+    first
+}
+
+// The moment at which the first add of the value was invoked that has not failed, apart from this operation. O(adds).
+fn first_add(log: &[Added], pending: &[Pending], value: &i64, but: u32) -> Option<u64>
+    ensures found { IfSome result (λ moment. HasLogged log.now value.now moment
+        ⊎ HasPendingAdd pending.now but value.now moment) }
+    ensures least { (moment : ℕ) → HasLogged log.now value.now moment ⊎ HasPendingAdd pending.now but value.now moment
+        → IsNoLater result moment }
+{
+    let first = first_pending(pending, value, but);
+    match first_logged(log, value) {
+        Some(moment) => Some(earlier(first, moment)),
+        None => first,
+    }
+}
+
+// Whether the moment is at most the limit, if there is one.
+fn is_timely(moment: u64, limit: &Option<u64>) -> bool
+    ensures { IsTrue result ↔ IsWithinLimit moment limit.now }
+{
+    match limit {
+        Some(last) => moment <= *last,
+        None => true,
+    }
+}
+
+// The value of the add, if it was invoked by the limit.
+fn timely_value(added: &Added, limit: &Option<u64>) -> Option<i64>
+    ensures { (v : ℤ) → (result ≡ Some v) ↔ IsTimelyAdd added.now limit.now v }
+{
+    if is_timely(added.since, limit) {
+        Some(added.value)
+    } else {
+        None
+    }
+}
+
+// The value of the operation, if it is another one than this, and an add that was invoked by the limit.
+fn timely_call(call: &Pending, but: u32, limit: &Option<u64>) -> Option<i64>
+    ensures { (v : ℤ) → (result ≡ Some v) ↔ IsTimelyCall call.now but limit.now v }
+{
+    let Call::Add(value) = call.call else {
+        return None;
+    };
+    if call.id == but {
+        return None;
+    }
+    if is_timely(call.since, limit) {
+        Some(value)
+    } else {
+        None
+    }
+}
+
+// Appends the value, if there is one.
+fn put(values: &mut Vec<i64>, value: Option<i64>) -> Result<(), AllocError>
+    ensures { OnOk result ((v : ℤ) → Contains values.new.items v
+        ↔ (Contains values.old.items v ⊎ (value ≡ Some v))) }
+{
+    let Some(value) = value else {
+        return Ok(());
+    };
+    values.push(value)?;
+    Ok(())
+}
+
+// Appends the values of the adds that were invoked by the limit.
+fn put_logged(values: &mut Vec<i64>, log: &[Added], limit: &Option<u64>) -> Result<(), AllocError>
+    ensures { OnOk result ((v : ℤ) → Contains values.new.items v
+        ↔ (Contains values.old.items v ⊎ HasTimelyLogged log.now limit.now v)) }
+{
+    for added in log {
+        put(values, timely_value(added, limit))?;
+    }
+    Ok(())
+}
+
+// Appends the values of the open adds that were invoked by the limit, apart from this operation.
+fn put_pending(
+    values: &mut Vec<i64>,
+    pending: &[Pending],
+    but: u32,
+    limit: &Option<u64>,
+) -> Result<(), AllocError>
+    ensures { OnOk result ((v : ℤ) → Contains values.new.items v
+        ↔ (Contains values.old.items v ⊎ HasTimelyPending pending.now but limit.now v)) }
+{
+    for call in pending {
+        put(values, timely_call(call, but, limit))?;
+    }
+    Ok(())
+}
+
+// The values that have an add which was invoked by the limit, apart from this operation. O(n log n) in the adds.
+fn timely(
+    alloc: Global,
+    log: &[Added],
+    pending: &[Pending],
+    but: u32,
+    limit: &Option<u64>,
+) -> Result<Members, AllocError>
+    ensures { IfOk result (λ members. (v : ℤ) → Contains members v
+        ↔ HasTimely log.now pending.now but limit.now v) }
+{
+    let mut values = Vec::with_capacity(alloc, log.len())?;
+    put_logged(&mut values, log, limit)?;
+    put_pending(&mut values, pending, but, limit)?;
+    let members = Members::of_unordered(values)?;
+    Ok(members)
+}
+
+/// The least moment at which an open operation was invoked, or this moment if that is less. O(open operations).
+pub fn oldest(pending: &[Pending], moment: u64) -> u64
+    ensures { IsLeastSince pending.now moment result }
+{
+    let mut least = moment;
+    for call in pending {
+        least = least.min(call.since);
+    }
+    least
+}
+
+/// The place of the last answer that was first returned before this moment, if there is one. O(answers behind it).
+pub fn last_before(answers: &[Answered], moment: u64) -> Option<usize>
+    ensures { IfSome result (λ at. IsLastBefore answers.now moment at) }
+{
+    let mut at = answers.len();
+    while at > 0 {
+        at -= 1;
+        if answers[at].by < moment {
+            return Some(at);
+        }
+    }
+    None
+}
+
 impl Known {
-    // When the first add of the value that has not failed was invoked, apart from this operation. Takes the time of the open
-    // operations, and the logarithm of the values.
-    fn first_add(&self, value: &i64, but: u32) -> Option<u64>
-        ensures found { IfSome result (λ moment. HasAdd (facts_of self.now) but value.now moment) }
-        ensures least { (moment : ℕ) → HasAdd (facts_of self.now) but value.now moment → IsNoLater result moment }
-    {
-        let first = first_pending(&self.pending, value, but);
-        match self.adds.get(value) {
-            Some(settled) => Some(earlier(first, settled.since)),
-            None => first,
-        }
-    }
-
-    // The greater of the moment and of the first add of the value; none if it has no add. Takes the logarithm of the values, and
-    // the time of the open operations if the value has no add before the moment that cannot fail.
-    fn raised(&self, latest: u64, value: &i64, but: u32) -> Option<u64>
-        ensures { IsRaised (facts_of self.now) but value.now latest result }
-    {
-        if let Some(settled) = self.adds.get(value) {
-            if settled.since <= latest {
-                return Some(latest);
-            }
-        }
-        let first = self.first_add(value, but)?;
-        Some(latest.max(first))
-    }
-
-    // The greatest of the moment and of the first adds of the members; none if a member has no add.
-    fn raised_by_all(&self, since: u64, members: &[i64], but: u32) -> Option<u64>
-        ensures { IsRaisedByAll (facts_of self.now) but members.now since result }
-    {
-        let mut latest = since;
-        for value in members {
-            latest = self.raised(latest, value, but)?;
-        }
-        Some(latest)
-    }
-
-    /// Whether the read with this id, which was invoked at this moment, may answer so, and where the answer stands in the chain.
-    /// Takes the time of the members and of the values of which an add is done, each with the logarithm of the values, and that
-    /// of the answers that have more.
-    pub fn answer(&self, but: u32, since: u64, members: &Members) -> Place
-        ensures placed { AreNested self.now.answers.items → IsAnswered (facts_of self.now) but since members.now result }
+    /// The place of the answer in the chain, or `Nowhere` if the read with this id, which was invoked at this moment, cannot answer so.
+    /// O(members, answers that have more, n log n in the logged adds).
+    pub fn answer(&self, but: u32, since: u64, members: &Members) -> Result<Place, AllocError>
+        ensures placed { IfOk result (λ place. AreNested self.now.answers.items
+            → IsAnswered (facts_of self.now) but since members.now place) }
         ensures ascending { IsAscending members.now }
     {
         let these = members.as_slice();
         let place = place_of(&self.answers, members, since);
         if matches!(place, Place::Nowhere) {
-            return place;
+            return Ok(place);
         }
-        let Some(latest) = self.raised_by_all(since, these, but) else {
-            return Place::Nowhere;
-        };
-        if has_beyond(&self.done, these, latest) {
-            return Place::Nowhere;
+        let log = self.log.to_list()?;
+        let limit = first_beyond(&log, these);
+        if !is_timely(since, &limit) {
+            return Ok(Place::Nowhere);
         }
-        place
+        let added = timely(self.alloc, &log, &self.pending, but, &limit)?;
+        if is_covered(these, self.base.as_slice(), added.as_slice()) {
+            Ok(place)
+        } else {
+            Ok(Place::Nowhere)
+        }
     }
 
-    /// Whether the open add of this value with this id may fail. Takes the time of the answers that have the value, and of the
-    /// values of which an add is done.
-    pub fn spares(&self, but: u32, value: &i64) -> bool
-        ensures { AreNested self.now.answers.items → IsTrue result ↔ AreSpared (facts_of self.now) but value.now }
+    /// Whether the open add of this value with this id may fail. O(log n) in the members of the base and of the last answer. If the last
+    /// answer has the value and the base has not, O(answers that have it, logged adds).
+    pub fn spares(&self, but: u32, value: &i64) -> Result<bool, AllocError>
+        ensures { IfOk result (λ spares. AreNested self.now.answers.items
+            → IsTrue spares ↔ AreSpared (facts_of self.now) but value.now) }
     {
+        if has(self.base.as_slice(), value) {
+            return Ok(true);
+        }
         let at = first_with(&self.answers, value);
         if at == self.answers.len() {
-            return true;
+            return Ok(true);
         }
-        let Some(first) = self.first_add(value, but) else {
-            return false;
+        let log = self.log.to_list()?;
+        let Some(first) = first_add(&log, &self.pending, value, but) else {
+            return Ok(false);
         };
         if has_before(&self.answers[at..], first) {
-            return false;
+            return Ok(false);
         }
-        !has_beyond(&self.done, self.answers[at].members.as_slice(), first)
+        let limit = first_beyond(&log, self.answers[at].members.as_slice());
+        Ok(is_timely(first, &limit))
     }
 }

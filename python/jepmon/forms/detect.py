@@ -3,9 +3,9 @@ from __future__ import annotations
 
 import re
 
-from . import Refused, log_rows, logs, rows
+from . import Refused, log_rows, logs, rows, tables
 
-NOTHING, EDN, JSON, CSV, LOG, LOGFMT, LINES = "nothing", "EDN", "JSON", "CSV", "log", "logfmt", "a log by a mapping"
+NOTHING, EDN, JSON, CSV, LOG, LOGFMT, LINES, TABLE = "nothing", "EDN", "JSON", "CSV", "log", "logfmt", "a log by a mapping", "a table"
 
 GAP = re.compile(r"(?:[\s,]+|;[^\n]*)*")
 # The front of a JSON text that has an object: a name in quotes, and a colon that begins no keyword of EDN.
@@ -13,7 +13,6 @@ OBJECT = re.compile(r'[\[{][\s\[{]*"(?:[^"\\]|\\.)*"\s*:[^A-Za-z]')
 EDN_BEHIND = re.compile(r"[\s,;]*[({\[#][\s{\[]*[:#;]")
 REPR = re.compile(r"[\[({][\s\[({]*'[^'\n]*'\s*:")
 COLUMNS = re.compile(r"(?:(?:\"\")?[,;\t])?[A-Za-z_ .\"'-][A-Za-z0-9_ .\"'()+-]*([,;\t][A-Za-z_ .\"'-][A-Za-z0-9_ .\"'()+-]*){2,}\s*$")
-TABLE = re.compile(r"[^\n]*\|[^\n]*\n[ |+-]*--[ |+-]*\n|\+--[+-]*\+\n")
 LABEL = re.compile(r"\[[A-Za-z0-9_ -]*[A-Za-z][A-Za-z0-9_ -]*\](?=[ ,\t]+[^\s\]}])")  # before a line of a log
 CELLS = re.compile(r"\"?-?[0-9][0-9.TZ:+ -]*\"?([,;\t][^,;\t\n]*){3,}$")  # CSV without the names of columns, whose first cell is a time
 EMPTY = re.compile(r"[\s,]*[\[(][\s,]*[\])][\s,]*")
@@ -41,8 +40,8 @@ def form_of(text: str) -> str:
         return CSV
     if log_rows.LOGFMT.fullmatch(first):
         return LOGFMT
-    if TABLE.match(text, begin):
-        raise Refused("this is a table for people to read, as psql and mysql print it: let them print CSV with the names of the columns")
+    if tables.FRONT.match(text, begin):
+        return TABLE
     shown = text[begin:begin + 60].split("\n", 1)[0]
     raise Refused(f"this is no form of a history that is known: it begins with {shown!r}; --mapping FILE reads the lines of a log by a "
                   "regular expression")

@@ -21,7 +21,7 @@ from ..from_jepsen.refusal import NoKey
 from ..from_jepsen.source import Texts
 from ..from_jepsen.turn import Turned, collected, written
 from ..from_jepsen.write import OF_SHARDS, Limits
-from . import Refused, detect, edn_rows, log_rows, logs, others, own_front, rows, rows_told
+from . import Refused, detect, edn_rows, log_rows, logs, others, own_front, rows, rows_told, tables
 from .account import KEY, Account, Shifted
 from .clients import Clients
 from .clock import nanoseconds
@@ -211,6 +211,8 @@ def rows_of(form: str, texts: Iterable[str], mapping: Mapping, account: Account)
     """The rows of a text of this form."""
     if form == detect.JSON:
         return rows.of_json(texts, mapping, account)
+    if form == detect.TABLE:
+        return tables.of_table(texts, mapping, account)
     if form == detect.LOGFMT:
         return log_rows.of_logfmt(texts, mapping, account)
     if form == detect.LINES and mapping.line is not None:

@@ -10,7 +10,7 @@ import json
 import re
 from typing import Any, Dict, Iterable, Iterator, List, NamedTuple, Optional, Tuple
 
-from . import Refused, spans
+from . import Refused, spans, traces
 from .account import Account
 from .cells import DECODER, Twice, cell_value, spelled
 from .mapping import Mapping
@@ -173,8 +173,9 @@ def _rows(value: Any, line: int, place: Tuple[str, int, int], mapping: Mapping, 
     """The rows of a value at the top: one, or those of the lists in it that have the history."""
     if not isinstance(value, dict):
         raise Refused(f"line {line}: this is no object, so no event: {spelled(value)[:60]}")
-    if mapping.rows is None and "traceEvents" in value:
-        raise Refused(f"line {line}: these are Chrome's traceEvents, of which some tell of no operation: let those that do be rows")
+    if mapping.rows is None and _is_history(value.get(traces.EVENTS)):
+        yield from (Row(line, fields) for fields in traces.rows(line, value[traces.EVENTS], account))
+        return
     path = mapping.rows or (spans.PATH if spans.PATH.split("[")[0] in value else None)
     if path is not None:
         yield from (Row(line, spans.row(member)) for member in spans.members(line, value, path))
@@ -231,7 +232,7 @@ def of_csv(texts: Iterable[str], mapping: Mapping, account: Account) -> Iterator
                 account.skip("comment" if any(cells) else BLANK, reader.line_num + 1 - line)
                 continue
             if columns is None:
-                columns = _columns(line, cells)
+                columns = columns_of(line, cells)
                 if columns[0] != "1":
                     account.skip(HEADING, reader.line_num + 1 - line)
                     continue
@@ -290,7 +291,7 @@ def has_heading(cells: List[str]) -> bool:
     return not any(DATA.fullmatch(cell.strip()) for cell in cells)
 
 
-def _columns(line: int, cells: List[str]) -> List[str]:
+def columns_of(line: int, cells: List[str]) -> List[str]:
     """The names of the columns; numbers from 1 on if the line does not name them."""
     if not has_heading(cells):
         return [str(number + 1) for number in range(len(cells))]

@@ -1,12 +1,12 @@
-use Rattle.std.proofs.Common.{◌≡◌, ◌≢◌, List, sym, ◌∙◌, subst, rules, to_z, of_z, w64}
+use Rattle.std.proofs.Common.{◌≡◌, ◌≢◌, Some, List, sym, ◌∙◌, subst, rules, to_z, of_z, w64}
 use Rattle.std.specs.List.{Contains}
 use Rattle.models.specs.Objects.{answer_of}
 use Rattle.events.specs.Events.Mark.{Returned}
 use Rattle.wide_set.specs.declared.known.Call.TheVariants as calls
 use Rattle.wide_set.specs.declared.known.Pending.{Pending}
-use Rattle.wide_set.specs.declared.change.Change.TheVariants.{Dies, Adds}
+use Rattle.wide_set.specs.declared.change.Change.TheVariants.{Dies}
 use Rattle.wide_set.specs.Facts.{facts_of}
-use Rattle.wide_set.specs.Kept.{IsTakenBy}
+use Rattle.wide_set.specs.Kept.{IsTakenBy, IsAfterAdd}
 use Rattle.wide_set.proofs.Taking.{not_pending, done, foreign}
 use Rattle.wide_set.proofs.known.Known.after_ok.Goals as goal
 
@@ -21,8 +21,7 @@ returns-in-Add c =
     let e : p.id ≡ c.args.id = c.in-Some.ensures.found.1 in
     let ans = answer_of c.args.part.now in
     let same : to_z w64 (of_z w64 c.in-Add.value) ≡ c.in-Add.value = search rules in
-    subst (λ v. IsTakenBy f (Returned c.args.id ans) (Adds c.args.id v p.since)) (sym same)
-    (subst (λ i. IsTakenBy f (Returned i ans) (Adds i c.in-Add.value p.since)) e (done f p h c.in-Add.value ans c.in-Add.is))
+    subst (λ i. IsTakenBy f (Returned i ans) c.after_add.result) e (done f p h c.in-Add.value ans c.after_add.result c.in-Add.is (subst (λ v. IsAfterAdd f p v (Some f.now) c.after_add.result) same c.after_add.ensures))
 
 pub returns-in-Other : goal.returns-in-Other
 returns-in-Other c =

@@ -21,7 +21,7 @@ returns-in-Nowhere c reads h ms facts may =
     let p = c.args.call.now in
     let m = c.in-Set.members in
     subst (λ (q : Part). IsTakenBy f (Returned p.id (answer_of q)) Dies) (sym c.in-Set.is)
-    (killed_by_ok f p h reads m (subst (IsAnswered f p.id p.since m) c.in-Nowhere.is (c.answer.ensures.placed facts.nested))) ms facts may
+    (killed_by_ok f p h reads m (subst (IsAnswered f p.id p.since m) c.in-Nowhere.is (c.in_ok-place.ensures.placed facts.nested))) ms facts may
 
 pub returns-in-Known : goal.returns-in-Known
 returns-in-Known c reads h ms facts may =
@@ -29,7 +29,7 @@ returns-in-Known c reads h ms facts may =
     let p = c.args.call.now in
     let m = c.in-Set.members in
     subst (λ (q : Part). IsTakenBy f (Returned p.id (answer_of q)) (Leaves p.id)) (sym c.in-Set.is)
-    (answered_again f p h reads m c.answer.ensures.ascending (subst (IsAnswered f p.id p.since m) c.in-Known.is (c.answer.ensures.placed facts.nested))) ms facts may
+    (answered_again f p h reads m c.in_ok-place.ensures.ascending (subst (IsAnswered f p.id p.since m) c.in-Known.is (c.in_ok-place.ensures.placed facts.nested))) ms facts may
 
 pub returns-in_ok-copy-in-Behind : goal.returns-in_ok-copy-in-Behind
 returns-in_ok-copy-in-Behind c reads h ms facts may =
@@ -38,4 +38,4 @@ returns-in_ok-copy-in-Behind c reads h ms facts may =
     let m = c.in-Set.members in
     let a : Answered = record { members = c.in_ok-copy-in-Behind.field-0; by = c.args.self.now.moment } in
     subst (λ (q : Part). IsTakenBy f (Returned p.id (answer_of q)) (Answers p.id c.in-Behind.at a)) (sym c.in-Set.is)
-    (answered f p h reads m c.answer.ensures.ascending c.in-Behind.at a c.in_ok-copy-in-Behind.ensures refl (subst (IsAnswered f p.id p.since m) c.in-Behind.is (c.answer.ensures.placed facts.nested))) ms facts may
+    (answered f p h reads m c.in_ok-place.ensures.ascending c.in-Behind.at a c.in_ok-copy-in-Behind.ensures refl (subst (IsAnswered f p.id p.since m) c.in-Behind.is (c.in_ok-place.ensures.placed facts.nested))) ms facts may

@@ -1,0 +1,142 @@
+//! The program: where it is, its version, and how it ends.
+use crate::{Options, Verdict};
+use std::io::Read;
+use std::os::unix::fs::PermissionsExt;
+use std::os::unix::process::{CommandExt, ExitStatusExt};
+use std::path::{Path, PathBuf};
+use std::process::{Child, ChildStdin, ChildStdout, Command, ExitStatus, Stdio};
+use std::thread::JoinHandle;
+use std::time::Duration;
+
+const MAJOR: u32 = 1; // of the oldest program that this crate works with
+const MINOR: u32 = 4;
+
+extern "C" {
+    fn setsid() -> i32;
+    fn kill(process: i32, signal: i32) -> i32;
+}
+
+/// A running `jepmon script`.
+pub(crate) struct Program {
+    pub path: PathBuf,
+    child: Child,
+    errors: JoinHandle<String>,
+}
+
+/// How a program has ended.
+pub(crate) struct End {
+    pub status: Option<i32>,
+    pub how: String,
+    pub why: String,
+}
+
+impl Program {
+    pub fn start(options: &Options) -> Result<(Program, ChildStdin, ChildStdout), Verdict> {
+        let path = find(options.program.as_deref())?;
+        test_version(&path)?;
+        let mut command = Command::new(&path);
+        command.args(["script", "--strict", "--concurrency", &options.concurrency.to_string(), "--model", options.model.name()]);
+        if let Some(budget) = options.budget {
+            command.args(["--budget", &budget.to_string()]);
+        }
+        command.stdin(Stdio::piped()).stdout(Stdio::piped()).stderr(Stdio::piped());
+        // SAFETY: setsid is async-signal-safe. Ctrl-C in a terminal is for the test.
+        unsafe {
+            command.pre_exec(|| {
+                setsid();
+                Ok(())
+            });
+        }
+        let mut child = command.spawn().map_err(|e| Verdict::refused(&format!("{}: {e}", path.display())))?;
+        let (input, output) = (child.stdin.take().unwrap(), child.stdout.take().unwrap());
+        let mut stderr = child.stderr.take().unwrap();
+        let errors = std::thread::spawn(move || {
+            let mut text = Vec::new();
+            let _ = stderr.read_to_end(&mut text);
+            String::from_utf8_lossy(&text).split_whitespace().collect::<Vec<_>>().join(" ")
+        });
+        Ok((Program { path, child, errors }, input, output))
+    }
+
+    pub fn id(&self) -> i32 {
+        self.child.id() as i32
+    }
+
+    /// Waits for its end. A program that is not needed any more is killed after a second.
+    pub fn end(mut self, is_over: bool) -> End {
+        for _ in 0..100 {
+            if !is_over || !matches!(self.child.try_wait(), Ok(None)) {
+                break;
+            }
+            std::thread::sleep(Duration::from_millis(10));
+        }
+        if is_over && matches!(self.child.try_wait(), Ok(None)) {
+            kill_group(self.id());
+        }
+        let status = self.child.wait().unwrap_or_else(|_| ExitStatus::from_raw(-1));
+        let how = match (status.code(), status.signal()) {
+            (Some(code), _) => format!("with status {code}"),
+            (None, signal) => format!("by signal {}", signal.unwrap_or(0)),
+        };
+        let errors = self.errors.join().unwrap_or_default();
+        let why = if errors.is_empty() { errors } else { format!(": {errors}") };
+        End { status: status.code(), how, why }
+    }
+}
+
+/// Kills the process group of a program that has not been waited for.
+pub(crate) fn kill_group(id: i32) {
+    // SAFETY: the process is a child that was not waited for, so its number is its own.
+    unsafe {
+        kill(-id, 9);
+    }
+}
+
+/// The path that is named, or that JEPMON names; else the program beside the crate or in its clone; else jepmon on the PATH.
+fn find(named: Option<&Path>) -> Result<PathBuf, Verdict> {
+    if let Some(path) = named {
+        return Ok(path.to_path_buf());
+    }
+    if let Some(path) = std::env::var_os("JEPMON").filter(|path| !path.is_empty()) {
+        return Ok(PathBuf::from(path));
+    }
+    for folder in Path::new(env!("CARGO_MANIFEST_DIR")).ancestors() {
+        for name in ["jepmon", "dist/jepmon"] {
+            if is_machine_code(&folder.join(name)) {
+                return Ok(folder.join(name)); // a script of a clone is none
+            }
+        }
+    }
+    on_path("jepmon").ok_or_else(|| Verdict::refused("there is no jepmon: JEPMON names the program, or it is on the PATH"))
+}
+
+pub(crate) fn on_path(name: &str) -> Option<PathBuf> {
+    let path = std::env::var_os("PATH")?;
+    std::env::split_paths(&path).map(|folder| folder.join(name)).find(|path| is_executable(path))
+}
+
+pub(crate) fn is_executable(path: &Path) -> bool {
+    path.metadata().map_or(false, |found| found.is_file() && found.permissions().mode() & 0o111 != 0)
+}
+
+fn is_machine_code(path: &Path) -> bool {
+    let mut first = [0; 4];
+    is_executable(path) && std::fs::File::open(path).and_then(|mut file| file.read_exact(&mut first)).is_ok() && &first == b"\x7fELF"
+}
+
+fn test_version(path: &Path) -> Result<(), Verdict> {
+    let told = Command::new(path)
+        .arg("--version")
+        .stdin(Stdio::null())
+        .stderr(Stdio::null())
+        .output()
+        .map_err(|e| Verdict::refused(&format!("{} can't be used: {e}", path.display())))?;
+    let text = String::from_utf8_lossy(&told.stdout);
+    let line = text.lines().next().unwrap_or("");
+    let numbers: Vec<u32> = line.strip_prefix("jepmon ").unwrap_or("").split('.').filter_map(|word| word.parse().ok()).collect();
+    match numbers[..] {
+        [MAJOR, minor, _] if minor >= MINOR => Ok(()),
+        [_, _, _] => Err(Verdict::refused(&format!("{} is {line}: this crate needs jepmon {MAJOR}.{MINOR} or a later {MAJOR}", path.display()))),
+        _ => Err(Verdict::refused(&format!("{} is no jepmon: its --version prints {line:?}", path.display()))),
+    }
+}

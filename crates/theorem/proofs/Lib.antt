@@ -1,0 +1,6 @@
+pub mod Verdicts
+pub mod Commands
+pub mod Lines
+pub mod Scripts
+pub mod Listed
+pub mod Tapes

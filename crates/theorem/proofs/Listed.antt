@@ -1,0 +1,83 @@
+-- what a recorded history comes to, by its history alone
+use Rattle.std.proofs.Common.{◌≡◌, ℕ, List, [], ◌∷◌, ◌++◌, Some, Ok, refl, sym, ap, subst, ⊎_elim, inl, inr}
+use Rattle.edn.specs.Value.{Value, Values, none, more}
+use Rattle.edn.specs.declared.refusal.Refusal.{Refusal}
+use Rattle.events.specs.declared.event.Event.{Event}
+use Rattle.history.specs.WellFormed.{IsHistoryOf}
+use Rattle.linspec.specs.JudgedHistory.{IsVerdictOn}
+use Rattle.linspec.specs.declared.verdict.Verdict.{Verdict}
+use Rattle.machine.specs.declared.command.Command.TheVariants.{Append}
+use Rattle.machine.specs.declared.command.Reply.{Reply}
+use Rattle.machine.specs.declared.command.Reply.TheVariants.{Verdict as Says}
+use Rattle.machine.specs.Machine.{Machine, Setup, MayStep, Takes, appended}
+use Rattle.machine.proofs.Pushes.{history-push, no_history}
+use Rattle.report.specs.Report.{IsReport}
+use Rattle.checks.specs.Reading.{PushesAll, RefusesNext, IsRead}
+use Rattle.checks.specs.Recorded.{TakesAll, AdmitsAll, RefusesElement, ComesTo}
+use Rattle.checks.specs.declared.recorded.Findings.{Findings}
+use Rattle.checks.specs.declared.recorded.Findings.TheVariants.{Judged, RefusedEvent, Refused}
+use Rattle.checks.proofs.Recording.{machine_with}
+use Rattle.theorem.specs.Theorem.{IsJudgedSo, recorded}
+use Rattle.theorem.specs.Bridges.{SaysOf}
+use Rattle.theorem.proofs.Verdicts.{right}
+
+one_more : (m new : Machine) (e : Event) (reply : Reply) → MayStep m (Append e) (Ok reply) new → Takes m e × (new ≡ appended e m)
+one_more m new e (Says v) may = (may.0, may.1)
+one_more m new e _ may = absurd may
+
+-- events that the machine takes in turn are events, each well-formed after those before it
+taken : (setup : Setup) (old : List Event) (vs : Values) (new : Machine) → TakesAll (machine_with setup old) vs new → (events : List Event) × PushesAll setup.concurrency old vs events × (new ≡ machine_with setup events)
+taken setup old none new same = (old, refl, same)
+taken setup old (more v vs) new all =
+    let e = all.1.0 in
+    let next = one_more (machine_with setup old) all.0 e all.1.1 all.1.3 in
+    let rest = taken setup (old ++ e ∷ []) vs new (subst (λ (m : Machine). TakesAll m vs new) next.1 all.2) in
+    (rest.0, (old ++ e ∷ [], (e, all.1.2, next.0, refl), rest.1), rest.2)
+
+admitted : (setup : Setup) (old : List Event) (vs : Values) (new : Machine) → AdmitsAll (machine_with setup old) vs new → (events : List Event) × PushesAll setup.concurrency old vs events × (new ≡ machine_with setup events)
+admitted setup old none new same = (old, refl, same)
+admitted setup old (more v vs) new all =
+    let e = all.1.0 in
+    let rest = admitted setup (old ++ e ∷ []) vs new (subst (λ (m : Machine). AdmitsAll m vs new) all.1.3 all.2) in
+    (rest.0, (old ++ e ∷ [], (e, all.1.1, all.1.2, refl), rest.1), rest.2)
+
+is_history : (c : ℕ) (old : List Event) (vs : Values) (new : List Event) → IsHistoryOf c old → PushesAll c old vs new → IsHistoryOf c new
+is_history c old none new h same = subst (IsHistoryOf c) (sym same) h
+is_history c old (more v vs) new h all =
+    is_history c all.0 vs new (subst (IsHistoryOf c) (sym all.1.3) (history-push c old all.1.0 h all.1.2)) all.2
+
+pub judged : (setup : Setup) (bytes : List ℕ) (found : Findings) (verdict : Verdict) (text : List ℕ) → ComesTo setup bytes found → SaysOf found verdict text → IsJudgedSo setup.concurrency setup.kind setup.budget bytes verdict text
+judged setup bytes (Judged v report) verdict text comes says =
+    let end : Machine = comes.1.0 in
+    let all = comes.1.1 in
+    let (events, pushes, at) = taken setup [] all.values end all.takes in
+    let is : end.judged ≡ recorded setup.concurrency setup.kind setup.budget events = ap (λ m. m.judged) at in
+    let h : IsHistoryOf setup.concurrency events = is_history setup.concurrency [] all.values events (no_history setup.concurrency) pushes in
+    let on : IsVerdictOn (recorded setup.concurrency setup.kind setup.budget events) verdict = subst (λ w. IsVerdictOn (recorded setup.concurrency setup.kind setup.budget events) w) says.0 (subst (λ j. IsVerdictOn j v) is comes.1.2.0) in (
+      events,
+      (all.values, all.text, pushes),
+      right (recorded setup.concurrency setup.kind setup.budget events) h verdict on,
+      subst (λ t. IsReport (recorded setup.concurrency setup.kind setup.budget events) t) says.1 (subst (λ j. IsReport j report.items) is comes.1.2.1),
+    )
+judged setup bytes (RefusedEvent i why) verdict text comes says = absurd says
+judged setup bytes (Refused why) verdict text comes says = absurd says
+
+refused_next : (setup : Setup) (events : List Event) (m : Machine) (v : Value) (why : Refusal) → m ≡ machine_with setup events → RefusesElement m v why → RefusesNext setup.concurrency events v why
+refused_next setup events m v why at r =
+    ⊎_elim (λ none. inl none) (λ one. inr (one.0, one.1, one.2.0)) (subst (λ n. RefusesElement n v why) at r)
+
+pub refused : (setup : Setup) (bytes : List ℕ) (i : ℕ) (why : Refusal) → ComesTo setup bytes (RefusedEvent i why) → (events : List Event) × IsRead bytes setup.concurrency [] events (Some (i, why))
+refused setup bytes i why comes =
+    let r = comes.1 in
+    let (events, pushes, at) = admitted setup [] r.taken r.machine r.admits in (
+      events,
+      record {
+        pushed = r.taken;
+        next = r.next;
+        later = r.later;
+        text = r.text;
+        counted = r.counted;
+        pushes = pushes;
+        refuses = refused_next setup events r.machine r.next why at r.refuses;
+      },
+    )

@@ -1,0 +1,20 @@
+use Rattle.theorem.proofs.Scripts.{reply_text, finishes, ends, keeps_up, stops, live}
+use Rattle.theorem.proofs.laws.script_law.Goals as goal
+
+pub returns-clause-replies : goal.returns-clause-replies
+returns-clause-replies c = reply_text
+
+pub returns-clause-finishes : goal.returns-clause-finishes
+returns-clause-finishes c = finishes
+
+pub returns-clause-ends : goal.returns-clause-ends
+returns-clause-ends c = ends
+
+pub returns-clause-keeps_up : goal.returns-clause-keeps_up
+returns-clause-keeps_up c = keeps_up
+
+pub returns-clause-stops : goal.returns-clause-stops
+returns-clause-stops c = stops
+
+pub returns-clause-live : goal.returns-clause-live
+returns-clause-live c = live

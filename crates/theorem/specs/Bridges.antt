@@ -1,0 +1,44 @@
+-- Promise: from the definitions of the calls to those of the page (this project's own)
+use Rattle.std.specs.Prelude.{◌≡◌, ℕ, List, Ok}
+use Rattle.linspec.specs.declared.verdict.Verdict.{Verdict}
+use Rattle.machine.specs.declared.command.Command.{Command}
+use Rattle.machine.specs.declared.command.Command.TheVariants.{Append, Rewind, SetModel, SetBudget, Verdict as Ask}
+use Rattle.machine.specs.declared.command.Reply.TheVariants.{Verdict as Says}
+use Rattle.machine.specs.Machine.{Machine, MayStep}
+use Rattle.scripts.specs.Reply.{Script}
+use Rattle.checks.specs.declared.recorded.Findings.{Findings}
+use Rattle.checks.specs.declared.recorded.Findings.TheVariants.{Judged}
+use Rattle.board.specs.Tape.{Leads}
+use Rattle.board.specs.CoreTape.{CoreReply, CoreTape}
+use Rattle.theorem.specs.Theorem.{Session, IsRight}
+
+-- a line can spell the command: it is no draw, no ticket and no fault
+abbrev pub IsOfHistory : Command → Type 0
+IsOfHistory (Append event) = Unit {0}
+IsOfHistory (Rewind n) = Unit {0}
+IsOfHistory (SetModel key kind) = Unit {0}
+IsOfHistory (SetBudget key n) = Unit {0}
+IsOfHistory Ask = Unit {0}
+IsOfHistory command = ⊥
+
+-- a script, by its history alone
+abbrev pub session_of : Script → Session
+session_of s = record { history = s.machine.judged; is_strict = s.is_strict; is_closed = s.is_closed }
+
+-- a check found this verdict, with this report
+abbrev pub SaysOf : Findings → Verdict → List ℕ → Type 0
+SaysOf (Judged said report) verdict text = (said ≡ verdict) × (report.items ≡ text)
+SaysOf found verdict text = ⊥
+
+-- the verdict of the reply, if it has one, is right of the history of the machine
+abbrev pub SaysRight : Machine → CoreReply → Type 0
+SaysRight m (Ok (Says verdict)) = IsRight m.judged verdict
+SaysRight m reply = Unit {0}
+
+-- the machine may answer the command so, and the answer is right
+abbrev pub StepsRight : Machine → Command → CoreReply → Machine → Type 0
+StepsRight old command reply new = MayStep old command reply new × SaysRight new reply
+
+-- each reply on the tape is right, in turn, and the last leads to this machine
+abbrev pub IsRightTape : CoreTape → Machine → Type 0
+IsRightTape tape m = Leads StepsRight tape m

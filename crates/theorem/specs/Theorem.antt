@@ -1,0 +1,108 @@
+-- Promise: the whole theorem on one page, from bytes to the linearizability of Herlihy and Wing (this project's own)
+use Rattle.std.specs.Prelude.{◌≡◌, ◌⊎◌, ◌<◌, ◌≤◌, ◌&&◌, ℕ, Bool, true, false, List, [], length, Option, Some, None, Result, Ok, Err}
+use Rattle.edn.specs.declared.refusal.Refusal.{Refusal}
+use Rattle.edn.specs.declared.refusal.Refusal.TheVariants.{NoSuchIndex, BadBudget, TooLong}
+use Rattle.models.specs.declared.model_kind.ModelKind.{ModelKind}
+use Rattle.events.specs.declared.event.Event.{Event}
+use Rattle.events.specs.Events.{marks}
+use Rattle.history.specs.WellFormed.{IsWellFormed, Refuses}
+use Rattle.linspec.specs.Orders.{IsLinearizable, product}
+use Rattle.linspec.specs.Counts.{CountsMoreThan}
+use Rattle.linspec.specs.Verdicts.{IsBlownKeyAtBy}
+use Rattle.linspec.specs.JudgedHistory.{JudgedHistory, IsVerdictOn, IsBudget, kind_of, budget_of, entries_in, opening_of, with_event, rewound, with_kind, with_budget}
+use Rattle.linspec.specs.declared.verdict.Verdict.{Verdict}
+use Rattle.linspec.specs.declared.verdict.Verdict.TheVariants.{Legal, Illegal, Unknown}
+use Rattle.machine.specs.declared.command.Command.{Command}
+use Rattle.machine.specs.declared.command.Command.TheVariants.{Append, Rewind, SetModel, SetBudget, Verdict as Ask}
+use Rattle.line_loop.specs.RefusalLine.{refusal_line}
+use Rattle.line_loop.specs.ReplyText.{line_limit}
+use Rattle.scripts.specs.Command.{Asks}
+use Rattle.report.specs.VerdictLine.{verdict_line}
+use Rattle.report.specs.Report.{IsReport}
+use Rattle.checks.specs.Reading.{IsRead}
+
+-- 1. The meaning of a verdict
+
+-- Legal: the operations of all keys together have a legal order. Illegal: they have none. Unknown: more outcomes than the budget of
+-- this key are possible just before the ok at this index
+abbrev pub Means : JudgedHistory → Verdict → Type 0
+Means h Legal = IsLinearizable (product (kind_of h)) (marks (entries_in h))
+Means h (Illegal key index) = ¬ IsLinearizable (product (kind_of h)) (marks (entries_in h))
+Means h (Unknown key index) = IsBlownKeyAtBy CountsMoreThan (kind_of h) (budget_of h) (entries_in h) key index
+
+-- the verdict is the one from scratch, with its key and its index, and has this meaning
+abbrev pub IsRight : JudgedHistory → Verdict → Type 0
+IsRight h verdict = IsVerdictOn h verdict × Means h verdict
+
+-- 2. Commands of a history
+
+-- the command adds an event, keeps the first n events, gives a key another kind or budget, or changes nothing
+abbrev pub Changes : JudgedHistory → Command → JudgedHistory → Type 0
+Changes old (Append event) new = IsWellFormed old.concurrency old.events event × (new ≡ with_event event old)
+Changes old (Rewind n) new = (n ≤ length old.events) × (new ≡ rewound n old)
+Changes old (SetModel key kind) new = new ≡ with_kind key kind old
+Changes old (SetBudget key n) new = IsBudget n × (new ≡ with_budget key n old)
+Changes old Ask new = new ≡ old
+Changes old command new = ⊥
+
+-- the command is refused: the event by the first test that it fails, a rewind beyond the end, a budget out of its limits
+abbrev pub Declines : JudgedHistory → Command → Refusal → Type 0
+Declines h (Append event) why = Refuses h.concurrency h.events event why
+Declines h (Rewind n) NoSuchIndex = length h.events < n
+Declines h (SetBudget key n) BadBudget = ¬ IsBudget n
+Declines h command why = ⊥
+
+-- 3. Lines of a script
+
+-- the text is the line of the verdict on the new history; or the line of the refusal, and the history is unchanged
+abbrev pub CarriesOut : JudgedHistory → Command → List ℕ → Bool → JudgedHistory → Type 0
+CarriesOut old command text is_refused new =
+    ((verdict : Verdict) × Changes old command new × IsRight new verdict × (text ≡ verdict_line verdict) × (is_refused ≡ false))
+    ⊎ ((why : Refusal) × Declines old command why × (new ≡ old) × (text ≡ refusal_line why) × (is_refused ≡ true))
+
+-- a line asks for nothing or for a command, or is refused itself
+abbrev pub AnswersTo : JudgedHistory → Result (Option Command) Refusal → List ℕ → Bool → JudgedHistory → Type 0
+AnswersTo old (Ok None) text is_refused new = (text ≡ []) × (is_refused ≡ false) × (new ≡ old)
+AnswersTo old (Ok (Some command)) text is_refused new = CarriesOut old command text is_refused new
+AnswersTo old (Err why) text is_refused new = (text ≡ refusal_line why) × (is_refused ≡ true) × (new ≡ old)
+
+-- a line over the limit is refused, whatever it asks for
+pub record AnswersLine (old : JudgedHistory) (line text : List ℕ) (is_refused : Bool) (new : JudgedHistory) : Type 0 where
+  pub within : length line ≤ line_limit → (asked : Result (Option Command) Refusal) × Asks line asked × AnswersTo old asked text is_refused new
+  pub over : line_limit < length line → (text ≡ refusal_line TooLong) × (is_refused ≡ true) × (new ≡ old)
+
+-- a script: the history that it judges, whether it is strict, and whether a refusal has closed it
+pub record Session : Type 0 where
+  pub history : JudgedHistory
+  pub is_strict : Bool
+  pub is_closed : Bool
+
+-- before its first line
+abbrev pub opened : ℕ → ModelKind → ℕ → Bool → Session
+opened concurrency kind budget is_strict = record { history = opening_of concurrency kind budget; is_strict = is_strict; is_closed = false }
+
+-- an open script answers the line; a closed script replies nothing
+abbrev pub Answers : Session → List ℕ → List ℕ → Session → Type 0
+Answers old line text new =
+    (old.is_closed ≡ false → (history : JudgedHistory) × (is_refused : Bool) × AnswersLine old.history line text is_refused history
+    × (new ≡ record { history = history; is_strict = old.is_strict; is_closed = old.is_strict && is_refused }))
+    × (old.is_closed ≡ true → (text ≡ []) × (new ≡ old))
+
+-- a script ends with a right verdict on its history, or closed, without a verdict
+abbrev pub EndsBy : Session → Option Verdict → Type 0
+EndsBy end (Some verdict) = IsRight end.history verdict × (end.is_closed ≡ false)
+EndsBy end None = end.is_closed ≡ true
+
+-- 4. Recorded histories
+
+-- a history of these events, of one kind and one budget
+abbrev pub recorded : ℕ → ModelKind → ℕ → List Event → JudgedHistory
+recorded concurrency kind budget events = record (opening_of concurrency kind budget) { events = events }
+
+-- the bytes spell events, each of which is well-formed after the events before it. The verdict on them is right, and the text is their
+-- report
+abbrev pub IsJudgedSo : ℕ → ModelKind → ℕ → List ℕ → Verdict → List ℕ → Type 0
+IsJudgedSo concurrency kind budget bytes verdict text =
+    (events : List Event) × IsRead bytes concurrency [] events None
+    × IsRight (recorded concurrency kind budget events) verdict
+    × IsReport (recorded concurrency kind budget events) text

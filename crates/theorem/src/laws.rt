@@ -1,0 +1,69 @@
+//! Laws that lead from the clauses of the calls to the definitions of the page.
+ghost use Rattle.std.specs.Prelude.{◌≡◌, ℕ, Bool, List, [], Option, Result, Ok, Err, Some, None};
+ghost use mathlib.Core.List.{IsPrefix};
+ghost use Rattle.edn.specs.declared.refusal.Refusal.{Refusal};
+ghost use Rattle.events.specs.declared.event.Event.{Event};
+ghost use Rattle.linspec.specs.declared.verdict.Verdict.{Verdict};
+ghost use Rattle.machine.specs.declared.command.Command.{Command};
+ghost use Rattle.machine.specs.declared.command.Reply.{Reply};
+ghost use Rattle.machine.specs.Machine.{Machine, Setup, MayStep, opening};
+ghost use Rattle.line_loop.specs.ReplyText.{IsReplyText};
+ghost use Rattle.line_loop.specs.Logs.{Logged};
+ghost use Rattle.line_loop.specs.Live.{IsLive};
+ghost use Rattle.line_loop.specs.Stopping.{Finishes, KeepsUp, Stops};
+ghost use Rattle.scripts.specs.Reply.{MayReply, Script, Shows, script};
+ghost use Rattle.checks.specs.Reading.{IsRead};
+ghost use Rattle.checks.specs.Recorded.{ComesTo};
+ghost use Rattle.checks.specs.declared.recorded.Findings.{Findings};
+ghost use Rattle.board.specs.CoreTape.{CoreTape, LeadsTo, opening_tape};
+ghost use Rattle.theorem.specs.Theorem.{Answers, Changes, Declines, EndsBy, IsJudgedSo, opened};
+ghost use Rattle.theorem.specs.Bridges.{IsOfHistory, IsRightTape, SaysOf, session_of};
+
+/// The bytes of a script. `scripts::run_script` promises its reply text over the one-thread object; this law promises the same over
+/// histories alone, by `Answers`. Each verdict in the text is right by the definition of Herlihy and Wing.
+pub fn script_law()
+    ensures replies { (setup : Setup) (is_strict : Bool) (input text : List ℕ) (end : Script) →
+        IsReplyText MayReply (script setup is_strict) input text end
+        → IsReplyText Answers (opened setup.concurrency setup.kind setup.budget is_strict) input text (session_of end) }
+    ensures finishes { (setup : Setup) (is_strict : Bool) (end : Script) (left left' before after : Option (List ℕ)) →
+        Finishes MayReply (script setup is_strict) end left left' before after
+        → Finishes Answers (opened setup.concurrency setup.kind setup.budget is_strict) (session_of end) left left' before after }
+    ensures ends { (setup : Setup) (is_strict : Bool) (input text : List ℕ) (end : Script) (said : Option Verdict) →
+        IsReplyText MayReply (script setup is_strict) input text end → Shows end said → EndsBy (session_of end) said }
+    ensures keeps_up { (setup : Setup) (is_strict : Bool) (here : Script) (left left' before after : Option (List ℕ)) →
+        KeepsUp MayReply (script setup is_strict) here left left' before after
+        → KeepsUp Answers (opened setup.concurrency setup.kind setup.budget is_strict) (session_of here) left left' before after }
+    ensures stops { (setup : Setup) (is_strict : Bool) (left left' before after : Option (List ℕ)) (why : Refusal) →
+        Stops MayReply (script setup is_strict) left left' before after why
+        → Stops Answers (opened setup.concurrency setup.kind setup.budget is_strict) left left' before after why }
+    ensures live { (setup : Setup) (is_strict : Bool) (before left left' : Option (List ℕ)) (log log' : Option (List Logged)) →
+        IsLive MayReply (λ now. now.is_closed) (script setup is_strict) before left left' log log'
+        → IsLive Answers (λ now. now.is_closed) (opened setup.concurrency setup.kind setup.budget is_strict) before left left' log log' }
+{}
+
+/// The bytes of a recorded history. If they come to a verdict, it is right by the definition of Herlihy and Wing on the events that they
+/// spell. If they come to a refused event, they spell the events before it, and the process rule or a limit forbids the next one.
+pub fn check_law()
+    ensures judged { (setup : Setup) (bytes : List ℕ) (found : Findings) (verdict : Verdict) (text : List ℕ) →
+        ComesTo setup bytes found → SaysOf found verdict text
+        → IsJudgedSo setup.concurrency setup.kind setup.budget bytes verdict text }
+    ensures refused { (setup : Setup) (bytes : List ℕ) (i : ℕ) (why : Refusal) →
+        ComesTo setup bytes (Findings.RefusedEvent i why)
+        → (events : List Event) × IsRead bytes setup.concurrency [] events (Some (i, why)) }
+{}
+
+/// The tape of a board. Each verdict on a legal tape is right by the definition of Herlihy and Wing. It is right of the history to which
+/// the calls up to this one lead, whichever seats made them.
+pub fn tape_law()
+    ensures { (setup : Setup) (tape : CoreTape) (m : Machine) →
+        IsPrefix (opening_tape (opening setup)) tape → LeadsTo tape m → IsRightTape tape m }
+{}
+
+/// The five commands that a line can spell change the history of the one-thread object as `Changes` says, and are refused as `Declines`
+/// says.
+pub fn five_commands_law()
+    ensures changes { (old new : Machine) (command : Command) (verdict : Verdict) → IsOfHistory command
+        → MayStep old command (Ok (Reply.Verdict verdict)) new → Changes old.judged command new.judged }
+    ensures declines { (old new : Machine) (command : Command) (why : Refusal) → IsOfHistory command
+        → MayStep old command (Err why) new → Declines old.judged command why × (new ≡ old) }
+{}

@@ -1,0 +1,6 @@
+use Rattle.std.proofs.Common.{ℤ, take}
+use Rattle.std.specs.List.{Contains}
+use Rattle.wide_set.proofs.members.is_within.Given as goal
+
+abbrev pub invariant-loop-value : goal.invariant-loop-value
+invariant-loop-value l = (v : ℤ) → Contains (take l.value-index l.these) v → Contains l.those v

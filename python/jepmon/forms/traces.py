@@ -1,0 +1,44 @@
+"""Chrome's trace events (chrome://tracing, Perfetto): each complete event, of ph X, is an operation with a time and a duration in microseconds."""
+from __future__ import annotations
+
+import collections
+from typing import Any, Counter, Dict, List
+
+from . import Refused
+from .account import Account
+
+EVENTS = "traceEvents"
+COMPLETE = "X"
+BEGINS = ("B", "E", "b", "e", "n", "S", "T", "F")  # of operations whose begin and end are events of their own
+OWN = {"op": "name", "start_us": "ts", "duration_us": "dur"}
+
+
+def rows(line: int, events: List[Dict[str, Any]], account: Account) -> List[Dict[str, Any]]:
+    """The operations of the events; what else they tell of, as names and counters, is counted."""
+    others: Counter[str] = collections.Counter()
+    made = []
+    for event in events:
+        phase = event.get("ph")
+        if phase == COMPLETE:
+            made.append(_row(line, event))
+        elif phase in BEGINS:
+            raise Refused(f"line {line}: traceEvents of ph {phase} have their begin and their end apart: let them be complete events, of ph X")
+        else:
+            others[str(phase)] += 1
+    for phase, count in others.items():
+        account.field(f"{EVENTS} of ph {phase} ({count})")
+    return made
+
+
+def _row(line: int, event: Dict[str, Any]) -> Dict[str, Any]:
+    """The fields of an operation: those of its args, and its own. Its client is its thread, of its process."""
+    own = {name: event[field] for name, field in OWN.items() if field in event}
+    args = event.get("args", {})
+    if not isinstance(args, dict):
+        raise Refused(f"line {line}: the args of a traceEvent are no object")
+    if "tid" in event:
+        own["client"] = f"{event.get('pid', 0)}/{event['tid']}"
+    twice = next((name for name in args if name in own), None)
+    if twice is not None:
+        raise Refused(f"line {line}: the args of a traceEvent have {twice!r}, which is said outside of them too: say --mapping FILE")
+    return {**own, **args}
