@@ -1,5 +1,8 @@
 """What scripts of cases share: the files of a case, and the loop over cases."""
+import contextlib
+import io
 import pathlib
+import runpy
 from typing import Callable, List, Tuple
 
 LIMIT = 60  # seconds for one run
@@ -13,6 +16,18 @@ def read(path: pathlib.Path, default: bytes = b"") -> bytes:
 def words(path: pathlib.Path) -> List[str]:
     """The words of a file, one a line; none where there is no file."""
     return [word for word in read(path).decode().split("\n") if word]
+
+
+def given(case: pathlib.Path, name: str) -> bytes:
+    """What a case is given by this name: its file NAME.edn, or what its script NAME.py prints."""
+    script = case / f"{name}.py"
+    if not script.exists():
+        return read(case / f"{name}.edn")
+    printed = io.BytesIO()
+    with contextlib.redirect_stdout(io.TextIOWrapper(printed, "utf-8", write_through=True)) as stream:
+        runpy.run_path(str(script), run_name="__main__")
+        stream.flush()
+        return printed.getvalue()
 
 
 def differing(what: str, got: object, want: object) -> List[str]:

@@ -36,7 +36,9 @@ JAVA = ("javac", "jar", "java")
 
 LANGUAGES: Dict[str, Language] = {
     "go": Language(("go",)),
+    "java": Language(JAVA, (JARS + "junit-jupiter-engine.jar", JARS + "junit-platform-console.jar")),
     "rust": Language(("cargo",)),
+    "c": Language(("cc",)),
 }
 
 

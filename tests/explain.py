@@ -15,7 +15,7 @@ import tempfile
 from typing import Dict, List
 
 import forked
-from case_loop import LIMIT, Case, differing, read, run_cases, words
+from case_loop import LIMIT, Case, differing, given, read, run_cases, words
 
 TOP = pathlib.Path(__file__).resolve().parent.parent
 CASES = TOP / "tests" / "explain"
@@ -29,7 +29,7 @@ def explained(arguments: List[str], text: bytes = b"", program: str = PROGRAM) -
 
 
 def run_case(case: pathlib.Path) -> List[str]:
-    text = forked.given(case, "history")
+    text = given(case, "history")
     ran = explained(["-"] + words(case / "args"), text)
     plain = subprocess.run([PROGRAM, "check", "/dev/stdin"] + words(case / "args"), input=text, stdout=subprocess.PIPE,
                            stderr=subprocess.PIPE, timeout=LIMIT)

@@ -46,17 +46,6 @@ def ran(words: Sequence[str], text: bytes = b"", folder: Optional[str] = None, e
         return subprocess.CompletedProcess(list(words), status, _whole(out), _whole(error))
 
 
-def given(case: pathlib.Path, name: str) -> bytes:
-    """What a case is given by this name: its file NAME.edn, or what its script NAME.py prints."""
-    script = case / f"{name}.py"
-    if not script.exists():
-        file = case / f"{name}.edn"
-        return file.read_bytes() if file.exists() else b""
-    printed = ran([str(script)])
-    printed.check_returncode()
-    return printed.stdout
-
-
 def _child(words: Sequence[str], streams: Sequence[int], folder: Optional[str], environment: Optional[Mapping[str, str]]) -> None:
     """Does the work of the command line, and ends this process."""
     status = 1

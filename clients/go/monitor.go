@@ -288,6 +288,9 @@ func (m *Monitor) Reset() error {
 		return m.bad
 	}
 	m.kept, m.skip, m.begun = nil, 0, map[int]bool{}
+	for thread := range m.processes {
+		m.processes[thread] = thread
+	}
 	return nil
 }
 

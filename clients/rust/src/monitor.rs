@@ -318,6 +318,7 @@ impl Monitor {
         state.test()?;
         state.kept.clear();
         state.begun.clear();
+        state.processes = (0..self.shared.options.concurrency as u64).collect();
         Ok(())
     }
 

@@ -35,7 +35,7 @@ module _ (ms : List Mark) (m : Mark) (well : AreWellFormed (ms ++ m ∷ [])) (be
         (was i c))
         (λ i w answer a out q. out (subst (Contains base) (one_value w (subst (λ j. IsAddOf (ms ++ m ∷ []) j w) (sym (returned i answer q)) a)) known))
 
-    -- with what is logged of the add
+    -- with the logged add
     pub logged_with : (e : Added) → e.value ≡ v → (op : Op) → StandsAt ms e.since (Invoked id op) → IsSettledBy (ms ++ m ∷ []) id e.by
         → ((i n : ℕ) (answer : Answer) → Returned i answer ≡ m → n ≡ length ms → (id ≡ i) × ((by : ℕ) × (e.by ≡ Some by) × (by ≤ n)))
         → AreLogged log base ms → AreLogged (log ++ e ∷ []) base (ms ++ m ∷ [])

@@ -23,7 +23,7 @@ use Rattle.wide_set.proofs.Moments.{stands_contains, stands_of, not_precedes, no
 use Rattle.wide_set.proofs.Calls.{read_by, op_of, from_has_add, to_has_add}
 
 module _ (f : Facts) (ms : List Mark) (facts : AreFacts f ms) where
-  -- a done add beyond the base is logged, or one of the same value that is no later
+  -- a done add beyond the base is logged, or one of the same value with at most its moment
   pub known_done : (members : List ℤ) → IsWithin f.base members → (id : ℕ) → IsDoneAddBeyond ms members id → (n : ℕ) × (answer : Answer) × StandsAt ms n (Returned id answer)
       × ((a : Added) × (by : ℕ) × IsDoneBeyond f.log members a by × (by ≤ n))
   known_done members within id b =
@@ -37,7 +37,7 @@ module _ (f : Facts) (ms : List Mark) (facts : AreFacts f ms) where
       let r : IsSettledBy ms k.0 (Some by) = subst (IsSettledBy ms k.0) h.1 k.4 in
       (k.0, r.0, (a.value, k.2, (r.0, stands_contains ms by (Returned k.0 r.0) r.1), h.2), r.1)
 
-  -- an answer is within the base, or known, or the same one that was given no later
+  -- an answer is within the base, or known, with at most its moment
   pub known_answer : (id : ℕ) (members : List ℤ) → HasRead ms id members → (n : ℕ) × StandsAt ms n (Returned id (Many members))
       × (IsWithin members f.base ⊎ ((a : Answered) × Contains f.answers a × (a.members ≡ members) × (a.by ≤ n)))
   known_answer id members r =

@@ -95,7 +95,7 @@ module _ (f : Facts) (ms : List Mark) (facts : AreFacts f ms) where
       (λ p. (let k = facts.pending.is p.0 p.1 in (p.0.id, k.1.0, adds_of_call p.0 p.1 v p.3, k.0.not_failed, p.2, subst (λ n. StandsAt ms n (Invoked p.0.id k.1.0)) p.4 k.1.1)))
       h
 
-  -- and an add of the history is known, or one that is no later, if its value is not in the base
+  -- an add of a value beyond the base is known, or one with at most its moment
   pub to_has_add : (but : ℕ) (v : ℤ) (id : ℕ) → ¬ Contains f.base v → IsAddOf ms id v → ¬ Contains ms (Failed id) → id ≢ but → (op : Op) × (n : ℕ) × StandsAt ms n (Invoked id op) × ((moment : ℕ) × HasAdd f but v moment × (moment ≤ n))
   to_has_add but v id out a nf ne =
       let s = stands_of ms (Invoked id a.0) a.1 in (

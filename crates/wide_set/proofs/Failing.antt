@@ -88,7 +88,7 @@ module _ (f : Facts) (ms : List Mark) (facts : AreFacts f ms) (p : Pending) (h :
           (same_or_not x.0 p.id)
 
       module _ (out : ¬ Contains f.base v) where
-        -- the answer is no smaller than the base, whose reads are in the chain
+        -- the answer has all of the base, whose reads are in the chain
         within : IsWithin f.base members
         within w k =
             let a = base_read f ms facts w k in

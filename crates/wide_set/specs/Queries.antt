@@ -17,12 +17,12 @@ abbrev pub earlier_of : Option ℕ → ℕ → ℕ
 earlier_of None moment = moment
 earlier_of (Some n) moment = min n moment
 
--- the moment comes before the other one, which may be none
+-- the moment comes before the least one, if there is one
 abbrev pub IsBefore : ℕ → Option ℕ → Type 0
 IsBefore moment None = Unit {0}
 IsBefore moment (Some n) = moment < n
 
--- the moment is no later than the limit, if there is one
+-- the moment is at most the limit, if there is one
 abbrev pub IsWithinLimit : ℕ → Option ℕ → Type 0
 IsWithinLimit moment None = Unit {0}
 IsWithinLimit moment (Some n) = moment ≤ n

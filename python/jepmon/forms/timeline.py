@@ -9,7 +9,7 @@ from __future__ import annotations
 
 import collections
 import heapq
-from typing import Any, Dict, Iterable, Iterator, List, NamedTuple, Optional, Sequence, Tuple, Union
+from typing import Any, Dict, Iterable, Iterator, List, NamedTuple, Optional, Tuple, Union
 
 from ..kinds import THREADS
 from ..sorted_rows import SortedRows
@@ -49,7 +49,7 @@ class Timeline:
 
     def are_apart(self) -> bool:
         """Whether by their times some clients had long ended when others began, as by clocks that differ."""
-        return are_apart(self._spans.values(), self._count)
+        return are_apart(((first, last) for first, last in self._spans.values()), self._count)
 
     def begun(self) -> Iterator[Tuple[Time, Any]]:
         """When each operation was called, and what is given of that, in the order of the calls."""
@@ -93,7 +93,7 @@ class Timeline:
             end = next(ends, None)
 
 
-def are_apart(spans: Iterable[Sequence[Time]], operations: int) -> bool:
+def are_apart(spans: Iterable[Tuple[Time, Time]], operations: int) -> bool:
     """Whether clients that worked within these times had long ended when others began. They did so many operations."""
     groups: List[List[Time]] = []
     for first, last in sorted(spans):

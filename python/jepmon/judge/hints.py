@@ -6,7 +6,6 @@ from typing import Counter, Iterator, Sequence
 from ..explain.event import Options as Explained
 from ..explain.said import said as explained
 from ..forms.files import Source
-from ..forms.own import Facts
 from ..forms.recorded import Recorded
 from ..history import Event
 from ..program import Options, ProgramError, Report, check

@@ -1,7 +1,7 @@
 """A verdict that rests on a guess is refused if the input, read another way, has another verdict: the options that settle it are named."""
 from __future__ import annotations
 
-from typing import Callable, Dict, Iterator, List, Mapping, NamedTuple, Optional, Sequence
+from typing import Callable, Dict, Iterator, List, Mapping, NamedTuple, Sequence
 
 from ..errors import ProgramError
 from ..forms import Refused
