@@ -95,12 +95,12 @@ def where_an_answer_comes_from() -> None:
         return act
 
     assert hint("register", read(77)) == (
-        "no operation that was told brought 77 in: did key 3 hold it before? monitor.begin(3, value)")
-    assert hint("unordered-queue", read(5, "dequeue")) == "no operation that was told brought 5 in: did key 3 hold it before?"
-    assert hint("set", read({-4})).startswith("no operation that was told brought -4 in: ")
-    assert hint("cas-register", fails("cas", 1, 2)).startswith("2 was set by process 0 in events 2-3, told as a fail: did it take")
-    assert hint("fifo-queue", fails("enqueue", 9)).startswith("9 was enqueued by process 0 in events 0-1, told as a fail: did")
-    assert hint("set", fails("add", 8)).startswith("8 was added by process 0 in events 0-1, told as a fail: did it take place?")
+        "no recorded operation wrote 77: did key 3 hold it before? monitor.begin(3, value)")
+    assert hint("unordered-queue", read(5, "dequeue")) == "no recorded operation wrote 5: did key 3 hold it before?"
+    assert hint("set", read({-4})).startswith("no recorded operation wrote -4: ")
+    assert hint("cas-register", fails("cas", 1, 2)).startswith("2 was set by process 0 in events 2-3, recorded as a fail: did it take")
+    assert hint("fifo-queue", fails("enqueue", 9)).startswith("9 was enqueued by process 0 in events 0-1, recorded as a fail: did")
+    assert hint("set", fails("add", 8)).startswith("8 was added by process 0 in events 0-1, recorded as a fail: did it take place?")
 
 
 def a_cas_register() -> None:

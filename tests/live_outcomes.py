@@ -55,7 +55,7 @@ def what_failed_did_not_take_place() -> None:
 
     error = raised(Illegal, read_what_failed)
     assert kinds_told(log, "write") == ["ok", "fail", "fail", "info"]
-    assert str(error).endswith("\n2 was written by process 0 in events 4-5, told as a fail: did it take place? Then it is an info, "
+    assert str(error).endswith("\n2 was written by process 0 in events 4-5, recorded as a fail: did it take place? Then it is an info, "
                                "or the store's fault"), error
 
 

@@ -60,10 +60,10 @@ def _given(arguments: Optional[List[str]]) -> argparse.Namespace:
     parser = Words(prog=called, description=(__doc__ or "").format(tool=called), formatter_class=argparse.RawDescriptionHelpFormatter)
     parser.add_argument("file", nargs="?", default="-", metavar="FILE", help="a history of JSON or CSV, or a log; - for standard input")
     parser.add_argument("--key", metavar="K", type=number("a key", KEYS), help="the history has no keys: each value is of key K")
-    parser.add_argument("--nil-is-absent", action="store_true", help="null is what a missing key answers, and is judged")
+    parser.add_argument("--nil-is-absent", action="store_true", help="null is the answer of a missing key, and is judged")
     meant_words.add(parser)
     mapping_words.add(parser)
-    parser.add_argument("--strict-input", action="store_true", help="refuse each guess, as of the key, in place of turning by it")
+    parser.add_argument("--strict-input", action="store_true", help="refuse each guess, for example of the key, instead of following it")
     try:
         return parser.parse_args(arguments)
     except Refused as fault:

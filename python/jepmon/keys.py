@@ -15,19 +15,19 @@ TRIES = 8  # to draw a key that has room
 
 
 class Keys:
-    """Which keys a test writes to, and which it reads; Monitor.keys makes it. Any number of threads may use it.
+    """The keys that a test writes to, and those that it reads; Monitor.keys makes it. Any number of threads may use it.
 
-    A write that timed out may take place at any later moment, so each one makes the key's outcomes more, until they are over its
-    budget. So writes leave a key after `limit` of them, and a new key comes in its place. **Reads must not leave it**: at a fault
-    that loses what was written, as the kill of a server that keeps nothing, requests to each key time out; a test that leaves the
-    keys as a whole never asks for what was lost, and passes. So read at read_key, which gives keys that writes have left too, and
-    read all of `used` at the end.
+    A write that timed out may take place at any later moment, so each one adds possible outcomes to the key, until they exceed its
+    budget. So writes leave a key after `limit` of them, and a new key replaces it. **Reads must stay.** A fault that loses data, such
+    as the kill of a server that keeps nothing, makes requests to each key time out. A test that leaves these keys never reads
+    the lost values again, and passes. So read at read_key, which also gives keys that writes have left, and read all of `used`
+    at the end.
 
-    A key has room for another operation where fewer than `most` of its operations are open now or have timed out (six, for the
-    default budget), or where none is open now. A key that has none is given only where there is no other.
+    A key has room for another operation if fewer than `most` of its operations are open or have timed out (six, for the default
+    budget), or if none is open. A key without room is given only if there is no other.
 
-    A queue is left likewise: enqueue at write_key, and dequeue at read_key. Of a lock each operation is a change: acquire at
-    write_key, with limit=8 and most=12, so that a lock which was held while its server died is tried again after that.
+    Use queues in the same way: enqueue at write_key, and dequeue at read_key. Each operation of a lock is a change: acquire at
+    write_key, with limit=8 and most=12, so that clients try again a lock that was held while its server died.
     """
 
     def __init__(self, monitor: Monitor, count: int = 1, limit: int = 3, first: int = 0, most: int = 6) -> None:
@@ -51,8 +51,8 @@ class Keys:
             return self._drawn(self._open, draws or self._draws)
 
     def read_key(self, draws: Optional[random.Random] = None) -> int:
-        """Any key that was ever used: half the time one of those open to writes, else one that writes have left, where there is
-        one. A key that the monitor has dropped is not judged any more, and is given only where there is no other."""
+        """Any key that was ever used: half the time one of those open to writes, else one that writes have left, if there is
+        one. A key that the monitor has dropped is no longer judged, and is given only if there is no other."""
         drawn = draws or self._draws
         with self._lock:
             still_open, left = self._judged(self._open), self._judged(self._left)
@@ -65,7 +65,7 @@ class Keys:
             return sorted(self._left + self._open)
 
     def _drawn(self, keys: List[int], draws: random.Random) -> int:
-        """One of the keys, with room where it can be."""
+        """One of the keys, with room if possible."""
         for _ in range(TRIES):
             key = keys[draws.randrange(len(keys))]
             if self._monitor.pending(key) == 0 or self._at_once(key) < self._most:

@@ -7,20 +7,20 @@
             with monitor.write(key, number):         # the block is the operation
                 store.put(key, number)
             with monitor.read(key) as op:
-                op.value = store.get(key)            # what it answered; None where the key is missing
-        monitor.run(client, 5)                       # client(0) to client(4), in threads; threads of your own will do as well
+                op.value = store.get(key)            # the answer; None if the key is missing
+        monitor.run(client, 5)                       # client(0) to client(4), in threads; your own threads will do as well
 
 A block that ends is an :ok. An exception in it is an :info: the operation may have taken place, or may yet. `raise Failed` in
 it, or op.fail(), is a :fail: it certainly did not take place. The first event after which the history is not linearizable
-raises Illegal in the thread that told it, and in each operation of the others that ends or begins later; so does a key over its
-budget (Unknown, but with unknown="drop" not), and what jepmon refuses (Refused). Their text has the last events of the key, without
-operations that failed, and what may have been meant. The end of `with Monitor()` raises them again, where nothing else was raised
-in it.
+raises Illegal, in the thread that recorded the event, and in each operation of the others that ends or begins later. A key over
+its budget raises Unknown (not with unknown="drop"), and a refusal of jepmon raises Refused. The text of the exception has the last
+events of the key, without operations that failed, and a hint. The end of `with Monitor()` raises the exception again, unless its
+block raised another one.
 
-jepmon takes an answer of nil to say nothing, so that a store which loses every write would pass. Here a missing key is a value,
-ABSENT: each key of a register begins with it, and a read that answers None tells it. monitor.write(key, ABSENT) is a deletion.
-So take keys that the store does not have yet, or say what they hold, before the first operation, by monitor.begin(key, value):
-a value that an earlier run has left there is else a wrong answer.
+An answer of nil says nothing to jepmon, so a store that loses every write would pass. Here a missing key is a value, ABSENT: each
+key of a register begins with it, and a read that answers None records it. monitor.write(key, ABSENT) is a deletion. A value from
+an earlier run is a wrong answer. So use keys that the store does not have yet, or name their values with
+monitor.begin(key, value) before the first operation.
 
 Values are integers; monitor.number(x) gives one for anything else that is hashable. Keys are integers from 0 to 65535.
 It needs Linux.
@@ -55,30 +55,30 @@ from .verdicts import NotLegal, Unknown
 
 
 class Monitor:
-    """A running `jepmon script`. Any number of threads of this process may use it, and coroutines, whose blocks then hold an
-    await; at most `concurrency` operations are open at once. It starts here: Refused says that an option was not taken.
+    """A running `jepmon script`. Any number of threads of this process may use it, and coroutines, whose blocks then contain an
+    await. At most `concurrency` operations are open at once. The program starts here, and Refused rejects a wrong option.
 
-    program      its path; else the environment's JEPMON, the one built or released in this repository, or jepmon on the PATH
-    model        what each key is: register, cas-register, mutex, fifo-queue, unordered-queue or set (see set_model)
+    program      the program's path; else the environment's JEPMON, the one built or released in this repository, or jepmon on the PATH
+    model        the object that each key is: register, cas-register, mutex, fifo-queue, unordered-queue or set (see set_model)
     concurrency  1 to 64
-    budget       how many outcomes of a key are followed before it is Unknown, 1 to 65536
-    expected     exceptions that end an operation as :info and go no further, as (TimeoutError, ConnectionError)
-    failed       exceptions that end an operation as :fail and go no further, as (ConnectionRefusedError,): it certainly did not
-                 take place, since nothing was sent. Not where the store's client tries again by itself: its first try may
-                 have been sent. Of classes in both the more special one decides, and where none is, it is an :info
-    out          a folder, as "runs/": the run gets a folder of its own there, by the time, and runs/latest is a link to the newest.
-                 It has the history with times and faults, written as it happens, a script that judges it again, and the verdict;
-                 where that is illegal or unknown also the cause in words and a page, which are made at the end of the monitor's
-                 block or by close. The first line of the exception names the folder. What can't be written once the test runs is
-                 said once, on standard error, and the test goes on
-    unknown      "raise": a key over its budget ends the test by Unknown. "drop": it is judged up to there, its later operations
-                 are not told any more, the other keys go on, and nothing is raised; see dropped. The log has it taken back
-    initial      what each key of a register holds before its first operation; else it is missing. begin says it of one key
-    absent       what the store answers for a missing key in place of None, as "" or 0; writing it deletes the key
-    log          gets each line that tells something, with its :time in nanoseconds since the monitor was made, and the notes;
-                 `jepmon script` with the same options judges it again. A file is best open(path, "w", buffering=1), by lines:
-                 so it is whole where the test is killed
-    timeout      seconds that a reply may take, mostly microseconds; after them jepmon is killed and what was asked is Refused
+    budget       the greatest number of possible outcomes of a key, 1 to 65536; with more it is Unknown
+    expected     exceptions that end an operation as :info and are not raised again, such as (TimeoutError, ConnectionError)
+    failed       exceptions that end an operation as :fail and are not raised again, such as (ConnectionRefusedError,): it certainly did
+                 not take place, since nothing was sent. Do not use it if the store's client retries by itself: its first try may
+                 have been sent. If both have a class of the exception, the more special class decides, and else it is an :info
+    out          a folder, such as "runs/". The run gets a folder of its own there, named by the time; runs/latest links to the newest.
+                 It has the history with times and faults, written as it happens, a script that judges it again, and the verdict.
+                 If that is illegal or unknown, the end of the monitor's block, or close, adds the cause in words and a page. The
+                 first line of the exception names the folder. If a file cannot be written during the test, standard error says so
+                 once, and the test goes on
+    unknown      "raise": a key over its budget ends the test with Unknown. "drop": the key is judged up to there and its later
+                 operations are not recorded; the other keys go on, and nothing is raised. See dropped. The log takes the event back
+    initial      the value of each register before its first operation; else it is missing. begin names the value of one key
+    absent       the store's answer for a missing key instead of None, such as "" or 0; writing it deletes the key
+    log          gets each recorded line, with its :time in nanoseconds since the monitor began, and the notes. `jepmon script` with
+                 the same options judges it again. Open a file with open(path, "w", buffering=1), by lines: then it is complete
+                 even if the test is killed
+    timeout      the seconds that a reply may take (it takes microseconds); then jepmon is killed, and the operation gets Refused
     """
 
     def __init__(
@@ -114,14 +114,14 @@ class Monitor:
     # --- Operations, each a block ---
 
     def read(self, key: int) -> Operation:
-        """Of a register: set op.value to an integer, or None for a missing key. Of a set: to its members."""
+        """Reads a key. Set op.value to the answer: an integer of a register, None for a missing key, the members of a set."""
         return Operation(self._telling, "read", key)
 
     def write(self, key: int, value: Optional[int]) -> Operation:
         return Operation(self._telling, "write", key, self._brought(key, value))
 
     def cas(self, key: int, old: Optional[int], new: Optional[int]) -> Operation:
-        """Sets the key to new where it is old. Where the store says that it was not: op.fail()."""
+        """Sets the key to new if it is old. If the store says that it was not: op.fail()."""
         return Operation(self._telling, "cas", key, f"[{integer(told(self._telling.missing.seen(old)))} {self._brought(key, new)}]")
 
     def add(self, key: int, value: int) -> Operation:
@@ -131,18 +131,18 @@ class Monitor:
         return Operation(self._telling, "enqueue", key, self._brought(key, value))
 
     def dequeue(self, key: int) -> Operation:
-        """Set op.value to the integer that came. None, for an empty queue, counts as op.fail()."""
+        """Receives a message. Set op.value to its integer. None, for an empty queue, counts as op.fail()."""
         return Operation(self._telling, "dequeue", key)
 
     def acquire(self, key: int = 0) -> Operation:
-        """Takes a lock. Where somebody else holds it: op.fail()."""
+        """Takes a lock. If somebody else holds it: op.fail()."""
         return Operation(self._telling, "acquire", key)
 
     def release(self, key: int = 0) -> Operation:
         return Operation(self._telling, "release", key)
 
     def _brought(self, key: int, value: Optional[int]) -> str:
-        """The text of a value that an operation brings in."""
+        """The text of a value that an operation writes."""
         value = self._telling.missing.seen(value)
         text = integer(told(value))
         if value is not None and value != ABSENT:
@@ -152,24 +152,24 @@ class Monitor:
     # --- Clients, keys and faults ---
 
     def run(self, work: Callable[[int], object], threads: int) -> None:
-        """Does work(0) to work(threads - 1), each in a thread of its own, as client 0 and so on. Raises what is not legal, else what
-        one raised first. An exception in one of them, and Ctrl-C, end each other one at its next operation or fault."""
+        """Runs work(0) to work(threads - 1), each in a thread of its own. Raises a verdict that is not legal, else the first exception of
+        a thread. An exception in one thread, and Ctrl-C, end each other one at its next operation or fault."""
         run_clients(self._telling, work, threads)
 
     def keys(self, count: int = 1, limit: int = 3, first: int = 0, most: int = 6) -> Keys:
-        """Keys for a test with timeouts, from `first` on: `count` are open to writes at a time, and writes leave one after `limit`
-        of its operations have timed out, while reads stay on all of them. Of each no more than `most` are open or timed out at
-        once, where it can be (see Keys)."""
+        """Gives the keys of a test with timeouts, from `first` on. `count` of them are open to writes at a time. Writes leave a key after
+        `limit` of its operations have timed out, and reads stay on all keys. If possible, at most `most` operations of a key are
+        open or timed out at once (see Keys)."""
         return Keys(self, count, limit, first, most)
 
     def note(self, text: str) -> None:
-        """Notes a fault of a moment, as "kill n1", in the log and in the run's folder. It is judged nowhere."""
+        """Notes a fault of one moment, such as "kill n1", in the log and in the run's folder. It changes no verdict."""
         self._telling.note(NOTE, folded(text))
 
     @contextlib.contextmanager
     def fault(self, text: str) -> Iterator[None]:
-        """Notes a fault that holds as long as this block, as "cut n1 off". Where the test has ended it does not begin, and raises
-        what an operation would; so a thread of faults ends with the clients."""
+        """Notes a fault that lasts as long as this block, such as "cut n1 off". If the test has ended it does not begin, and raises
+        the exception of an operation; so a thread of faults ends with the clients."""
         text = folded(text)
         self._telling.note(BEGIN, text)
         try:
@@ -180,7 +180,7 @@ class Monitor:
     # --- What is said of a key ---
 
     def begin(self, key: int, value: Optional[int] = ABSENT) -> None:
-        """Says what a register holds at first; without it, the first operation on the key says what Monitor(initial=..) has, or ABSENT."""
+        """Names the first value of a register. Without it, the first operation on the key records that of Monitor(initial=..), or ABSENT."""
         self._telling.begin(key_of(key), self._brought(key, value))
 
     def set_model(self, key: int, model: str) -> None:
@@ -190,47 +190,47 @@ class Monitor:
         self._telling.set_budget(key_of(key), budget)
 
     def number(self, thing: Hashable) -> int:
-        """A number for the thing, the same whenever it is asked for: 0, 1, .. True, 1 and 1.0 have one each. A value of a key that is no
-        such number is a ValueError where the others of the key are, since both may be equal."""
+        """Gives a number for the thing, always the same one: 0, 1, .. True, 1 and 1.0 have one each. Use such numbers for all values of a
+        key or for none: a mixture is a ValueError, since two different values could be equal."""
         return self._numbers.number(thing)
 
     # --- What has come of it ---
 
     @property
     def length(self) -> int:
-        """How many events were told."""
+        """The number of recorded events."""
         return self._telling.length
 
     @property
     def failure(self) -> Optional[NotLegal]:
-        """What is not legal, once it was found."""
+        """The verdict that is not legal, if there is one."""
         return self._telling.failure
 
     @property
     def dropped(self) -> Dict[int, Unknown]:
-        """With unknown="drop": the keys over their budget that are not told any more, and what was said of them."""
+        """With unknown="drop": the keys over their budget, whose operations are no longer recorded, and their verdicts."""
         return self._telling.dropped
 
     @property
     def counts(self) -> Dict[str, Counter[str]]:
-        """How the operations ended, by name: {"read": Counter(ok=4, info=1), ..}. Only an ok is judged, so look at it at the end:
-        a lock that is never granted is legal. The writes by which keys begin do not count."""
+        """The operations by name and outcome: {"read": Counter(ok=4, info=1), ..}. Only an ok is judged, so look at this at the end:
+        a lock that is never granted is legal. The first values of keys do not count."""
         with self._telling.lock:
             return self._telling.told.counts()
 
     def timeouts(self, key: int) -> int:
-        """How many operations of the key have ended as :info and may yet take place; reads do not count. After some it is time
-        for writes to go on at a new key; reads stay, as Monitor.keys does it."""
+        """The number of operations of the key that ended as :info and may yet take place, without reads. After some of them, writes
+        should go to a new key, and reads should stay; Monitor.keys does both."""
         return self._telling.told.timeouts(key)
 
     def pending(self, key: int) -> int:
-        """How many operations of the key are open now."""
+        """The number of open operations of the key."""
         return self._telling.told.pending(key)
 
     # --- The end ---
 
     def close(self) -> str:
-        """Ends the program. Gives the final verdict: `legal`, or the reply that was not; of dropped keys that of the first one."""
+        """Ends the program. Gives the final verdict: `legal`, or the reply that was not; after dropped keys that of the first one."""
         return self._close(None)
 
     def _close(self, error: Optional[BaseException]) -> str:

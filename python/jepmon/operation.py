@@ -30,9 +30,9 @@ class Teller(Protocol):
 
 
 class Block:
-    """What a client may say in the block of an operation. It may set `value`, of a read or a dequeue, until the block ends. Whatever else
-    it sets is an AttributeError at once, which the end of the block raises again if the client has caught it: the operation is then told
-    as an :info, since nobody knows what the client meant. The package itself writes into __dict__."""
+    """The block of an operation, as a client uses it. The client may set `value` of a read or a dequeue until the block ends. Setting
+    anything else is an AttributeError at once. The end of the block raises it again if the client has caught it, and records an :info,
+    since nobody knows what the client meant. The package itself writes into __dict__."""
 
     value: Value = UNSET  # of a read or a dequeue: what it answered
     _name: str
@@ -70,7 +70,7 @@ class Block:
 
     @property
     def told(self) -> bool:
-        """Whether jepmon was told of it: not if its key or object was judged no more."""
+        """Whether the operation was recorded: not if its key or object was no longer judged."""
         return self._told
 
     def fail(self) -> None:
@@ -78,7 +78,7 @@ class Block:
         self.__dict__.update(_said="fail")
 
     def info(self) -> None:
-        """The operation may have taken place, or may yet, as after a timeout that raised nothing."""
+        """The operation may have taken place, or may yet, for example after a timeout that raised nothing."""
         self.__dict__.update(_said="info")
 
 

@@ -30,7 +30,7 @@ class Sources:
         brought = key, part.strip("[]").split()[-1]
         self._brought[brought] += 1 if kind == "invoke" else -1
         if kind == "fail":
-            self._failed[brought] = f"{VERBS[name]} by process {process} in events {began}-{index}, told as a fail"
+            self._failed[brought] = f"{VERBS[name]} by process {process} in events {began}-{index}, recorded as a fail"
 
     def hint(self, line: str) -> str:
         """What is strange in the answer that this line tells, if anything."""
@@ -49,6 +49,6 @@ class Sources:
         if self._brought[key, value] > 0 or value == str(ABSENT):
             return ""
         if self.are_new:
-            return f"no operation that was told brought {value} in"
+            return f"no recorded operation wrote {value}"
         begin = "" if name == "dequeue" else f" monitor.begin({key}, value)"
-        return f"no operation that was told brought {value} in: did key {key} hold it before?{begin}"
+        return f"no recorded operation wrote {value}: did key {key} hold it before?{begin}"

@@ -1,19 +1,19 @@
-"""What a live test raises: a reply of jepmon that is not `legal`, as an exception. They are shown as jepmon.Illegal and so on."""
+"""The exceptions of a live test: replies of jepmon that are not `legal`. They are shown as jepmon.Illegal and so on."""
 from __future__ import annotations
 
 from typing import Optional, Tuple
 
 
 class Failed(Exception):
-    """Raise it in a block: the operation certainly did not take place. The block ends, and the exception goes no further."""
+    """Raise it in a block if the operation certainly did not take place. The block ends, and the exception is not raised again."""
 
     __module__ = "jepmon"
 
 
 class NotLegal(Exception):
-    """A reply of jepmon that is not `legal`, its key and index where it names them, the last events of the key, and, where it
-    is not empty, a hint: what may have been meant. Its status is the exit status that jepmon has for it. Its folder is that of
-    the run, where Monitor(out=..) keeps one; the first line of its text names it."""
+    """A reply of jepmon that is not `legal`, with its key and index if it names them, the last events of the key, and a hint, which may
+    be empty. `status` is the exit status of jepmon for it. `folder` is that of the run, if Monitor(out=..) keeps one; the first line
+    of the text names it."""
 
     __module__ = "jepmon"
     status = 3
@@ -37,20 +37,20 @@ class NotLegal(Exception):
 
 
 class Illegal(NotLegal, AssertionError):
-    """The history is not linearizable: the store has answered wrongly, unless the model was the wrong one (see the hint)."""
+    """The history is not linearizable: the store has answered wrongly, unless the model is wrong (see the hint)."""
 
     __module__ = "jepmon"
     status = 1
 
 
 class Unknown(NotLegal):
-    """A key has had too many operations open or timed out at once: nothing is known of it from here on."""
+    """A key has had too many operations open or timed out at once: jepmon does not judge it from here on."""
 
     __module__ = "jepmon"
     status = 2
 
 
 class Refused(NotLegal):
-    """jepmon did not take an option or an event, has ended, or gave no reply: the test is at fault, not the store."""
+    """jepmon rejected an option or an event, has ended, or gave no reply: the test is at fault, not the store."""
 
     __module__ = "jepmon"

@@ -97,7 +97,7 @@ def legal() -> page.PageInput:
 
 
 def failed() -> page.PageInput:
-    """The fatal event is a :fail: what a read has answered was told as failed."""
+    """The fatal event is a :fail: what a read has answered was recorded as failed."""
     return given("""{:type :invoke, :process 0, :f :write, :value [7 2]}
 {:type :invoke, :process 1, :f :read, :value [7 nil]}
 {:type :ok, :process 1, :f :read, :value [7 2]}

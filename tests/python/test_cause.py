@@ -66,9 +66,9 @@ have been legal.
 200 was last possible just before event 33, the :ok of client 4's write of 502.
 200 was brought in by client 1's write of 200 (events 4 to 14).""",
     "two_winners": """\
-Client 1's cas from 4 to 3 on key 9 was told as failed (event 56), but it must have taken place.
+Client 1's cas from 4 to 3 on key 9 was recorded as failed (event 56), but it must have taken place.
 Without it no order of the operations is possible from event 50 on, the :ok of client 2's read of 3.
-Asked of jepmon: an :info would have been legal. Only what certainly did not take place may be told as :fail.""",
+Asked of jepmon: an :info would have been legal. Only what certainly did not take place may be recorded as :fail.""",
     "lease_runs_out": """\
 Client 3 acquired lock 2, which client 1 had acquired and not released.
 Client 1 had acquired it (events 19 to 40), and in no order of the operations had it been released since.

@@ -253,7 +253,7 @@ class Memory(Monitored):
                 with register.read() as op:
                     op.value = 2
         self.assertEqual(monitor.close(), f"{caught.exception.reply} of part-0030")
-        self.assertTrue(caught.exception.hint.startswith("no operation that was told brought 2 in\nkey 0 of part-0030 is the object "))
+        self.assertTrue(caught.exception.hint.startswith("no recorded operation wrote 2\nkey 0 of part-0030 is the object "))
 
 
 if __name__ == "__main__":

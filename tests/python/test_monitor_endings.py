@@ -93,7 +93,7 @@ class Told(Monitored):
                     raise ConnectionRefusedError
                 with monitor.read(0) as op:
                     op.value = 1
-        self.assertIn("told as a fail: did it take place?", str(caught.exception))
+        self.assertIn("recorded as a fail: did it take place?", str(caught.exception))
 
 
 if __name__ == "__main__":

@@ -90,7 +90,7 @@ class Verdicts(unittest.TestCase):
         self.assertEqual(self.on(4, n1=5, n2=5), stale)
         self.assertEqual(self.on(4, n1=6, n2=6), "LOST or STALE, which can't be told: a write of 6, not acknowledged when the read began, took "
                          "place since.")
-        self.assertEqual(self.on(4, n1=4, n2=4), "The wrong answer stays.")  # of a write that was told as failed
+        self.assertEqual(self.on(4, n1=4, n2=4), "The wrong answer stays.")  # of a write that was recorded as failed
         self.assertEqual(self.on(4, n1=5, n2=4), "Nodes DIVERGED: they still hold different values.")
         self.assertEqual(self.on(4, n1=Reading(None, "no answer (TimeoutError)"), n2=5), stale)
         self.assertIn("can't be told", self.on(4, n1=Reading(None, "no answer (TimeoutError)")))

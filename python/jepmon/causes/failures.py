@@ -9,11 +9,11 @@ from .names import capital, client, listed
 
 
 def of_failure(case: Case) -> Found:
-    """Of an operation that was told as failed, though what others found shows that it took place."""
+    """Of an operation that was recorded as failed, though what others found shows that it took place."""
     forced = case.forced_by()
     told: List[Mention] = mentions([case.fatal])
     shown = case.names.operation(case.fatal)
-    headline = (f"{capital(client(case.fatal))}'s {shown} on {case.object} was told as failed (event {case.front[-1].index}), but it "
+    headline = (f"{capital(client(case.fatal))}'s {shown} on {case.object} was recorded as failed (event {case.front[-1].index}), but it "
                 "must have taken place.")
     sentences: List[str] = []
     if forced is not None:
@@ -22,7 +22,7 @@ def of_failure(case: Case) -> Found:
         sentences.append(f"Without it no order of the operations is possible from event {forced.index} on, the :{forced.kind} of "
                          f"{case.names.owned(by)}.")
     if case.legal_with([case.front[-1]._replace(kind="info")]):
-        sentences.append("Asked of jepmon: an :info would have been legal. Only what certainly did not take place may be told as "
+        sentences.append("Asked of jepmon: an :info would have been legal. Only what certainly did not take place may be recorded as "
                          ":fail.")
     return Found(headline, sentences, told)
 

@@ -44,8 +44,8 @@ def never_sent(case: Case) -> Found:
 def failed(case: Case, enqueues: List[Operation]) -> Found:
     headline = f"{took(case)}, but {'the only enqueue of it' if len(enqueues) == 1 else 'each enqueue of it'} had failed."
     of_whom = listed([f"{client(enqueue)}'s (event {last_event(enqueue)})" for enqueue in enqueues], "and", FEW)
-    said = f"{capital(of_whom)} did not take place, since it was told as failed." if len(enqueues) == 1 else (
-        f"{capital(of_whom)} did not take place, since they were told as failed.")
+    said = f"{capital(of_whom)} did not take place, since it was recorded as failed." if len(enqueues) == 1 else (
+        f"{capital(of_whom)} did not take place, since they were recorded as failed.")
     return Found(headline, [said] + other_answers(case), mentions([case.fatal] + enqueues))
 
 

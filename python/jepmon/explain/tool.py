@@ -42,7 +42,7 @@ def parser() -> argparse.ArgumentParser:
     made = Words(prog=command.tool(NAME), description=description, formatter_class=argparse.RawDescriptionHelpFormatter)
     made.add_argument("file", metavar="FILE", help="a recorded history, - for standard input")
     for option in OPTIONS:
-        made.add_argument(option, metavar="X", help="as of jepmon check")
+        made.add_argument(option, metavar="X", help="as for jepmon check")
     return made
 
 

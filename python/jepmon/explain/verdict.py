@@ -48,9 +48,9 @@ def of_sources(of_key: Sequence[Event], options: Options, shower: Shower) -> Ite
         if value in failed and (taken[value] == 0 or options.model != "set"):
             began, event = failed[value]
             yield (f"{name} was {BROUGHT[event.name or '']} by {shower.client(event.process)} in events {began.index}-{event.index}, "
-                   "told as :fail: did it take place? Then it is an :info, or the store's fault")
+                   "recorded as :fail: did it take place? Then it is an :info, or the store's fault")
         elif taken[value] == 0:
-            yield f"no {source} of {name} was told before: did key {answer.key} hold it at first?"
+            yield f"no {source} of {name} was recorded before: did key {answer.key} hold it at first?"
 
 
 def sources_of(of_key: Sequence[Event], reader: str) -> "Tuple[Dict[int, Tuple[Event, Event]], Counter[int]]":

@@ -17,7 +17,7 @@ def add(parser: argparse.ArgumentParser) -> None:
     """Adds the options to a command line."""
     group = parser.add_argument_group("rows of JSON, CSV and logs")
     group.add_argument("--map", metavar="FIELD=NAME", action="append", default=[],
-                       help="take a field for the one of this accepted name, as --map path=key; a path into objects has dots")
+                       help="read a field as the one of this known name, such as --map path=key; a path into objects has dots")
     group.add_argument("--mapping", metavar="FILE", help="a mapping file (JSON): fields, words, lines of a log, columns")
     group.add_argument("--time-unit", choices=tuple(UNITS), help="the unit of times that are numbers and do not name one")
     group.add_argument("--unfinished", choices=("info",), help="an operation that is open when its client invokes the next one never returned")
@@ -27,10 +27,10 @@ def add(parser: argparse.ArgumentParser) -> None:
 def add_order(parser: argparse.ArgumentParser) -> None:
     """Adds the options of any form whose events have times."""
     group = parser.add_argument_group("events of any form")
-    group.add_argument("--ignore", metavar="FIELD", action="append", default=[], help="a field that says nothing of the history")
+    group.add_argument("--ignore", metavar="FIELD", action="append", default=[], help="a field without a meaning for the history")
     group.add_argument("--order", choices=ORDERS, help="take events in the order of their lines, of their :index, or of their times")
-    group.add_argument("--skew", metavar="TIME", help="each clock may be wrong by so much, as 5ms: orders within it are not taken as certain")
-    group.add_argument("--clients", choices=CLIENTS, help="of several files: clients of one name are apart, a client for each file, or one")
+    group.add_argument("--skew", metavar="TIME", help="the error of each clock, such as 5ms: orders within it are not certain")
+    group.add_argument("--clients", choices=CLIENTS, help="for several files: clients of one name are apart, a client for each file, or one")
     group.add_argument("--outcome", metavar="WORD=KIND", action="append", default=[], type=_contradiction, help="false=fail: an :ok of EDN, or of a dequeue, "
                        "that is answered by false is a :fail; error=info: an :ok with an :error is an :info; KIND is ok, fail or info")
 

@@ -10,6 +10,6 @@ def add(parser: argparse.ArgumentParser) -> None:
     group = parser.add_argument_group("values")
     group.add_argument("--values", choices=WAYS, help="which are one: exact (1, 1.0 and \"1\" are three), text (those of one text: 1 and "
                        "\" 1\"), number (those of one number: 1, 1.0, \"1\" and true)")
-    group.add_argument("--absent", metavar="VALUE", action="append", default=[], help="an answer that means that the key is missing, as \"\", 0 "
+    group.add_argument("--absent", metavar="VALUE", action="append", default=[], help="an answer that means that the key is missing, such as \"\", 0 "
                        "or None, whatever its type; it may be said several times")
-    group.add_argument("--initial", metavar="VALUE", help="what each register holds before the first operation: an integer or a text")
+    group.add_argument("--initial", metavar="VALUE", help="the value of each register before the first operation: an integer or a text")

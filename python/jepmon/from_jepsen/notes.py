@@ -21,7 +21,7 @@ def notes(history: History, writer: Writer) -> Iterator[str]:
     yield from (f"{note}: {count}" for note, count in history.notes.items())
     yield from notes_of_absent(history, writer) if writer.registers else notes_of_nil(history, writer.sets)
     if writer.processes.renumbered:
-        yield "processes are numbered anew, Jepsen's own stand as :jepsen-process"
+        yield "processes get new numbers, Jepsen's own stand as :jepsen-process"
     yield from writer.keys.told("key")
     yield from writer.values.told("value")
 

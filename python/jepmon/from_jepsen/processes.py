@@ -12,7 +12,7 @@ from .refusal import TooMany
 
 
 class Processes(NamedTuple):
-    """The threads that a history needs, and whether its processes are numbered anew."""
+    """The threads that a history needs, and whether its processes get new numbers."""
 
     threads: int
     renumbered: bool

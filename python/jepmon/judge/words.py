@@ -14,15 +14,15 @@ NAME = "judge"
 MOST_JOBS = 1024
 MOST_LEAST = 1_000_000_000
 SHORT, LONG, MOST_SECONDS = 10, 600, 1_000_000  # seconds for keys that are over their budget
-DESCRIPTION = """Judges a recorded history: finds out its form, the model and the concurrency, has it judged by the proved program, and tells the cause.
+DESCRIPTION = """Judges a recorded history: finds its form, model and concurrency, has the proved program judge it, and prints the cause.
 
   {tool} store/latest                    a Jepsen store; or a file, also compressed by gzip
   {tool} history.jsonl --html page.html  JSON, CSV or a log, and a page that shows the cause
-  some-test | {tool} --out judged        standard input; what came of it goes to a folder
+  some-test | {tool} --out judged        standard input; the results go to a folder
   {tool} history.edn --jobs 4            in shards by key, on four processes: of any length, and any number of keys and clients
 
-The report and the verdict go to standard output, the verdict last. What was found, hints and the cause go to standard error; they
-are not proved. Exit status: 0 legal, 1 illegal, 2 unknown, 3 where there is no verdict.
+The report and the verdict go to standard output, the verdict last. Findings, hints and the cause go to standard error; they are not
+proved. Exit status: 0 legal, 1 illegal, 2 unknown, 3 no verdict.
 """
 
 
@@ -80,41 +80,41 @@ def number(name: str, limits: range) -> "type[int]":
 def given(words: Optional[List[str]]) -> Given:
     called = command.tool(NAME)
     parser = Words(prog=called, description=DESCRIPTION.format(tool=called), formatter_class=argparse.RawDescriptionHelpFormatter)
-    parser.add_argument("history", nargs="*", metavar="HISTORY", help="a file or a folder; - or nothing is standard input; several files, as "
+    parser.add_argument("history", nargs="*", metavar="HISTORY", help="a file or a folder; - or nothing is standard input; several files, such as "
                         "those of several clients, are one history in the order of their times")
     parser.add_argument("--model", metavar="NAME", choices=tuple(kinds.MODELS),
-                        help="the object that each key is, in place of the one found: " + ", ".join(kinds.MODELS))
+                        help="the object that each key is, instead of the one found: " + ", ".join(kinds.MODELS))
     parser.add_argument("--concurrency", metavar="N", type=number("a number of threads", range(1, kinds.PROCESSES.stop)),
-                        help="the threads of the clients, in place of the number found; more than 64 are judged in shards")
+                        help="the threads of the clients, instead of the number found; more than 64 are judged in shards")
     parser.add_argument("--budget", metavar="N", type=number("a number of ends", kinds.BUDGETS), default=4096,
-                        help="ends of a key that are kept apart (4096)")
+                        help="the greatest number of ends (possible outcomes) of a key (4096)")
     parser.add_argument("--workers", metavar="N", type=number("a number of threads", range(1, kinds.THREADS + 1)),
                         help="threads that judge keys side by side")
     parser.add_argument("--jobs", metavar="N", type=number("a number of processes", range(1, MOST_JOBS + 1)),
-                        help="judge in shards by key, on so many processes; a history that one check does not take is judged so on all "
+                        help="judge in shards by key, with N processes; a history that one check does not take is judged so on all "
                         "processors")
-    parser.add_argument("--dask", metavar="ADDRESS", help="judge the shards on the Dask cluster whose scheduler is there, as "
+    parser.add_argument("--dask", metavar="ADDRESS", help="judge the shards on the Dask cluster of this scheduler, such as "
                         "tcp://HOST:8786; its workers need the program, and distributed must be installed here")
-    parser.add_argument("--temporary", metavar="DIR", help="the folder for all temporary files, which take about as much room as the "
+    parser.add_argument("--temporary", metavar="DIR", help="the folder for all temporary files, which need about as much room as the "
                         "history")
     parser.add_argument("--key", metavar="K", type=number("a key", kinds.KEYS),
                         help="the history has no keys: each value in it is of key K")
     nil = parser.add_mutually_exclusive_group()
-    nil.add_argument("--nil-is-absent", action="store_true", help="nil is what a missing key answers, and is judged")
-    nil.add_argument("--nil-is-unknown", action="store_true", help="nil as the answer of a register says nothing of what it holds")
-    parser.add_argument("--strict-input", action="store_true", help="refuse each guess, as of the model or of a key, in place of judging by it")
+    nil.add_argument("--nil-is-absent", action="store_true", help="nil is the answer of a missing key, and is judged")
+    nil.add_argument("--nil-is-unknown", action="store_true", help="nil as the answer of a register does not tell its value")
+    parser.add_argument("--strict-input", action="store_true", help="refuse each guess, for example of the model, instead of judging by it")
     mapping_words.add(parser)
     meant_words.add(parser)
-    parser.add_argument("--wide", action="store_true", help=f"take up to {LONG} seconds, in place of {SHORT}, to decide keys that are over "
-                        "their budget by what is known afterwards")
+    parser.add_argument("--wide", action="store_true", help=f"take up to {LONG} seconds, instead of {SHORT}, to decide keys over their "
+                        "budget afterwards")
     parser.add_argument("--wide-seconds", metavar="N", type=number("a number of seconds", range(0, MOST_SECONDS + 1)),
-                        help="take up to so many seconds to decide these; 0 leaves it out")
-    parser.add_argument("--html", metavar="PAGE", help="write a page that shows the cause; of a history with times also PAGE-rates.html: rates and latencies")
-    parser.add_argument("--out", metavar="DIR", help="write the history as judged, the report, the cause, the page, and the command "
+                        help="take up to N seconds to decide these; 0: do not try")
+    parser.add_argument("--html", metavar="PAGE", help="write a page that shows the cause; for a history with times also PAGE-rates.html: rates and latencies")
+    parser.add_argument("--out", metavar="DIR", help="write the judged history, the report, the cause, the page, and the command "
                         "that judges it again, into this folder")
     parser.add_argument("--least", metavar="N", type=number("a number of operations", range(0, MOST_LEAST + 1)), default=1,
-                        help="there is no verdict where fewer operations were ok whose answers say something: status 3 (1)")
-    parser.add_argument("--json", action="store_true", help="print one JSON object in place of the report, for other programs "
+                        help="no verdict, status 3, if fewer operations with a judged answer were ok (1)")
+    parser.add_argument("--json", action="store_true", help="print one JSON object instead of the report, for other programs "
                         "(docs/FORMATS.md has its fields)")
     parser.add_argument("--no-cause", dest="cause", action="store_false", help="the verdict alone")
     try:

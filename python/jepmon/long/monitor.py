@@ -14,11 +14,11 @@
 
         monitor.run(client, 200)
 
-A handle goes on as long as the test. The object behind it is replaced from time to time by one of a new name, which the store has
-never seen; an operation ends on the object on which it began, so nothing stops for it. It is replaced where the program that judges
-it has had its events (new objects then go to a new program), where too many of its operations timed out, and where it is over its budget;
-and where all of its operations are taken, or all threads of its program, another one comes beside it. By locality a history is
-linearizable where each object's is, so the verdicts of the programs, one after another and side by side, are that of the test.
+A handle lasts as long as the test. From time to time a new object replaces the object behind it, with a name that the store has
+never seen. An operation ends on the object on which it began, so nothing stops. An object is replaced if the program that judges it
+has had its events (new objects then go to a new program), if too many of its operations timed out, and if it is over its budget. If all
+of its operations are in use, or all threads of its program, another object is added. By locality a history is linearizable if each
+object's is, so the verdicts of all programs together are the verdict of the test.
 """
 from __future__ import annotations
 
@@ -53,20 +53,21 @@ NOT_ALL = "unknown: not all was judged"
 
 
 class LongMonitor:
-    """As Monitor, for any number of events, objects and clients. Any number of threads may use it, and coroutines. Of the words those that
-    Monitor has mean the same; a key over its budget is always left, and counted.
+    """Like Monitor, for any number of events, objects and clients. Any number of threads may use it, and coroutines. Arguments that Monitor
+    has mean the same. A key over its budget is always left, and counted.
 
-    unknown  "raise": where not all was judged, the end of the monitor's block raises Unknown, which says what was not. "drop": it does not;
-             see close
+    unknown  "raise": if some operations were not judged, the end of the monitor's block raises Unknown, which lists them. "drop": it raises
+             nothing; see close
 
-    out      a folder, as "runs/": the run gets one of its own there, with a folder for each part, which is all that one program has judged
-    keep     so many legal parts stay in it, the newest; None: all. A part has some 20 megabytes
-    forget   is called with the name of each object that is judged no more, so that the store may delete it
-    events   after so many of a part its objects are replaced: the memory of the test goes with it
-    keys     objects of a part
-    page     whether the run's folder gets a page of it at the end
-    names    what the names of objects begin with: a number follows. Unless given it is what no other run has, so that no name is met
-             twice in a store
+    out      a folder, such as "runs/": the run gets one of its own there, with a folder for each segment (part-0001, ..), which has the
+             history of one program
+    keep     the number of legal segments that stay in it, the newest ones; None: all. A segment has some 20 megabytes
+    forget   is called with the name of each object that is no longer judged, so that the store may delete it
+    events   the events of a segment after which its objects are replaced: the memory of the test grows with it
+    keys     the objects of a segment
+    page     whether the run's folder gets a page of the run at the end
+    names    the begin of the names of objects; a number follows. The default is different for each run, so no name appears twice in a
+             store
     """
 
     def __init__(
@@ -100,8 +101,8 @@ class LongMonitor:
         self._parts = Parts(settings, limits(events, keys, concurrency), folder, forget)
 
     def fresh(self, model: Optional[str] = None, changes: Optional[int] = None) -> Handle:
-        """A new object, as a handle. Its operations are blocks, as those of Monitor; its lock is released by op.object.release(), where op
-        was its acquire. After so many `changes`, as of a set, which each read gives as a whole, the object is replaced."""
+        """Gives a new object, as a handle. Its operations are blocks, like those of Monitor. A lock is released by op.object.release(), and op
+        is its acquire. After `changes` changes the object is replaced; use it for sets, since each read gives the whole set."""
         model = self._model if model is None else model
         if model not in MODELS:
             raise ValueError(f"a model is one of {', '.join(MODELS)}, not {model!r}")
@@ -110,18 +111,18 @@ class LongMonitor:
     # --- Clients and faults ---
 
     def run(self, work: Callable[[int], object], threads: int) -> None:
-        """Does work(0) to work(threads - 1), each in a thread of its own. Raises what is not legal, else what one raised first. An
-        exception in one of them, and Ctrl-C, end each other one at its next operation or fault."""
+        """Runs work(0) to work(threads - 1), each in a thread of its own. Raises a verdict that is not legal, else the first exception of a
+        thread. An exception in one thread, and Ctrl-C, end each other one at its next operation or fault."""
         run_clients(self._parts, work, threads)
 
     def note(self, text: str) -> None:
-        """Notes a fault of a moment, as "kill n1", in the run's folder. It is judged nowhere."""
+        """Notes a fault of one moment, such as "kill n1", in the run's folder. It changes no verdict."""
         self._parts.note(NOTE, folded(text))
 
     @contextlib.contextmanager
     def fault(self, text: str) -> Iterator[None]:
-        """Notes a fault that holds as long as this block, as "cut n1 off". Where the test has ended it does not begin, and raises
-        what an operation would."""
+        """Notes a fault that lasts as long as this block, such as "cut n1 off". If the test has ended it does not begin, and raises the
+        exception of an operation."""
         text = folded(text)
         self._parts.note(BEGIN, text)
         try:
@@ -133,44 +134,44 @@ class LongMonitor:
 
     @property
     def folder(self) -> Optional[pathlib.Path]:
-        """Of this run."""
+        """The folder of this run."""
         return self._folder.path if self._folder is not None else None
 
     @property
     def lost(self) -> Optional[str]:
-        """What of the run's folder could not be written first, and why, once its part is closed; None where it is whole."""
+        """The first file of the run's folder that could not be written, and why, once its segment is closed; None if it is complete."""
         return self._folder.lost if self._folder is not None else None
 
     @property
     def length(self) -> int:
-        """How many events were told."""
+        """The number of recorded events."""
         with self._parts.lock:
             return self._parts.tally.events + sum(part.length for part in self._parts.untallied)
 
     @property
     def parts(self) -> int:
-        """How many programs were begun."""
+        """The number of programs that were started."""
         return self._parts.begun
 
     @property
     def failure(self) -> Optional[NotLegal]:
-        """What is not legal, once it was found."""
+        """The verdict that is not legal, if there is one."""
         return self._parts.failure
 
     @property
     def unjudged(self) -> int:
-        """How many operations were not told, since their object was judged no more where they began."""
+        """The number of operations that were not recorded, since their object was no longer judged when they began."""
         return self._parts.tally.unjudged
 
     @property
     def dropped(self) -> int:
-        """How many objects were over their budget, and so were judged up to there."""
+        """The number of objects over their budget, which were judged up to there."""
         with self._parts.lock:
             return self._parts.tally.dropped + sum(len(part.dropped) for part in self._parts.untallied)
 
     @property
     def counts(self) -> Dict[str, Counter[str]]:
-        """How the operations ended, by name: {"read": Counter(ok=4, info=1), ..}. Only an ok is judged, so look at it at the end."""
+        """The operations by name and outcome: {"read": Counter(ok=4, info=1), ..}. Only an ok is judged, so look at this at the end."""
         with self._parts.lock:
             counts: Dict[str, Counter[str]] = {}
             for counted in [self._parts.tally.counts, *(part.counts() for part in self._parts.untallied)]:
@@ -180,8 +181,8 @@ class LongMonitor:
     # --- The end ---
 
     def close(self) -> str:
-        """Ends the programs. Gives the final verdict: `legal` where all was judged and is; else the first reply that was not, with its
-        part, and, each on a line, what was not judged."""
+        """Ends the programs. Gives the final verdict: `legal` if every operation was judged and legal; else the first reply that was not
+        legal, with its segment, and, each on a line, the counts of operations and objects that were not judged."""
         return self._close(None)
 
     def _close(self, error: Optional[BaseException]) -> str:

@@ -54,7 +54,7 @@ def headline(page: Page) -> str:
         return given.headline
     event = next((event for event in page.choice.events if event.index == page.fatal), None)
     if event is None:
-        return "Each front of the history is linearizable." if given.verdict == "legal" else ""
+        return "Each prefix of the history is linearizable." if given.verdict == "legal" else ""
     if given.verdict.startswith("unknown"):
         return (f"At event {event.index} more than {counted(given.budget, 'outcome')} were possible, which is the budget: nothing "
                 "is said of this key from there on.")

@@ -18,9 +18,9 @@ DESCRIPTION = """Shows all runs of a folder at a glance: a line each, the newest
 
   {tool}                 the folder runs/
   {tool} elsewhere       another one
-  {tool} --redraw        makes the page of each run anew
+  {tool} --redraw        makes the page of each run again
 
-A run that was killed has no page yet: it gets one. Exit status: 0; 3 if the folder can't be read or written.
+A run that was killed has no page yet: it gets one. Exit status: 0; 3 if the folder cannot be read or written.
 """
 
 
@@ -47,8 +47,8 @@ def _parser() -> Words:
     called = command.tool(NAME)
     parser = Words(prog=called, description=DESCRIPTION.format(tool=called), formatter_class=argparse.RawDescriptionHelpFormatter)
     parser.add_argument("folder", metavar="FOLDER", nargs="?", default="runs", help="where the runs are (runs)")
-    parser.add_argument("--redraw", action="store_true", help="make the page of each run anew, also where there is one")
-    parser.add_argument("--whole", action="store_true", help="with all parts of long runs, in place of the newest ones")
+    parser.add_argument("--redraw", action="store_true", help="make the page of each run again, also if there is one")
+    parser.add_argument("--whole", action="store_true", help="with all segments of long runs, instead of the newest ones")
     return parser
 
 

@@ -29,8 +29,8 @@ NAME = "shards"
 DESCRIPTION = """Judges a recorded history of any length in shards by key, on as many machines as there are.
 
   {tool} split HISTORY DIR     writes the shards of a history, and prints the name of each
-  {tool} judge SHARD..         has shards judged by jepmon check; what was judged before is not judged again
-  {tool} join DIR              prints the report that one check of the history would print, where all shards are judged
+  {tool} judge SHARD..         has jepmon check judge shards; judged ones are not judged again
+  {tool} join DIR              prints the report of one check of the whole history, if all shards are judged
 
 With GNU parallel, on this machine, or on others where {tool} and jepmon are installed:
 
@@ -39,7 +39,7 @@ With GNU parallel, on this machine, or on others where {tool} and jepmon are ins
   parallel --retries 3 --sshloginfile HOSTS --transferfile {{}} --return {{.}}.out --cleanup {tool} judge ::: DIR/*.edn
   {tool} join DIR
 
-Exit status of split and judge: 0, or 3 where it can't be done. Of join: 0 legal, 1 illegal, 2 unknown, 3 where there is no verdict.
+Exit status of split and judge: 0, or 3 on failure. Of join: 0 legal, 1 illegal, 2 unknown, 3 no verdict.
 """
 CHUNK = 1 << 18
 
@@ -55,15 +55,15 @@ def words() -> argparse.Namespace:
     of_split = tools.add_parser("split", help="write the shards of a history into a folder")
     of_split.add_argument("history", metavar="HISTORY", help="a file or a folder; - is standard input")
     of_split.add_argument("folder", metavar="DIR", help="a new folder, or an empty one")
-    of_split.add_argument("--concurrency", type=int, metavar="N", help="the threads of the clients, in place of the number found")
+    of_split.add_argument("--concurrency", type=int, metavar="N", help="the threads of the clients, instead of the number found")
     of_split.add_argument("--model", choices=tuple(kinds.MODELS), metavar="NAME",
-                          help="the object that each key is, in place of the one found")
-    of_split.add_argument("--budget", type=int, default=4096, metavar="N", help="ends of a key that are kept apart (4096)")
+                          help="the object that each key is, instead of the one found")
+    of_split.add_argument("--budget", type=int, default=4096, metavar="N", help="the greatest number of ends (possible outcomes) of a key (4096)")
     of_split.add_argument("--jobs", type=int, metavar="N", help="processes that read the history side by side")
     of_split.add_argument("--temporary", metavar="DIR", help="the folder for temporary files")
     of_judge = tools.add_parser("judge", help="have shards judged")
     of_judge.add_argument("shards", nargs="+", metavar="SHARD", help="files that split has written")
-    of_join = tools.add_parser("join", help="join what was judged")
+    of_join = tools.add_parser("join", help="join the judged shards")
     of_join.add_argument("folder", metavar="DIR", help="the folder of the shards")
     try:
         return parser.parse_args()

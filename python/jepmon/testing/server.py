@@ -1,4 +1,4 @@
-"""What a server is to the test: how its nodes are started, and how its clients speak. One file for a server; template.py is the least."""
+"""A server under test: the commands of its nodes, and its clients. One file for a server; template.py is the smallest."""
 from __future__ import annotations
 
 import shutil
@@ -15,22 +15,23 @@ ALL_STRIKES = ("kill", "pause", "cut", "part", "slow", "halves", "oneway", "ring
 
 
 class Client:
-    """What one thread of clients calls, with the operations of its object: `read` and `write` of a register; `cas` too of a
+    """The client of one thread, with the operations of its object: `read` and `write` of a register; also `cas` of a
     cas-register; `acquire` and `release` of a mutex; `enqueue` and `dequeue` of a queue; `add` and `read` of a set. Values are
-    integers. `read` of a register and `dequeue` give None where there is nothing; `cas`, `acquire` and `release` give whether it
-    took place. Each returns once the server has answered. Where it has not, an exception says what is known:
+    integers. `read` of a register and `dequeue` give None if there is no value; `cas`, `acquire` and `release` give whether they
+    took effect. Each returns once the server has answered. If it has not, an exception says what is known:
 
-    certain  it certainly did not take place, as where the connection was refused, so that nothing was sent: a :fail
-    unsure   it may have taken place, or may yet, as after a timeout: an :info
+    certain  it certainly did not take place, for example if the connection was refused, so that nothing was sent: a :fail
+    unsure   it may have taken place, or may yet, for example after a timeout: an :info
 
-    Failed (jepmon.testing.Failed) is certain without being named, as where a message has come before. Any other exception is a fault of the client, and ends the test. It must try nothing again by itself."""
+    Failed (jepmon.testing.Failed) is always certain; raise it if a message has come before. Any other exception is a fault of the
+    client, and ends the test. A client must not retry by itself."""
 
     certain: Exceptions = (ConnectionRefusedError,)
     unsure: Exceptions = (OSError,)
-    work: float = 0.02  # of a lock: seconds that it is held at most
+    work: float = 0.02  # the seconds for which a lock is held at most
 
     def rest(self, seconds: float) -> None:
-        """Does something else for a time, as while it holds a lock."""
+        """Does something else for a time, for example while it holds a lock."""
         time.sleep(seconds)
 
     def close(self) -> None:
@@ -38,8 +39,8 @@ class Client:
 
 
 class Leases:
-    """Of a lock with a lease: what a client could not give back. It is tried again before the next acquire, which the :info of its
-    release allows, since that may take place at any later moment; so a lock is not held for the rest of its lease."""
+    """The locks with a lease that a client could not release. It tries again before the next acquire. The :info of the release allows
+    this, since the release may take place at any later moment. So no lock is held for the rest of its lease."""
 
     def __init__(self) -> None:
         self._owed: List[Tuple[int, str]] = []
@@ -57,30 +58,30 @@ class Leases:
 
 
 class Plant(NamedTuple):
-    """A fault that is known, and that the test must find."""
+    """A known fault, which the test must find."""
 
     text: str  # what is wrong
     model: str
-    nemesis: str = "none"  # the strikes by which it shows
-    nodes: int = 0  # how many it needs, where that is not the server's own number
+    nemesis: str = "none"  # the strikes that show it
+    nodes: int = 0  # the nodes that it needs, if not the server's own number
 
 
 class Server:
-    """A server or a group of them. A class of one's own needs `objects`, `command` and `client`."""
+    """A server or a group of them. A subclass needs `objects`, `command` and `client`."""
 
     programs: Mapping[str, str] = {}  # each program that it needs, and the package of Debian that has it
     objects: Mapping[str, Type[Client]] = {}  # the models that it can be, and the client of each; the first is the default
-    bears: Mapping[str, Tuple[str, ...]] = {}  # of a model: the strikes under which it ought to be right, where not ALL_STRIKES are
-    survives_power: bool = False  # by its first durability: what it has acknowledged is synced, so that `all` has power and tear too
-    durabilities: Mapping[str, str] = {}  # how it may keep what it acknowledges, each with a text; --durability NAME sets self.durability
-    strikes: Mapping[str, Strike] = {}  # of its own, by name (strikes/kind.py)
-    cannot: Mapping[str, str] = {}  # strikes that it can't be tested under, and why
-    workloads: Mapping[str, Type[Work]] = {}  # of its own, by model: what clients do (workloads.py)
+    bears: Mapping[str, Tuple[str, ...]] = {}  # by model: the strikes under which it ought to be right, if not ALL_STRIKES
+    survives_power: bool = False  # with its first durability it syncs acknowledged data, so that `all` has power and tear too
+    durabilities: Mapping[str, str] = {}  # settings for acknowledged data, each with a text; --durability NAME sets self.durability
+    strikes: Mapping[str, Strike] = {}  # its own strikes, by name (strikes/kind.py)
+    cannot: Mapping[str, str] = {}  # strikes that it cannot be tested under, and why
+    workloads: Mapping[str, Type[Work]] = {}  # its own workloads, by model (workloads.py)
     plants: Mapping[str, Plant] = {}
     ports: Tuple[str, ...] = ("client",)  # the names of the ports of each node
-    size: int = 1  # how many nodes there are, where --nodes does not say
+    size: int = 1  # the number of nodes without --nodes
     sizes: range = range(1, 8)
-    by_addresses: bool = False  # several nodes find one another by their addresses alone, so that they take network namespaces
+    by_addresses: bool = False  # several nodes find one another by their addresses alone, so they need network namespaces
     in_turn: bool = False  # whether a node is started once the one before is ready
     crashes: Sequence[str] = ()  # regular expressions: a line of a node's log that one of them matches is a crash, which is a finding
     patience: float = 120.0  # seconds until a node is ready, and until it answers again at the end
@@ -98,32 +99,32 @@ class Server:
 
     @classmethod
     def version(cls) -> Sequence[str]:
-        """The words that print the version of the server, which the page of a run shows; none, where it has none."""
+        """The command that prints the version of the server, for the page of a run; empty if it has none."""
         return ()
 
     def command(self, node: Node) -> List[str]:
-        """The words that start a node, by the whole path of its program: it is run in node.folder, where its data go. It listens at
+        """The command that starts a node, with the whole path of its program. It runs in node.folder, which gets its data, and listens at
         node.address, at node.ports."""
         raise NotImplementedError
 
     def client(self, number: int) -> Client:
-        """A client for thread `number`; a node is reached at node.address and node.port."""
+        """A client for thread `number`; node.address and node.port lead to a node."""
         raise NotImplementedError
 
     def prepare(self, node: Node) -> None:
         """Lays out the folder of a node before its first start."""
 
     def ready(self, node: Node) -> None:
-        """Raises until the node is ready. It is asked at its own port, whatever is done to the links."""
+        """Raises until the node is ready. It asks the node at its own port, which faults of links do not touch."""
         node.accepts()
 
     def begun(self) -> None:
-        """All nodes are ready, before the first operation: makes tables, queues and the like."""
+        """Makes tables, queues and the like, once all nodes are ready, before the first operation."""
 
     def leader(self) -> Optional[Node]:
-        """The node that leads, where the server has such a one and can say which. It may take a second at most, and raise."""
+        """The leading node, if the server has one and can name it. It may take a second at most, and raise."""
         return None
 
     def node_of(self, number: int) -> Node:
-        """The node of a client: each has one of its own, as far as they reach."""
+        """The node of a client: each client has one of its own while there are enough."""
         return self.nodes[number % len(self.nodes)]

@@ -28,11 +28,11 @@ DESCRIPTION = """Starts a server, lets clients use it while faults strike, and h
 
   {tool} etcd                           three nodes, killed, paused and cut off, for 20 seconds
   {tool} redis --object mutex           the lock SET NX PX
-  {tool} redis --plant lease            a fault that is known, and is found
-  {tool} template > mine.py             one file that tests a server of yours; then: {tool} ./mine.py
+  {tool} redis --plant lease            a known fault, which the test finds
+  {tool} template > mine.py             one file to test your own server; then: {tool} ./mine.py
 
 The servers are Debian's, in folders and at ports of their own, and end with the test. Exit status: 0 legal, 1 illegal, or messages
-were lost, 2 unknown, 3 where there is no verdict.
+were lost, 2 unknown, 3 no verdict.
 """
 
 
@@ -41,7 +41,7 @@ class Words(command.Words):
 
 
 def given(words: Optional[List[str]]) -> Optional[Given]:
-    """What the words say; None where they ask for the template."""
+    """The test that the arguments ask for; None if they ask for the template."""
     parser = _parser()
     if {"-h", "--help"} & set(sys.argv[1:] if words is None else words):
         parser.epilog = "\n".join(_described())
@@ -71,7 +71,7 @@ def given(words: Optional[List[str]]) -> Optional[Given]:
     given = Given(server, model, parsed.plant or "", seconds, parsed.clients, parsed.keys, parsed.seed, nemesis, parsed.rate, nodes,
                   parsed.network, parsed.least, parsed.patience, parsed.out, parsed.keep, parsed.durability or "", parsed.keep_nodes, stages, reserved,
                   parsed.test_count)
-    planned(given)  # what can't be is said before anything starts
+    planned(given)  # rejects what is impossible before anything starts
     return given
 
 
@@ -79,41 +79,41 @@ def _parser() -> Words:
     called = command.tool(NAME)
     parser = Words(prog=called, description=DESCRIPTION.format(tool=called), formatter_class=argparse.RawDescriptionHelpFormatter)
     parser.add_argument("server", metavar="SERVER", help=f"{', '.join(SERVERS)}, or a Python file that has a Server; {TEMPLATE} prints one")
-    parser.add_argument("--object", metavar="MODEL", help="what each key is: " + ", ".join(kinds.MODELS))
-    parser.add_argument("--plant", metavar="NAME", help="a fault of the server that is known, by its name")
-    parser.add_argument("--durability", metavar="NAME", help="how the server keeps what it acknowledges (the safest that it has)")
-    parser.add_argument("--time", metavar="SECONDS", type=_positive("seconds"), default=20.0, help="how long clients are at work (20)")
+    parser.add_argument("--object", metavar="MODEL", help="the object that each key is: " + ", ".join(kinds.MODELS))
+    parser.add_argument("--plant", metavar="NAME", help="a known fault of the server, by its name")
+    parser.add_argument("--durability", metavar="NAME", help="the server's setting for acknowledged data (the safest that it has)")
+    parser.add_argument("--time", metavar="SECONDS", type=_positive("seconds"), default=20.0, help="the time for which clients work (20)")
     parser.add_argument("--clients", metavar="N", type=_within("clients", 1, MOST_CLIENTS), default=5, help="threads of clients (5)")
     parser.add_argument("--keys", metavar="N", type=_within("keys", 1, 1000), default=5, help="keys that are open to changes at once (5)")
     parser.add_argument("--rate", metavar="N", type=_positive("operations a second", zero=True), default=400.0,
-                        help="operations a second of all clients; 0 is as many as they can (400)")
-    parser.add_argument("--phases", metavar="PHASES", help="what clients do when, as 5:strikes=off,20:rate=1000,5:changes=0:limit=200: each is "
-                        "its seconds, with a rate, a share of changes, a limit of operations, and whether something strikes; for --time")
-    parser.add_argument("--reserve", metavar="CLIENTS", help="clients that do one thing alone, as changes=2,reads=1")
+                        help="operations a second of all clients; 0: as many as they can (400)")
+    parser.add_argument("--phases", metavar="PHASES", help="phases instead of --time, such as 5:strikes=off,20:rate=1000,5:changes=0:limit=200: "
+                        "the seconds of each, with a rate, a share of changes, a limit of operations, and strikes=off")
+    parser.add_argument("--reserve", metavar="CLIENTS", help="clients that only change, or only read, such as changes=2,reads=1")
     parser.add_argument("--test-count", metavar="N", type=_within("tests", 1, 10_000), default=1,
-                        help="so many tests, each with the next seed, and a summary (1)")
-    parser.add_argument("--seed", metavar="N", type=int, default=1, help="of what is drawn: operations, phases and strikes (1)")
-    parser.add_argument("--nemesis", metavar="STRIKES", help=f"all, none, or some of {', '.join(STRIKES)}, as kill,pause; with "
-                        "numbers, as slow:delay=0.2:lasting=1..5; or a schedule, as kill:n1@3+0.5,pause@6: at 3 seconds, for half a second (all)")
-    parser.add_argument("--nodes", metavar="N", type=_within("nodes", 1, 9), default=0, help="how many, where the server can have several")
-    parser.add_argument("--network", choices=NETWORKS, default=AUTO, help="by what links are cut and slow: namespaces, of which each node "
-                        "has one (as root on Linux), or a proxy on the loopback; auto takes namespaces where it can")
+                        help="the number of tests, each with the next seed, and a summary (1)")
+    parser.add_argument("--seed", metavar="N", type=int, default=1, help="the seed of operations, phases and strikes (1)")
+    parser.add_argument("--nemesis", metavar="STRIKES", help=f"all, none, or some of {', '.join(STRIKES)}, such as kill,pause; "
+                        "with numbers: slow:delay=0.2:lasting=1..5; or a schedule: kill:n1@3+0.5,pause@6, at 3 seconds, for half a second (all)")
+    parser.add_argument("--nodes", metavar="N", type=_within("nodes", 1, 9), default=0, help="the number of nodes, if the server can have several")
+    parser.add_argument("--network", choices=NETWORKS, default=AUTO, help="the way to cut and slow links: namespaces, one for each node "
+                        "(needs root on Linux), or a proxy on the loopback; auto takes namespaces if it can")
     parser.add_argument("--least", metavar="N", type=_within("operations", 1, 1_000_000), default=20,
-                        help="there is no verdict where fewer of some operation were ok: status 3 (20)")
+                        help="no verdict, status 3, if some operation was ok fewer times (20)")
     parser.add_argument("--patience", metavar="SECONDS", type=_positive("seconds"), default=0.0,
-                        help="for a node to start, and to answer again at the end, before there is no verdict (120, of RabbitMQ 300)")
-    parser.add_argument("--out", metavar="FOLDER", default="runs", help="the run gets a folder of its own there (runs)")
+                        help="the time for a node to start, and to answer again at the end; then no verdict (120, RabbitMQ 300)")
+    parser.add_argument("--out", metavar="FOLDER", default="runs", help="the folder in which the run gets its own folder (runs)")
     parser.add_argument("--keep", metavar="N", type=_within("parts", 0, 1_000_000),
-                        help="legal parts that stay in the folder, the newest (all); a part is 262,144 events, of some 20 megabytes")
+                        help="the newest legal segments that stay in the folder (all); a segment has 262,144 events, some 20 megabytes")
     parser.add_argument("--keep-nodes", choices=(FINDING, ALWAYS, NEVER), default=FINDING,
-                        help="when the data of each node are copied into the run's folder, as n1.data: after a finding, always or never "
+                        help="when to copy the data of each node into the run's folder, as n1.data: after a finding, always or never "
                         f"({FINDING})")
     return parser
 
 
 def _described() -> Iterator[str]:
-    """What there is of each server."""
-    yield "objects, the first by itself, and faults that are planted:"
+    """Objects, plants and durabilities of each server."""
+    yield "objects, the first by default, and known faults:"
     for name in SERVERS:
         server = server_of(name)
         yield f"  {name:<12}{', '.join(server.objects)}"
@@ -159,7 +159,7 @@ def server_of(name: str) -> Type[Server]:
         found: Type[Server] = getattr(importlib.import_module(f"{__package__}.servers.{name}"), SERVERS[name])
         return found
     if not name.endswith(".py"):
-        raise ServerError(f"there is no server {name!r}; there are {', '.join(SERVERS)}, and a file of yours, as ./mine.py")
+        raise ServerError(f"there is no server {name!r}; there are {', '.join(SERVERS)}, and your own file, such as ./mine.py")
     return _of_file(pathlib.Path(name))
 
 
