@@ -38,6 +38,8 @@ LANGUAGES: Dict[str, Language] = {
     "go": Language(("go",)),
     "java": Language(JAVA, (JARS + "junit-jupiter-engine.jar", JARS + "junit-platform-console.jar")),
     "rust": Language(("cargo",)),
+    "clojure": Language(JAVA, (JARS + "clojure.jar", JARS + "spec.alpha.jar", JARS + "junit-jupiter-api.jar")),
+    "erlang": Language(("erlc", "erl")),
     "c": Language(("cc",)),
 }
 

@@ -1,0 +1,164 @@
+%% The program of jepmon.erl: where it is, its version, its pipes, and what is said of a verdict.
+-module(jepmon_program).
+-export([find/1, fault/1, start/2, kill/1, errors/1, remove/2, tail/2, report/4, cause_of/1]).
+-define(MAJOR, 1).               % of the oldest program that this library works with
+-define(MINOR, 4).
+
+%% The path that is named, or that JEPMON names; else the program in a folder above this library; else jepmon on the PATH.
+find(#{program := Path}) -> Path;
+find(_) ->
+    case os:getenv("JEPMON", "") of
+        "" ->
+            case above(filename:dirname(filename:absname(code:which(?MODULE)))) of
+                none -> case os:find_executable("jepmon") of false -> "jepmon"; Path -> Path end;
+                Path -> Path
+            end;
+        Path -> Path
+    end.
+
+above(Folder) ->
+    Candidates = [filename:join(Folder, Name) || Name <- ["jepmon", "dist/jepmon"]],
+    case [Path || Path <- Candidates, is_machine_code(Path)] of
+        [Path | _] -> Path;
+        [] -> case filename:dirname(Folder) of Folder -> none; Up -> above(Up) end
+    end.
+
+%% A script of a clone is no program.
+is_machine_code(Path) ->
+    case filelib:is_regular(Path) andalso file:open(Path, [read, raw, binary]) of
+        {ok, File} -> First = file:read(File, 4), file:close(File), First =:= {ok, <<127, "ELF">>};
+        _ -> false
+    end.
+
+%% What is wrong with the program or its version, or none.
+fault(Program) ->
+    Line = case run(Program, ["--version"], []) of
+        {0, Text} -> hd(binary:split(Text, <<"\n">>));
+        {Status, _} -> {Status}
+    end,
+    case Line of
+        {enoent} -> io_lib:format("~s can't be used: there is no such program", [Program]);
+        {Other} -> io_lib:format("~s can't be used: ~p", [Program, Other]);
+        _ ->
+            case re:run(Line, "^jepmon (\\d+)\\.(\\d+)\\.\\d+$", [{capture, all_but_first, list}]) of
+                {match, [Major, Minor]} ->
+                    case list_to_integer(Major) =:= ?MAJOR andalso list_to_integer(Minor) >= ?MINOR of
+                        true -> none;
+                        false -> io_lib:format("~s is ~s: this library needs jepmon ~b.~b or a later ~b", [Program, Line, ?MAJOR, ?MINOR, ?MAJOR])
+                    end;
+                nomatch -> io_lib:format("~s is no jepmon: its --version prints ~p", [Program, Line])
+            end
+    end.
+
+%% Runs a program to its end: its status and what it printed.
+run(Program, Words, Env) ->
+    try open_port({spawn_executable, Program}, [{args, Words}, {env, Env}, binary, exit_status, use_stdio, in]) of
+        Port -> collected(Port, <<>>)
+    catch error:Reason -> {Reason, <<>>}
+    end.
+
+collected(Port, Text) ->
+    receive
+        {Port, {data, More}} -> collected(Port, <<Text/binary, More/binary>>);
+        {Port, {exit_status, Status}} -> {Status, Text}
+    after 60000 -> kill(Port), {timeout, Text}
+    end.
+
+%% The program reads from a named pipe, so that its input can end while its output is read. A process of its own writes: a write waits
+%% while the pipe is full.
+start(Program, Options) ->
+    Folder = string:trim(os:cmd("mktemp -d")),
+    Pipe = filename:join(Folder, "lines"),
+    os:cmd("mkfifo " ++ Pipe),
+    Budget = case maps:get(budget, Options) of 0 -> []; N -> ["--budget", integer_to_list(N)] end,
+    Words = ["script", "--strict", "--concurrency", integer_to_list(maps:get(concurrency, Options)), "--model",
+        atom_to_list(maps:get(model, Options)) | Budget],
+    Port = open_port({spawn_executable, "/bin/sh"}, [{args, ["-c", "exec \"$0\" \"$@\" <\"$JEPMON_LINES\" 2>\"$JEPMON_ERRORS\"", Program | Words]},
+        {env, [{"JEPMON_LINES", Pipe}, {"JEPMON_ERRORS", filename:join(Folder, "errors")}]}, {line, 65536}, binary, exit_status, in]),
+    Server = self(),
+    Writer = spawn_link(fun() ->
+        {ok, File} = file:open(Pipe, [write, raw, binary]),
+        Server ! written,
+        write(Server, File)
+    end),
+    {Port, Writer, Folder}.
+
+write(Server, File) ->
+    receive
+        {write, Piece} ->
+            case file:write(File, Piece) of
+                ok -> Server ! written, write(Server, File);
+                {error, _} -> file:close(File)                 % the server says why the program has ended
+            end;
+        close -> file:close(File)
+    end.
+
+kill(Port) ->
+    case erlang:port_info(Port, os_pid) of
+        {os_pid, Id} -> os:cmd(io_lib:format("kill -9 -~b ~b 2>/dev/null", [Id, Id])), ok;
+        undefined -> ok
+    end.
+
+%% What the program wrote to standard error.
+errors(Folder) ->
+    case file:read_file(filename:join(Folder, "errors")) of
+        {ok, Text} -> lists:join(" ", string:lexemes(binary_to_list(Text), " \n"));
+        _ -> ""
+    end.
+
+remove(undefined, _) -> ok;
+remove(Writer, Folder) ->
+    unlink(Writer),
+    exit(Writer, kill),
+    file:del_dir_r(Folder),
+    ok.
+
+%% --- Verdicts ---
+
+%% The last events of the verdict's key, each after its index.
+tail(History, #{key := Key, index := Index}) ->
+    Of = iolist_to_binary(io_lib:format(" :value [~b ", [Key])),
+    Lines = lists:sublist(binary:split(History, <<"\n">>, [global]), Index + 1),
+    All = [{N, Line} || {N, Line} <- lists:zip(lists:seq(0, length(Lines) - 1), Lines), binary:match(Line, Of) =/= nomatch],
+    [iolist_to_binary(io_lib:format("~b ~s", [N, Line])) || {N, Line} <- lists:nthtail(max(0, length(All) - 12), All)].
+
+%% The verdict with the file of the history, and the cause in words if jepmon-judge is there.
+report(Verdict, Options, Program, History) ->
+    Folder = maps:get(out, Options, os:getenv("JEPMON_OUT", "/tmp")),
+    File = filename:join(Folder, io_lib:format("jepmon-~s-~b.edn", [os:getpid(), erlang:unique_integer([positive])])),
+    case file:write_file(File, History) of
+        ok ->
+            Cause = case Verdict of #{status := illegal} -> cause(File, Options, Program); _ -> [] end,
+            Verdict#{history => unicode:characters_to_binary(File), cause => Cause};
+        {error, _} -> Verdict
+    end.
+
+cause(File, Options, Program) ->
+    case judge(Program) of
+        none -> [];
+        Judge ->
+            Words = [Judge, File, "--json", "--model", atom_to_list(maps:get(model, Options)), "--concurrency", integer_to_list(maps:get(concurrency, Options))],
+            {_, Text} = run("/bin/sh", ["-c", "exec \"$0\" \"$@\" </dev/null 2>/dev/null" | Words], [{"JEPMON", Program}]),
+            cause_of(Text)
+    end.
+
+%% The headline and the sentences of the first cause in the object that jepmon-judge prints.
+cause_of(Text) ->
+    case re:run(Text, "\"headline\":[^\\]]*\\]", [{capture, first, binary}]) of
+        {match, [Part]} ->
+            {match, Strings} = re:run(Part, "\"((?:[^\"\\\\]|\\\\.)*)\"", [global, {capture, all_but_first, binary}]),
+            [re:replace(S, "\\\\(.)", "\\1", [global, {return, binary}]) || [S] <- Strings, S =/= <<"headline">>, S =/= <<"sentences">>];
+        nomatch -> []
+    end.
+
+%% The jepmon-judge that JEPMON_JUDGE names (`no` is none), else beside the program or in its clone, else on the PATH.
+judge(Program) ->
+    Folder = filename:dirname(filename:absname(Program)),
+    Beside = [Path || Path <- [filename:join(F, "jepmon-judge") || F <- [Folder, filename:dirname(Folder)]], filelib:is_regular(Path)],
+    case {os:getenv("JEPMON_JUDGE", ""), Beside, os:find_executable("jepmon-judge")} of
+        {"no", _, _} -> none;
+        {"", [Path | _], _} -> Path;
+        {"", [], false} -> none;
+        {"", [], Path} -> Path;
+        {Path, _, _} -> Path
+    end.
