@@ -1,0 +1,204 @@
+-- what is made of a row is made of its end
+use Rattle.std.proofs.Common.{◌≡◌, ◌≢◌, ℕ, ◌<◌, ◌≤◌, ℤ, ◌⊎◌, inl, inr, ⊎_elim, IsTrue, Some, List, [], ◌∷◌, length, refl, sym, ap, ◌∙◌, subst}
+use Rattle.std.specs.List.{Contains}
+use Rattle.events.specs.Events.{Mark}
+use Rattle.linspec.specs.MarkRule.{AreWellFormed}
+use Rattle.linspec.specs.Orders.{Pairwise}
+use Rattle.linspec.proofs.Lists.{Contains-nil, Contains-cons_cases}
+use Rattle.lean_ends.specs.LeanEnds.{LeanEnd, MayRead, MayWrite, IsRead, IsPutBehind, IsPutBefore, IsWithout}
+use Rattle.lean_ends.proofs.Once.{read_no_write}
+use Rattle.lean_ends.proofs.Makes.{some_behind, some_before}
+use Rattle.lean_ends.proofs.Sound.{IsLeft}
+use Rattle.wide_register.specs.declared.calls.Call.{Call}
+use Rattle.wide_register.specs.declared.calls.What.{What}
+use Rattle.wide_register.specs.declared.calls.What.TheVariants.{Writes, Reads}
+use Rattle.wide_register.specs.declared.row.Row.{Row}
+use Rattle.wide_register.specs.Facts.{AreCalls, IsCall, IsFoundBy, IsPut, IsWithoutId, end_of}
+use Rattle.wide_register.proofs.Ends.{needed_from, needed_to, door_from, door_to, finds_from, finds_to}
+
+-- of two operations with the same id
+pub same_call : (calls : List Call) → Pairwise (λ (a b : Call). a.id ≢ b.id) calls → (a b : Call) → Contains calls a → Contains calls b → a.id ≡ b.id → a ≡ b
+same_call [] p a b h k e = absurd (Contains-nil a h)
+same_call (x ∷ calls) p a b h k e = ⊎_elim
+    (λ q. ⊎_elim
+    (λ r. sym q ∙ r)
+    (λ j. absurd (p.0 b j (ap (λ (c : Call). c.id) q ∙ e)))
+    (Contains-cons_cases x calls b k))
+    (λ i. ⊎_elim
+    (λ r. absurd (p.0 a i (ap (λ (c : Call). c.id) r ∙ sym e)))
+    (λ j. same_call calls p.1 a b i j e)
+    (Contains-cons_cases x calls b k))
+    (Contains-cons_cases x calls a h)
+
+-- those are these operations but one, as far as doors go
+pub record AreOthers (id : ℕ) (calls those : List Call) : Type 0 where
+  pub was : (c : Call) → Contains those c → (b : Call) × Contains calls b × (b.id ≡ c.id) × (b.since ≡ c.since) × (c.id ≢ id)
+  pub is : (c : Call) → Contains calls c → c.id ≢ id → (b : Call) × Contains those b × (b.id ≡ c.id) × (b.since ≡ c.since)
+
+module _ (id : ℕ) (calls those : List Call) (others : AreOthers id calls those) (row new : Row) where
+  pub door_was : (i : ℕ) → new.door ≡ row.door → ((j : ℕ) → Contains row.needed.items j → j ≢ id → Contains new.needed.items j) → IsTrue ((end_of those new).door i) → IsTrue ((end_of calls row).door i) × (i ≢ id)
+  door_was i d n h =
+      let k = door_from those new i h in
+      let b = others.was k.0 k.1 in
+      let same : b.0.id ≡ i = b.2 ∙ k.2 in (
+        door_to calls row i (b.0, b.1, same, ((let x : b.0.since < new.door = subst (λ s. s < new.door) (sym b.3) k.3.0 in subst (λ s. b.0.since < s) d x), (λ j. k.3.1 (n k.0.id (subst (Contains row.needed.items) b.2 j) b.4)))),
+        λ e. b.4 (k.2 ∙ e),
+      )
+
+  pub door_is : (i : ℕ) → new.door ≡ row.door → ((j : ℕ) → Contains new.needed.items j → Contains row.needed.items j) → IsTrue ((end_of calls row).door i) → i ≢ id → IsTrue ((end_of those new).door i)
+  door_is i d n h ne =
+      let k = door_from calls row i h in
+      let b = others.is k.0 k.1 (λ e. ne (sym k.2 ∙ e)) in
+      door_to those new i (b.0, b.1, b.2 ∙ k.2, ((let x : b.0.since < row.door = subst (λ s. s < row.door) (sym b.3) k.3.0 in subst (λ s. b.0.since < s) (sym d) x), (λ j. k.3.1 (n k.0.id (subst (Contains new.needed.items) b.2 j)))))
+
+  pub without_is : IsWithoutId id row new → IsWithout (end_of calls row) id (end_of those new)
+  without_is w = record {
+    state = w.state;
+    needed = λ i. (
+      (λ h. (let k = (w.needed i).0 (needed_from those new i h) in (needed_to calls row i k.0, k.1))),
+      (λ h. needed_to those new i ((w.needed i).1 (needed_from calls row i h.0, h.1))),
+    );
+    door = λ i. (
+      (λ h. door_was i w.door (λ j k ne. (w.needed j).1 (k, ne)) h),
+      (λ h. door_is i w.door (λ j k. ((w.needed j).0 k).0) h.0 h.1),
+    );
+    finds = λ r v. (
+      (λ h. (let k = (w.finds (record { read = r; value = v })).0 (finds_from those new r v h) in (finds_to calls row r v k.0, k.1))),
+      (λ h. finds_to those new r v ((w.finds (record { read = r; value = v })).1 (finds_from calls row r v h.0, h.1))),
+    );
+  }
+
+module _ (marks : List Mark) (well : AreWellFormed marks) (calls : List Call) (are : AreCalls calls marks) (row : Row) (low : row.door ≤ length marks) (left : IsLeft marks (end_of calls row)) where
+  abbrev e : LeanEnd
+  e = end_of calls row
+
+  pub read_not_needed : (r : ℕ) → IsRead marks r → ¬ Contains row.needed.items r
+  read_not_needed r i n = let w = (left.2.needed r (needed_to calls row r n)).1 in read_no_write marks well r w.0 i w.1
+
+  pub read_call : (r : ℕ) → MayRead marks r → (c : Call) × Contains calls c × (c.id ≡ r) × (c.what ≡ Reads)
+  read_call r m = are.all r Reads m
+
+  pub is_read : (c : Call) → Contains calls c → c.what ≡ Reads → MayRead marks c.id
+  is_read c h q = subst (IsCall marks c.id) q (are.is c h)
+
+  pub is_write : (c : Call) (v : ℤ) → Contains calls c → c.what ≡ Writes v → MayWrite marks c.id v
+  is_write c v h q = subst (IsCall marks c.id) q (are.is c h)
+
+  may_come : (c : Call) → (what : What) → c.what ≡ what → Contains calls c → MayRead marks c.id ⊎ ((w : ℤ) × MayWrite marks c.id w)
+  may_come c Reads q h = inl (is_read c h q)
+  may_come c (Writes v) q h = inr (v, is_write c v h q)
+
+  comes : (i : ℕ) → MayRead marks i ⊎ ((w : ℤ) × MayWrite marks i w) → (c : Call) × Contains calls c × (c.id ≡ i)
+  comes i m = ⊎_elim (λ r. (let k = are.all i Reads r in (k.0, k.1, k.2))) (λ w. (let k = are.all i (Writes w.0) w.1 in (k.0, k.1, k.2))) m
+
+  module _ (out : ℕ) (those : List Call) (others : AreOthers out calls those) (w : ℕ) (v : ℤ) (new : Row) where
+    abbrev f : LeanEnd
+    f = end_of those new
+
+    put_behind : (g : LeanEnd) → IsPutBehind marks e w v g → IsPut calls w v (length marks) (Some v) out row new → IsWithout g out f
+    put_behind g b p = record {
+      state = p.state_is ∙ sym b.state;
+      needed = λ i. (
+        (λ h. (let k = (p.needed i).0 (needed_from those new i h) in ((b.needed i).1 (⊎_elim (λ q. inl q) (λ n. inr (needed_to calls row i n)) k.0), k.1))),
+        (λ h. needed_to those new i ((p.needed i).1 (⊎_elim (λ q. inl q) (λ n. inr (needed_from calls row i n)) ((b.needed i).0 h.0), h.1))),
+      );
+      door = λ i. (
+        (λ h. (let k = door_from those new i h in
+            let c = others.was k.0 k.1 in
+            let same : c.0.id ≡ i = c.2 ∙ k.2 in
+            let ne : i ≢ out = (λ q. c.4 (k.2 ∙ q)) in (
+              (b.door i).1 (
+                subst (λ z. MayRead marks z ⊎ ((u : ℤ) × MayWrite marks z u)) same (may_come c.0 c.0.what refl c.1),
+                (λ n. k.3.1 (subst (Contains new.needed.items) (sym k.2) ((p.needed i).1 (⊎_elim (λ q. inl q) (λ m. inr (needed_from calls row i m)) ((b.needed i).0 n), ne)))),
+              ),
+              ne,
+            ))),
+        (λ h. (let k = (b.door i).0 h.0 in
+            let c = comes i k.0 in
+            let d = others.is c.0 c.1 (λ q. h.1 (sym c.2 ∙ q)) in
+            let late : d.0.since < length marks = subst (λ s. s < length marks) (sym d.3) (are.since c.0 c.1) in
+            door_to those new i (
+              d.0,
+              d.1,
+              d.2 ∙ c.2,
+              (
+                subst (λ s. d.0.since < s) (sym p.door) late,
+                (λ n. (let j = (p.needed i).0 (subst (Contains new.needed.items) (d.2 ∙ c.2) n) in k.1 ((b.needed i).1 (⊎_elim (λ q. inl q) (λ m. inr (needed_to calls row i m)) j.0)))),
+              ),
+            ))),
+      );
+      finds = λ r u. (
+        (λ h. (let k = (p.finds (record { read = r; value = u })).0 (finds_from those new r u h) in (
+          (b.finds r u).1 (⊎_elim
+              (λ j. inl (finds_to calls row r u j))
+              (λ (j : IsFoundBy calls (length marks) v (record { read = r; value = u })). inr (subst (MayRead marks) j.1.4 (is_read j.1.0 j.1.1 j.1.2), j.0))
+              k.0),
+          k.1,
+        ))),
+        (λ h. finds_to those new r u ((p.finds (record { read = r; value = u })).1 (
+          ⊎_elim
+              (λ j. inl (finds_from calls row r u j))
+              (λ j. (let c = read_call r j.0 in inr (j.1, (c.0, c.1, c.3, are.since c.0 c.1, c.2))))
+              ((b.finds r u).0 h.0),
+          h.1,
+        ))),
+      );
+    }
+
+    put_before : (g : LeanEnd) → IsPutBefore marks e w v g → IsPut calls w v row.door row.state out row new → IsWithout g out f
+    put_before g b p = record {
+      state = p.state_is ∙ sym b.state;
+      needed = λ i. (
+        (λ h. (let k = (p.needed i).0 (needed_from those new i h) in ((b.needed i).1 (⊎_elim (λ q. inl q) (λ n. inr (needed_to calls row i n)) k.0), k.1))),
+        (λ h. needed_to those new i ((p.needed i).1 (⊎_elim (λ q. inl q) (λ n. inr (needed_from calls row i n)) ((b.needed i).0 h.0), h.1))),
+      );
+      door = λ i. (
+        (λ h. (let k = door_from those new i h in
+            let d = door_was out calls those others row new i p.door (λ j m ne. (p.needed j).1 (inr m, ne)) h in (
+              (b.door i).1 (d.0, (λ q. k.3.1 (subst (Contains new.needed.items) (sym k.2) ((p.needed i).1 (inl q, d.1))))),
+              d.1,
+            ))),
+        (λ h. (let k = (b.door i).0 h.0 in
+            let c = door_from calls row i k.0 in
+            let d = others.is c.0 c.1 (λ q. h.1 (sym c.2 ∙ q)) in
+            let late : d.0.since < row.door = subst (λ s. s < row.door) (sym d.3) c.3.0 in
+            door_to those new i (
+              d.0,
+              d.1,
+              d.2 ∙ c.2,
+              (
+                subst (λ s. d.0.since < s) (sym p.door) late,
+                (λ n. (let j = (p.needed i).0 (subst (Contains new.needed.items) (d.2 ∙ c.2) n) in ⊎_elim k.1 (λ m. c.3.1 (subst (Contains row.needed.items) (sym c.2) m)) j.0)),
+              ),
+            ))),
+      );
+      finds = λ r u. (
+        (λ h. (let k = (p.finds (record { read = r; value = u })).0 (finds_from those new r u h) in (
+          (b.finds r u).1 (⊎_elim
+              (λ j. inl (finds_to calls row r u j))
+              (λ (j : IsFoundBy calls row.door v (record { read = r; value = u })).
+              let m = subst (MayRead marks) j.1.4 (is_read j.1.0 j.1.1 j.1.2) in
+              inr (m, door_to calls row r (j.1.0, j.1.1, j.1.4, (j.1.3, (λ n. read_not_needed r m.0 (subst (Contains row.needed.items) j.1.4 n)))), j.0))
+              k.0),
+          k.1,
+        ))),
+        (λ h. finds_to those new r u ((p.finds (record { read = r; value = u })).1 (
+          ⊎_elim
+              (λ j. inl (finds_from calls row r u j))
+              (λ j.
+              let c = read_call r j.0 in
+              let d = door_from calls row r j.1 in
+              let same : d.0 ≡ c.0 = same_call calls are.once d.0 c.0 d.1 c.1 (d.2 ∙ sym c.2) in
+              let early : c.0.since < row.door = subst (λ (x : Call). x.since < row.door) same d.3.0 in
+              inr (j.2, (c.0, c.1, c.3, early, c.2)))
+              ((b.finds r u).0 h.0),
+          h.1,
+        ))),
+      );
+    }
+
+    pub is_behind : IsPut calls w v (length marks) (Some v) out row new → (g : LeanEnd) × IsPutBehind marks e w v g × IsWithout g out f
+    is_behind p = let g = some_behind marks well e w v in (g.0, g.1, put_behind g.0 g.1 p)
+
+    pub is_before : IsTrue (e.door w) → IsPut calls w v row.door row.state out row new → (g : LeanEnd) × IsPutBefore marks e w v g × IsWithout g out f
+    is_before d p = let g = some_before marks well e w v d in (g.0, g.1, put_before g.0 g.1 p)

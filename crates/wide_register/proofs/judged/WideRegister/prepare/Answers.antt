@@ -1,0 +1,35 @@
+use Rattle.std.proofs.Common.{◌∙◌, refl, rules, sym}
+use Rattle.std.proofs.lemmas.Bool.{true≢false}
+use Rattle.events.specs.Events.{Mark, act_by, mark_by_act}
+use Rattle.wide_register.proofs.Judging.{answers, costs_of, not_over}
+use Rattle.wide_register.proofs.Steps.{facts_after}
+use Rattle.wide_register.proofs.judged.WideRegister.prepare.Goals as goal
+
+pub returns : goal.returns
+returns c =
+    let w = c.args.self.now in
+    let id = c.args.id in
+    let kind = c.args.kind in
+    let op = c.args.op.now in
+    let mark : Mark = mark_by_act id id (act_by kind op) in
+    let next = c.in_ok-next.next in
+    let step = c.step_left-step.result in
+    record {
+      step = answers w.budget w.kept next id op step kind c.in_ok-next.ensures (λ h. true≢false (sym (c.is_over.ensures.1 h) ∙ c.if-is_over.false)) c.step_left-step.ensures;
+      now = λ ms h. h;
+      next = record {
+        over = λ e. absurd (not_over w.budget w.kept next id op step kind c.step_left-step.ensures e);
+        taken = λ n ms h may. facts_after mark w.kept next c.in_ok-next.ensures ms h may;
+      };
+      budget = refl;
+      cost = costs_of kind w id op c.counted-self.result (λ h. true≢false (sym (c.is_over.ensures.1 h) ∙ c.if-is_over.false)) c.counted-self.ensures;
+    }
+
+pub returns-in_err-next : goal.returns-in_err-next
+returns-in_err-next c = record {
+  step = search rules;
+  now = λ ms h. h;
+  next = search rules;
+  budget = refl;
+  cost = costs_of c.args.kind c.args.self.now c.args.id c.args.op.now c.counted-self.result (λ h. true≢false (sym (c.is_over.ensures.1 h) ∙ c.if-is_over.false)) c.counted-self.ensures;
+}

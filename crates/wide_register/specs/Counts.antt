@@ -1,0 +1,23 @@
+-- Invariant: how many operations an event tries
+use Rattle.std.specs.Prelude.{◌≡◌, ℕ, ◌+◌, ◌*◌, ◌≤◌, List, length}
+use Rattle.events.specs.Events.{Mark}
+use Rattle.wide_register.specs.declared.calls.Call.{Call}
+use Rattle.wide_register.specs.declared.next.Deed.{Deed}
+use Rattle.wide_register.specs.declared.next.Deed.TheVariants.{EndsWrite, EndsRead}
+use Rattle.wide_register.specs.declared.kept.Kept.{Kept}
+use Rattle.wide_register.specs.Facts.{IsDeed}
+
+-- so many operations are tried at each row: the write that is done, or the writes of the value that was read
+abbrev pub AreTries : List Call → Deed → ℕ → Type 0
+AreTries calls (EndsWrite w v) n = n ≡ 1
+AreTries calls (EndsRead r v) n = n ≤ length calls
+AreTries calls _ n = n ≡ 0
+
+-- the count of steps before a mark and after it
+pub record IsCounted (k : Kept) (m : Mark) (before after : ℕ) : Type 0 where
+  pub deed : Deed
+  pub is_deed : IsDeed k.calls.items m deed
+  pub tries : ℕ
+  pub are_tries : AreTries k.calls.items deed tries
+  pub grows : before ≤ after
+  pub most : after ≤ before + length k.rows.items * tries

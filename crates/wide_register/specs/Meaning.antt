@@ -1,0 +1,139 @@
+-- Promise: what an event makes of the histories of a register that are stood for, what it answers and costs; how a register begins, and what
+-- a copy is
+use Rattle.std.specs.Prelude.{◌≡◌, ◌≢◌, ◌↔◌, ℕ, ◌+◌, ◌*◌, ◌≤◌, ◌⊎◌, List, [], ◌∷◌, ◌++◌, length, Result, IfOk, MatchResult}
+use Rattle.std.specs.declared.alloc.AllocError.{AllocError}
+use Rattle.std.specs.List.{Contains}
+use Rattle.models.specs.Objects.{Object}
+use Rattle.events.specs.Events.{Mark}
+use Rattle.events.specs.Events.Mark.{Invoked, Returned, Failed, Crashed}
+use Rattle.linspec.specs.MarkRule.{MayFollow}
+use Rattle.linspec.specs.Operations.{IsOpen}
+use Rattle.linspec.specs.Orders.{IsLinearizable}
+use Rattle.linspec.specs.Ends.{Count, HasCrashedBy, is_no_read}
+use Rattle.wide_register.specs.declared.judged.Step.{Step}
+use Rattle.wide_register.specs.declared.judged.Step.TheVariants.{Alive, Dead, Over}
+
+-- the mark is an ok, and more than the budget is counted just before it
+abbrev pub Blows : Count → ℕ → List Mark → Mark → Type 0
+Blows more budget marks (Returned id answer) = more marks budget
+Blows more budget marks (Invoked id op) = ⊥
+Blows more budget marks (Failed id) = ⊥
+Blows more budget marks (Crashed id) = ⊥
+
+-- Over where the mark blows the budget; else Alive where the history with it is linearizable, and
+-- Dead where it is not
+abbrev pub IsStep : Count → Object → ℕ → List Mark → Mark → Step → Type 0
+IsStep more o budget marks mark Over = Blows more budget marks mark
+IsStep more o budget marks mark Alive =
+    (¬ Blows more budget marks mark) × IsLinearizable o (marks ++ mark ∷ [])
+IsStep more o budget marks mark Dead =
+    (¬ Blows more budget marks mark) × (¬ IsLinearizable o (marks ++ mark ∷ []))
+
+-- the answer that the mark gets after the history: an ok and a fail get their step. An invocation
+-- and a crash kill nothing, and get Alive
+abbrev pub IsAnswer : Count → Object → ℕ → List Mark → Mark → Step → Type 0
+IsAnswer more o budget marks (Returned id answer) step =
+    IsStep more o budget marks (Returned id answer) step
+IsAnswer more o budget marks (Failed id) step = IsStep more o budget marks (Failed id) step
+IsAnswer more o budget marks (Invoked id op) step = step ≡ Alive
+IsAnswer more o budget marks (Crashed id) step = step ≡ Alive
+
+-- an ok
+abbrev pub IsReturn : Mark → Type 0
+IsReturn (Returned id answer) = Unit {0}
+IsReturn (Invoked id op) = ⊥
+IsReturn (Failed id) = ⊥
+IsReturn (Crashed id) = ⊥
+
+-- no more than n operations may still take place and change something: those that are open, and those
+-- that have crashed and are no reads
+pub record HasAtMostPending (marks : List Mark) (n : ℕ) : Type 0 where
+  pub ids : List ℕ
+  pub many : length ids ≤ n
+  pub each : (id : ℕ) → IsOpen marks id ⊎ HasCrashedBy is_no_read marks id → Contains ids id
+
+-- an ok makes at most (budget + 1) * n steps where no more than n operations may still take place and change
+-- something just before it; the count of steps, before it and after it, never falls
+abbrev pub StepsOfOk : ℕ → (List Mark → Type 0) → ℕ → ℕ → Type 0
+StepsOfOk budget old before after =
+    (before ≤ after)
+    × ((marks : List Mark) → old marks → (n : ℕ) → HasAtMostPending marks n
+    → after ≤ before + (budget + 1) * n)
+
+-- what an event makes of the histories that are stood for: those before it and those after it
+module _ (old new : List Mark → Type 0) where
+  -- each stays
+  abbrev pub Keeps : Type 0
+  Keeps = (marks : List Mark) → old marks → new marks
+
+  -- each has the mark now, where that may follow it
+  abbrev pub Takes : Mark → Type 0
+  Takes mark = (marks : List Mark) → old marks → MayFollow marks mark → new (marks ++ mark ∷ [])
+
+  -- after Over each stays; after another answer each has the mark now
+  pub record TakesUnlessOver (mark : Mark) (step : Step) : Type 0 where
+    pub over : step ≡ Over → Keeps
+    pub taken : step ≢ Over → Takes mark
+
+-- the answer is right for each history that is stood for and that the mark may follow, and only an
+-- ok gets Over
+pub record Answers (more : Count) (o : Object) (budget : ℕ) (old : List Mark → Type 0) (mark : Mark)
+    (step : Step) : Type 0 where
+  pub right : (marks : List Mark) → old marks → MayFollow marks mark
+      → IsAnswer more o budget marks mark step
+  pub over_at_ok : step ≡ Over → IsReturn mark
+
+-- what is known of a register that is judged: the histories that it stands for; those that it will stand for
+-- once what is prepared is carried out; the budget; and how many steps were made so far, each of which
+-- tries an operation in a state
+pub record RegisterView : Type 1 where
+  pub stands : List Mark → Type 0
+  pub will_stand : List Mark → Type 0
+  pub budget : ℕ
+  pub applied : ℕ
+
+-- a history without events
+pub record IsStart (budget : ℕ) (new : RegisterView) : Type 0 where
+  pub stands : new.stands []
+  pub budget_is : new.budget ≡ budget
+  pub applied_is : new.applied ≡ 0
+
+module _ (old new : RegisterView) where
+  -- what a mark costs: an ok steps within `StepsOfOk`, another mark none
+  abbrev pub Costs : Mark → Type 0
+  Costs (Returned id answer) = StepsOfOk old.budget old.stands old.applied new.applied
+  Costs (Invoked id op) = new.applied ≡ old.applied
+  Costs (Failed id) = new.applied ≡ old.applied
+  Costs (Crashed id) = new.applied ≡ old.applied
+
+  -- the answer is right, and the register takes the mark; after Over, and where there is no memory, it stands for what it stood
+  -- for. The budget stays
+  pub record Observes (more : Count) (o : Object) (mark : Mark) (result : Result Step AllocError)
+      : Type 0 where
+    pub step : IfOk result (Answers more o old.budget old.stands mark)
+    pub kept : MatchResult result (TakesUnlessOver old.stands new.stands mark)
+        (λ _. Keeps old.stands new.stands)
+    pub budget : new.budget ≡ old.budget
+    pub cost : Costs mark
+
+  -- the answer is right, and the mark is prepared: the register stands for what it stood for, and will take the mark, or after Over
+  -- will stand for the same. The budget stays
+  pub record Prepares (more : Count) (o : Object) (mark : Mark) (result : Result Step AllocError)
+      : Type 0 where
+    pub step : IfOk result (Answers more o old.budget old.stands mark)
+    pub now : Keeps old.stands new.stands
+    pub next : IfOk result (TakesUnlessOver old.stands new.will_stand mark)
+    pub budget : new.budget ≡ old.budget
+    pub cost : Costs mark
+
+  -- what is prepared is carried out, and costs no step
+  pub record Commits : Type 0 where
+    pub stands : Keeps old.will_stand new.stands
+    pub budget : new.budget ≡ old.budget
+    pub applied : new.applied ≡ old.applied
+
+  -- the new one is a copy
+  pub record IsCopy : Type 0 where
+    pub same : (marks : List Mark) → new.stands marks ↔ old.stands marks
+    pub budget : new.budget ≡ old.budget
+    pub applied : new.applied ≡ old.applied

@@ -1,0 +1,162 @@
+//! Registers that are judged live.
+ghost use Rattle.std.specs.Prelude.{◌≡◌, ◌↔◌, ◌<◌, IfOk, IsTrue, length};
+ghost use Rattle.models.specs.Objects.{register};
+ghost use Rattle.events.specs.Events.{act_by, mark_by_act};
+ghost use Rattle.lean_ends.specs.LeanEnds.{HasMoreLeanEnds};
+ghost use Rattle.wide_register.specs.Counts.{IsCounted};
+ghost use Rattle.wide_register.specs.Facts.{IsDeed};
+ghost use Rattle.wide_register.specs.Meaning.{Commits, IsCopy, IsStart, Observes, Prepares};
+ghost use Rattle.wide_register.specs.Views.{IsStepLeft, is_an_ok, kills, view_of};
+
+use crate::kept::Kept;
+use crate::next::{deed_of, tries_of};
+use events::EventKind;
+use models::Op;
+use std::alloc::{AllocError, Global};
+
+/// What an event leaves.
+#[derive(Clone, Copy, Debug, PartialEq, Eq)]
+pub enum Step {
+    /// Some lean end is left: the history is linearizable.
+    Alive,
+    /// No lean end is left: the history is not linearizable.
+    Dead,
+    /// There were more lean ends than the budget just before the event.
+    Over,
+}
+
+/// The history of one register, judged as its events come, by its lean ends: it is linearizable exactly if it has one (`lean_ends`).
+///
+/// An event can be prepared, which may fail for want of memory and leaves what the register stands for, and then committed, which takes no
+/// memory. What was prepared before is dropped.
+#[derive(Drop)]
+pub struct WideRegister {
+    alloc: Global,
+    budget: u32,
+    applied: u64,
+    kept: Kept,
+    /// What is prepared.
+    next: Option<Kept>,
+}
+
+// Whether an event of this kind is an ok.
+fn is_ok(kind: EventKind) -> bool
+    ensures { result ≡ is_an_ok kind }
+{
+    matches!(kind, EventKind::Ok)
+}
+
+// Whether an event of this kind can kill.
+fn can_kill(kind: EventKind) -> bool
+    ensures { result ≡ kills kind }
+{
+    matches!(kind, EventKind::Ok | EventKind::Fail)
+}
+
+// What an event of this kind leaves.
+fn step_left(left: &Kept, kind: EventKind) -> Step
+    ensures { IsStepLeft left.now kind result }
+{
+    if left.rows.is_empty() && can_kill(kind) {
+        Step::Dead
+    } else {
+        Step::Alive
+    }
+}
+
+impl WideRegister {
+    /// A history without events. The budget is the greatest number of lean ends that an ok may meet. Takes constant time.
+    pub fn start(alloc: Global, budget: u32) -> Result<Self, AllocError>
+        ensures { IfOk result (λ w. IsStart budget (view_of w)) }
+    {
+        Ok(WideRegister {
+            alloc,
+            budget,
+            applied: 0,
+            kept: Kept::start(alloc)?,
+            next: None,
+        })
+    }
+
+    /// The greatest number of lean ends that an ok may meet.
+    pub fn budget(&self) -> u32
+        ensures { result ≡ (view_of self.now).budget }
+    {
+        self.budget
+    }
+
+    /// How many steps were made so far: each tries an operation at a lean end.
+    pub fn applied(&self) -> u64
+        ensures { result ≡ (view_of self.now).applied }
+    {
+        self.applied
+    }
+
+    // How many steps there are after those of an event.
+    fn counted(&self, id: u32, kind: EventKind, op: &Op) -> u64
+        ensures { IsCounted self.now.kept (mark_by_act id id (act_by kind op.now)) self.now.applied result }
+    {
+        let deed = deed_of(&self.kept.calls, id, kind, op);
+        let tries = tries_of(&self.kept.calls, &deed);
+        let steps = (self.kept.rows.len() as u64).saturating_mul(tries);
+        self.applied.saturating_add(steps)
+    }
+
+    // Whether the event is an ok that meets more lean ends than the budget.
+    fn is_over(&self, kind: EventKind) -> bool
+        ensures { IsTrue result ↔ (IsTrue (is_an_ok kind) × (self.now.budget < length self.now.kept.rows.items)) }
+    {
+        is_ok(kind) && self.kept.rows.len() > self.budget as usize
+    }
+
+    /// Prepares an event of an operation, and gives its answer. The id is the index of the operation's invocation, which is new if the event
+    /// is one, and else is that of an open operation; the part of an ok is the answer. Over if the event is an ok and more lean ends than the
+    /// budget stand just before it: then nothing is prepared. An invocation and an info are answered Alive, since they kill nothing. The
+    /// register stands for what it stood for until [`commit`](Self::commit); after `AllocError` no commit must follow. What was prepared before
+    /// is dropped. Takes the time of the pairs of the rows that are made.
+    pub fn prepare(&mut self, id: u32, kind: EventKind, op: &Op) -> Result<Step, AllocError>
+        ensures { Prepares (view_of self.old) (view_of self.new) HasMoreLeanEnds register (mark_by_act id id (act_by kind op.now)) result }
+    {
+        self.next = None;
+        if self.is_over(kind) {
+            return Ok(Step::Over);
+        }
+        self.applied = self.counted(id, kind, op);
+        let next = self.kept.after(self.alloc, id, kind, op)?;
+        let step = step_left(&next, kind);
+        self.next = Some(next);
+        Ok(step)
+    }
+
+    /// Carries out what is prepared, if anything is. It takes no memory and cannot fail.
+    pub fn commit(&mut self)
+        ensures { Commits (view_of self.old) (view_of self.new) }
+    {
+        if let Some(next) = self.next.take() {
+            self.kept = next;
+        }
+    }
+
+    /// An event of an operation: [`prepare`](Self::prepare) and [`commit`](Self::commit) in one. After Over, and on `AllocError`, the register
+    /// stands for what it stood for.
+    pub fn observe(&mut self, id: u32, kind: EventKind, op: &Op) -> Result<Step, AllocError>
+        ensures { Observes (view_of self.old) (view_of self.new) HasMoreLeanEnds register (mark_by_act id id (act_by kind op.now)) result }
+    {
+        let step = self.prepare(id, kind, op)?;
+        self.commit();
+        Ok(step)
+    }
+
+    /// An equal one; nothing is prepared of it. Takes the time of the operations and rows.
+    pub fn copy(&self) -> Result<Self, AllocError>
+        ensures { IfOk result (λ w. IsCopy (view_of self.now) (view_of w)) }
+    {
+        Ok(WideRegister {
+            alloc: self.alloc,
+            budget: self.budget,
+            applied: self.applied,
+            kept: self.kept.copy(self.alloc)?,
+            next: None,
+        })
+    }
+}

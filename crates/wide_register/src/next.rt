@@ -1,0 +1,309 @@
+//! What an event makes of a row.
+ghost use Rattle.std.specs.Prelude.{◌≡◌, ◌≤◌, ◌↔◌, ◌⊎◌, [], ◌∷◌, Some, IfOk, IsTrue, OnOk, length};
+ghost use Rattle.std.specs.List.{Contains};
+ghost use Rattle.models.specs.Objects.{answer_of};
+ghost use Rattle.events.specs.Events.{act_by, mark_by_act};
+ghost use Rattle.events.specs.Events.Mark.{Crashed, Invoked, Returned};
+ghost use Rattle.wide_register.specs.Counts.{AreTries};
+ghost use Rattle.wide_register.specs.Facts.{Has, HasDoor, HasNextBy, HasPuts, IsDeed, IsDeedOfAnswer, IsFree, IsNextBy, IsPut, IsPutOf, IsWithoutId};
+ghost use Rattle.wide_register.specs.declared.row.Row.{Row};
+
+use crate::calls::{Call, What, call_of, what_of};
+use crate::row::{Found, Row, has_found, has_id};
+use events::EventKind;
+use models::{Op, Part};
+use std::alloc::{AllocError, Global};
+
+/// What an event makes of each row.
+#[derive(Clone, Copy)]
+pub enum Deed {
+    /// It stays.
+    Keeps,
+    /// A read with this id begins.
+    Begins(u32),
+    /// The operation with this id is out.
+    Leaves(u32),
+    /// It is out, and must not have taken place.
+    Fails(u32),
+    /// This write of this value is done.
+    EndsWrite(Call, i64),
+    /// This read has answered this value.
+    EndsRead(Call, i64),
+    /// Nothing is left of any row.
+    Dies,
+}
+
+// What an invocation makes of each row.
+fn deed_of_invoke(calls: &[Call], id: u32, op: &Op) -> Deed
+    ensures { IsDeed calls.now (Invoked id op.now) result }
+{
+    match what_of(op.name, &op.part) {
+        Some(What::Reads) => Deed::Begins(id),
+        _ => Deed::Keeps,
+    }
+}
+
+// What the answer of a read makes of each row.
+fn deed_of_answer(read: Call, part: &Part) -> Deed
+    ensures { IsDeedOfAnswer read (answer_of part.now) result }
+{
+    match part {
+        Part::Nil => Deed::Leaves(read.id),
+        Part::Int(value) => Deed::EndsRead(read, *value),
+        Part::Pair(_, _) | Part::Set(_) => Deed::Dies,
+    }
+}
+
+// What an ok makes of each row.
+fn deed_of_ok(calls: &[Call], id: u32, part: &Part) -> Deed
+    ensures { IsDeed calls.now (Returned id (answer_of part.now)) result }
+{
+    match call_of(calls, id) {
+        None => Deed::Dies,
+        Some(call) => match call.what {
+            What::Writes(value) => Deed::EndsWrite(call, value),
+            What::Reads => deed_of_answer(call, part),
+        },
+    }
+}
+
+// What an info makes of each row.
+fn deed_of_info(calls: &[Call], id: u32) -> Deed
+    ensures { IsDeed calls.now (Crashed id) result }
+{
+    match call_of(calls, id) {
+        None => Deed::Keeps,
+        Some(call) => match call.what {
+            What::Writes(_) => Deed::Keeps,
+            What::Reads => Deed::Leaves(id),
+        },
+    }
+}
+
+/// What an event of an operation makes of each row. The id is that of the operation, and the part of an ok is the answer.
+pub fn deed_of(calls: &[Call], id: u32, kind: EventKind, op: &Op) -> Deed
+    ensures { IsDeed calls.now (mark_by_act id id (act_by kind op.now)) result }
+{
+    match kind {
+        EventKind::Invoke => deed_of_invoke(calls, id, op),
+        EventKind::Ok => deed_of_ok(calls, id, &op.part),
+        EventKind::Fail => Deed::Fails(id),
+        EventKind::Info => deed_of_info(calls, id),
+    }
+}
+
+// Whether the operation is a write of the value that did not take place yet.
+fn is_free(row: &Row, call: &Call, value: i64) -> bool
+    ensures { IsTrue result ↔ IsFree row.now value call.now }
+{
+    call.what == What::Writes(value) && !has_id(&row.needed, call.id)
+}
+
+// The write takes place behind all others, and if it may, also just before the last write; the operation with the last id is done by it.
+fn put_both(
+    made: &mut Vec<Row>,
+    row: &Row,
+    calls: &[Call],
+    moment: u64,
+    write: u32,
+    value: i64,
+    done: u32,
+    may_before: bool,
+) -> Result<(), AllocError>
+    ensures each { OnOk result ((new : Row) → Contains made.new.items new → Contains made.old.items new
+        ⊎ IsPut calls.now write value moment (Some value) done row.now new
+        ⊎ (IsTrue may_before × IsPut calls.now write value row.now.door row.now.state done row.now new)) }
+    ensures old { OnOk result ((new : Row) → Contains made.old.items new → Contains made.new.items new) }
+    ensures behind { OnOk result (Has made.new.items (IsPut calls.now write value moment (Some value) done row.now)) }
+    ensures before { OnOk result (IsTrue may_before
+        → Has made.new.items (IsPut calls.now write value row.now.door row.now.state done row.now)) }
+{
+    made.push(row.put(calls, write, value, moment, Some(value), done)?)?;
+    if may_before {
+        made.push(row.put(calls, write, value, row.door, row.state, done)?)?;
+    }
+    Ok(())
+}
+
+// The row alone.
+fn one(alloc: Global, row: Row) -> Result<Vec<Row>, AllocError>
+    ensures { IfOk result (λ made. made.items ≡ row ∷ []) }
+{
+    let mut made = Vec::new(alloc);
+    made.push(row)?;
+    Ok(made)
+}
+
+// The operation has failed.
+fn fail(alloc: Global, row: &Row, id: u32) -> Result<Vec<Row>, AllocError>
+    ensures each { IfOk result (λ made. (new : Row) → Contains made.items new
+        → (¬ Contains row.now.needed.items id) × IsWithoutId id row.now new) }
+    ensures all { IfOk result (λ made. (¬ Contains row.now.needed.items id) → Has made.items (IsWithoutId id row.now)) }
+{
+    let needed = has_id(&row.needed, id);
+    if needed {
+        return Ok(Vec::new(alloc));
+    }
+    let out = row.without(id)?;
+    let made = one(alloc, out)?;
+    Ok(made)
+}
+
+// The write is done.
+fn end_write(
+    alloc: Global,
+    row: &Row,
+    calls: &[Call],
+    moment: u64,
+    write: &Call,
+    value: i64,
+) -> Result<Vec<Row>, AllocError>
+    ensures each { IfOk result (λ made. (new : Row) → Contains made.items new
+        → IsNextBy calls.now moment (Deed.EndsWrite write.now value) row.now new) }
+    ensures all { IfOk result (λ made. HasNextBy calls.now moment (Deed.EndsWrite write.now value) row.now made.items) }
+{
+    let needed = has_id(&row.needed, write.id);
+    if needed {
+        let out = row.without(write.id)?;
+        let made = one(alloc, out)?;
+        return Ok(made);
+    }
+    let may_before = row.has_door(write);
+    let mut made = Vec::new(alloc);
+    put_both(
+        &mut made, row, calls, moment, write.id, value, write.id, may_before,
+    )?;
+    Ok(made)
+}
+
+// Whether both operations may still take place just before the last write.
+fn have_door(row: &Row, read: &Call, write: &Call) -> bool
+    ensures { IsTrue result ↔ (HasDoor row.now read.now × HasDoor row.now write.now) }
+{
+    row.has_door(read) && row.has_door(write)
+}
+
+// A write of the value takes place, where the read may find it.
+fn write_for_read(
+    alloc: Global,
+    row: &Row,
+    calls: &[Call],
+    moment: u64,
+    read: &Call,
+    value: i64,
+) -> Result<Vec<Row>, AllocError>
+    ensures each { IfOk result (λ made. (new : Row) → Contains made.items new → (c : Call) × Contains calls.now c × IsFree row.now value c
+        × IsPutOf calls.now moment c value read.now.id (HasDoor row.now read.now × HasDoor row.now c) row.now new) }
+    ensures all { IfOk result (λ made. (c : Call) → Contains calls.now c → IsFree row.now value c
+        → HasPuts calls.now moment c value read.now.id (HasDoor row.now read.now × HasDoor row.now c) row.now made.items) }
+{
+    let mut made = Vec::new(alloc);
+    for call in calls {
+        if is_free(row, call, value) {
+            let both = have_door(row, read, call);
+            put_both(&mut made, row, calls, moment, call.id, value, read.id, both)?;
+        }
+    }
+    Ok(made)
+}
+
+// The read has answered the value.
+fn end_read(
+    alloc: Global,
+    row: &Row,
+    calls: &[Call],
+    moment: u64,
+    read: &Call,
+    value: i64,
+) -> Result<Vec<Row>, AllocError>
+    ensures each { IfOk result (λ made. (new : Row) → Contains made.items new
+        → IsNextBy calls.now moment (Deed.EndsRead read.now value) row.now new) }
+    ensures all { IfOk result (λ made. HasNextBy calls.now moment (Deed.EndsRead read.now value) row.now made.items) }
+{
+    let found = Found {
+        read: read.id,
+        value,
+    };
+    let may_find = has_found(&row.finds, found);
+    if may_find {
+        let out = row.without(read.id)?;
+        let made = one(alloc, out)?;
+        return Ok(made);
+    }
+    let written = write_for_read(alloc, row, calls, moment, read, value)?;
+    Ok(written)
+}
+
+/// The rows that the event makes of the row. Takes the time of the operations, each with what the row finds.
+pub fn next_rows(
+    alloc: Global,
+    row: &Row,
+    calls: &[Call],
+    moment: u64,
+    deed: &Deed,
+) -> Result<Vec<Row>, AllocError>
+    ensures each { IfOk result (λ made. (new : Row) → Contains made.items new → IsNextBy calls.now moment deed.now row.now new) }
+    ensures all { IfOk result (λ made. HasNextBy calls.now moment deed.now row.now made.items) }
+{
+    match deed {
+        Deed::Keeps => {
+            let same = row.copy()?;
+            let alone_same = one(alloc, same)?;
+            Ok(alone_same)
+        }
+        Deed::Begins(id) => {
+            let begun = row.with_read(*id)?;
+            let alone_begun = one(alloc, begun)?;
+            Ok(alone_begun)
+        }
+        Deed::Leaves(id) => {
+            let out = row.without(*id)?;
+            let alone_out = one(alloc, out)?;
+            Ok(alone_out)
+        }
+        Deed::Fails(id) => {
+            let failed = fail(alloc, row, *id)?;
+            Ok(failed)
+        }
+        Deed::EndsWrite(write, value) => {
+            let written = end_write(alloc, row, calls, moment, write, *value)?;
+            Ok(written)
+        }
+        Deed::EndsRead(read, value) => {
+            let answered = end_read(alloc, row, calls, moment, read, *value)?;
+            Ok(answered)
+        }
+        Deed::Dies => Ok(Vec::new(alloc)),
+    }
+}
+
+// Whether the operation is a write of the value.
+fn writes(call: &Call, value: i64) -> bool
+    ensures { IsTrue result ↔ (call.now.what ≡ What.Writes value) }
+{
+    call.what == What::Writes(value)
+}
+
+// How many of the operations are writes of the value.
+fn writes_of(calls: &[Call], value: i64) -> u64
+    ensures { result ≤ length calls.now }
+{
+    let mut many = 0;
+    for call in calls {
+        if writes(call, value) {
+            many += 1;
+        }
+    }
+    many
+}
+
+/// How many operations an event tries at each row. Takes the time of the operations.
+pub fn tries_of(calls: &[Call], deed: &Deed) -> u64
+    ensures { AreTries calls.now deed.now result }
+{
+    match deed {
+        Deed::EndsWrite(_, _) => 1,
+        Deed::EndsRead(_, value) => writes_of(calls, *value),
+        _ => 0,
+    }
+}
