@@ -1,5 +1,5 @@
-//! Worked rows of texts, sequential objects, histories, orders of histories, and wide sets. Each answer is compared with one that follows
-//! from the grammar, the tables and the definitions by hand. It has tests alone.
+//! Worked rows of texts, sequential objects, histories, orders of histories, wide sets, and wide registers. Each answer is compared
+//! with one that follows from the grammar, the tables and the definitions by hand. It has tests alone.
 #![tactic(auto)]
 
 #[cfg(test)]
@@ -8,6 +8,8 @@ mod histories;
 mod objects;
 #[cfg(test)]
 mod orders;
+#[cfg(test)]
+mod registers;
 #[cfg(test)]
 mod sets;
 #[cfg(test)]

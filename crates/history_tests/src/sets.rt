@@ -131,7 +131,10 @@ fn wide_set_answers(rt: HostRuntime) -> Result<(), Fail> {
         judge(alloc, &FAILED_ADD_WAS_READ, false)?,
         "a failed add was read"
     );
-    assert!(rt; judge(alloc, &ANOTHER_ADD_STAYS, false)?, "another add stays");
+    assert!(rt;
+        judge(alloc, &ANOTHER_ADD_STAYS, false)?,
+        "another add stays"
+    );
     assert!(rt; judge(alloc, &READ_BACKWARDS, false)?, "read backwards");
     assert!(rt; judge(alloc, &LATE_ANSWER, false)?, "late answer");
     assert!(rt; judge(alloc, &ADDED_AGAIN, false)?, "added again");
