@@ -119,12 +119,7 @@ pub fn confirm_file<X: Wait + Opens, W: Write + Failed + Flushes, L: Onlooker>(
 
 /// Reads a recorded history from a reader and an order of its operations from a file: [`confirm_text`] of what they have, with
 /// the same status, cost and waiting. The onlooker is told of each read of the file, and of one that fails with its path.
-pub fn confirm_input<
-    X: Wait + Opens,
-    R: Read + Failed,
-    W: Write + Failed + Flushes,
-    L: Onlooker,
->(
+pub fn confirm_input<X: Wait + Opens, R: Read + Failed, W: Write + Failed + Flushes, L: Onlooker>(
     rt: &X,
     alloc: Global,
     reader: &mut R,
