@@ -1,15 +1,16 @@
 -- Promise: the lean ends of a register, event by event (this project's own)
-use Rattle.std.specs.Prelude.{◌≡◌, ◌↔◌, ℕ, ℤ, ◌⊎◌, Bool, false, IsTrue, Option, Some, None, List, [], ◌∷◌, ◌++◌}
+use Rattle.std.specs.Prelude.{◌≡◌, ◌↔◌, ℕ, ℤ, ◌<◌, ◌⊎◌, Bool, false, IsTrue, Option, Some, None, List, [], ◌∷◌, ◌++◌, length}
 use Rattle.std.specs.List.{Contains}
 use Rattle.models.specs.declared.operation.Name.TheVariants.{Read, Write}
 use Rattle.models.specs.declared.operation.Part.TheVariants.{Nil, Int}
 use Rattle.models.specs.declared.operation.Op.{Op}
 use Rattle.models.specs.declared.finding.Answer.{Answer}
 use Rattle.models.specs.declared.finding.Answer.TheVariants.{Nothing, Number}
+use Rattle.models.specs.Objects.{register}
 use Rattle.events.specs.Events.{Mark}
 use Rattle.events.specs.Events.Mark.{Invoked, Returned, Failed, Crashed}
 use Rattle.linspec.specs.Operations.{HasReturned, IsOpen}
-use Rattle.linspec.specs.Orders.{Pairwise}
+use Rattle.linspec.specs.Orders.{IsLinearizable, Pairwise}
 
 -- the operation writes v; it reads
 abbrev pub Writes : Op → ℤ → Type 0
@@ -144,3 +145,8 @@ AreLeftByAll marks ends (m ∷ more) left =
 -- these are the lean ends of the history, each once
 abbrev pub AreLeanEnds : List Mark → List LeanEnd → Type 0
 AreLeanEnds marks left = AreLeftByAll [] (start ∷ []) marks left
+
+-- the history has a legal order, and more than n lean ends
+abbrev pub HasMoreLeanEndsThan : List Mark → ℕ → Type 0
+HasMoreLeanEndsThan marks n =
+    IsLinearizable register marks × ((left : List LeanEnd) × AreLeanEnds marks left × (n < length left))
