@@ -15,3 +15,4 @@ pub mod Taking
 pub mod Searching
 pub mod Beginning
 pub mod Prepared
+pub mod Stepping
