@@ -12,6 +12,8 @@ pub mod any_frontier;
 mod change;
 pub mod frontier;
 mod product_form;
+pub mod wide;
 
 pub use any_frontier::AnyFrontier;
 pub use frontier::{Frontier, Step};
+pub use wide::WideFrontier;
