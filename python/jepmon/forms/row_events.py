@@ -5,7 +5,7 @@ from typing import Any, Dict, Iterator, List, Optional, Tuple, Union
 
 from . import Refused
 from .account import ORDER, Account
-from .answers import answered, completed
+from .answers import completed
 from .clock import Time
 from .mapping import LINES, Mapping
 from .meaning import ANSWERED, MISSING, Reader, Told

@@ -5,7 +5,7 @@ import re
 from typing import Dict, Iterator, List, Mapping, Optional, Sequence
 
 from ..forms.account import TYPE, Account
-from ..from_jepsen.meant import NUMBERS, Meant, text_of
+from ..from_jepsen.meant import NUMBERS, Meant
 from ..history import Event, Operation, operations
 from ..kinds import REGISTERS
 from ..program import KeyLine

@@ -7,7 +7,6 @@ from ..explain.event import Options as Explained
 from ..explain.said import said as explained
 from ..forms import Refused
 from ..forms.files import Source
-from ..forms.own import Facts
 from ..forms.recorded import Options as Said
 from ..forms.recorded import Recorded, recorded
 from ..history import Event
