@@ -59,7 +59,7 @@ def words() -> argparse.Namespace:
     of_split.add_argument("--concurrency", type=int, metavar="N", help="the threads of the clients, in place of the number found")
     of_split.add_argument("--model", choices=tuple(kinds.MODELS), metavar="NAME",
                           help="the object that each key is, in place of the one found")
-    of_split.add_argument("--budget", type=int, default=4096, metavar="N", help="ends of a key that are kept apart (4096)")
+    of_split.add_argument("--budget", type=int, default=kinds.BUDGET, metavar="N", help=f"ends of a key that are kept apart ({kinds.BUDGET})")
     of_split.add_argument("--jobs", type=int, metavar="N", help="processes that read the history side by side")
     of_split.add_argument("--temporary", metavar="DIR", help="the folder for temporary files")
     of_judge = tools.add_parser("judge", help="have shards judged")
