@@ -103,14 +103,14 @@ def given(words: Optional[List[str]]) -> Given:
     parser.add_argument("--strict-input", action="store_true", help="refuse each guess, as of the model or of a key, in place of judging by it")
     mapping_words.add(parser)
     meant_words.add(parser)
-    parser.add_argument("--wide", action="store_true", help=f"take up to {LONG} seconds, in place of {SHORT}, to decide keys that are over "
+    parser.add_argument("--decide-over-budget", "--wide", dest="wide", action="store_true", help=f"take up to {LONG} seconds, in place of {SHORT}, to decide keys that are over "
                         "their budget by what is known afterwards")
-    parser.add_argument("--wide-seconds", metavar="N", type=number("a number of seconds", range(0, MOST_SECONDS + 1)),
+    parser.add_argument("--decide-seconds", "--wide-seconds", dest="wide_seconds", metavar="N", type=number("a number of seconds", range(0, MOST_SECONDS + 1)),
                         help="take up to so many seconds to decide these; 0 leaves it out")
     parser.add_argument("--html", metavar="PAGE", help="write a page that shows the cause; of a history with times also PAGE-rates.html: rates and latencies")
     parser.add_argument("--out", metavar="DIR", help="write the history as judged, the report, the cause, the page, and the command "
                         "that judges it again, into this folder")
-    parser.add_argument("--least", metavar="N", type=number("a number of operations", range(0, MOST_LEAST + 1)), default=1,
+    parser.add_argument("--min-ok", "--least", dest="least", metavar="N", type=number("a number of operations", range(0, MOST_LEAST + 1)), default=1,
                         help="there is no verdict where fewer operations were ok whose answers say something: status 3 (1)")
     parser.add_argument("--json", action="store_true", help="print one JSON object in place of the report, for other programs "
                         "(docs/FORMATS.md has its fields)")

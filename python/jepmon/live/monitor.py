@@ -211,6 +211,8 @@ class Monitor:
         """With unknown="drop": the keys over their budget that are not told any more, and what was said of them."""
         return self._telling.dropped
 
+    set_aside = dropped
+
     @property
     def counts(self) -> Dict[str, Counter[str]]:
         """How the operations ended, by name: {"read": Counter(ok=4, info=1), ..}. Only an ok is judged, so look at it at the end:

@@ -73,6 +73,8 @@ class Block:
         """Whether jepmon was told of it: not if its key or object was judged no more."""
         return self._told
 
+    recorded = told
+
     def fail(self) -> None:
         """The operation certainly did not take place."""
         self.__dict__.update(_said="fail")

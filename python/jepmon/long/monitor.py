@@ -152,6 +152,8 @@ class LongMonitor:
         """How many programs were begun."""
         return self._parts.begun
 
+    segments = parts
+
     @property
     def failure(self) -> Optional[NotLegal]:
         """What is not legal, once it was found."""
@@ -167,6 +169,8 @@ class LongMonitor:
         """How many objects were over their budget, and so were judged up to there."""
         with self._parts.lock:
             return self._parts.tally.dropped + sum(len(part.dropped) for part in self._parts.untallied)
+
+    set_aside = dropped
 
     @property
     def counts(self) -> Dict[str, Counter[str]]:

@@ -81,7 +81,7 @@ def _parser() -> Words:
     parser = Words(prog=called, description=DESCRIPTION.format(tool=called), formatter_class=argparse.RawDescriptionHelpFormatter)
     parser.add_argument("server", metavar="SERVER", help=f"{', '.join(SERVERS)}, or a Python file that has a Server; {TEMPLATE} prints one")
     parser.add_argument("--object", metavar="MODEL", help="what each key is: " + ", ".join(kinds.MODELS))
-    parser.add_argument("--plant", metavar="NAME", help="a fault of the server that is known, by its name")
+    parser.add_argument("--inject-bug", "--plant", dest="plant", metavar="NAME", help="a fault of the server that is known, by its name")
     parser.add_argument("--durability", metavar="NAME", help="how the server keeps what it acknowledges (the safest that it has)")
     parser.add_argument("--time", metavar="SECONDS", type=_positive("seconds"), default=20.0, help="how long clients are at work (20)")
     parser.add_argument("--clients", metavar="N", type=_within("clients", 1, MOST_CLIENTS), default=5, help="threads of clients (5)")
@@ -99,9 +99,9 @@ def _parser() -> Words:
     parser.add_argument("--nodes", metavar="N", type=_within("nodes", 1, 9), default=0, help="how many, where the server can have several")
     parser.add_argument("--network", choices=NETWORKS, default=AUTO, help="by what links are cut and slow: namespaces, of which each node "
                         "has one (as root on Linux), or a proxy on the loopback; auto takes namespaces where it can")
-    parser.add_argument("--least", metavar="N", type=_within("operations", 1, 1_000_000), default=20,
+    parser.add_argument("--min-ok", "--least", dest="least", metavar="N", type=_within("operations", 1, 1_000_000), default=20,
                         help="there is no verdict where fewer of some operation were ok: status 3 (20)")
-    parser.add_argument("--patience", metavar="SECONDS", type=_positive("seconds"), default=0.0,
+    parser.add_argument("--startup-timeout", "--patience", dest="patience", metavar="SECONDS", type=_positive("seconds"), default=0.0,
                         help="for a node to start, and to answer again at the end, before there is no verdict (120, of RabbitMQ 300)")
     parser.add_argument("--out", metavar="FOLDER", default="runs", help="the run gets a folder of its own there (runs)")
     parser.add_argument("--keep", metavar="N", type=_within("parts", 0, 1_000_000),
