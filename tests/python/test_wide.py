@@ -109,7 +109,7 @@ class Found(unittest.TestCase):
             path.write_text(text_of(events, 20))
             out, err = io.TextIOWrapper(io.BytesIO(), "utf-8"), io.StringIO()
             with contextlib.redirect_stdout(out), contextlib.redirect_stderr(err):
-                status = tool.main([str(path), "--concurrency", "20", *more])
+                status = tool.main([str(path), "--concurrency", "20", "--nil-is-unknown", *more])
             out.flush()
             assert isinstance(out.buffer, io.BytesIO)
             return status, out.buffer.getvalue().decode(), err.getvalue()
