@@ -61,16 +61,16 @@ impl Request {
     fn any(numbers: &mut Numbers, kind: ModelKind) -> Request {
         let first = numbers.below(2) == 0;
         let name = match kind {
-            ModelKind::Register if first => Name::Write,
+            ModelKind::Register | ModelKind::WideRegister if first => Name::Write,
             ModelKind::CasRegister if first => Name::Write,
             ModelKind::CasRegister if numbers.below(2) == 0 => Name::Cas,
-            ModelKind::Register | ModelKind::CasRegister => Name::Read,
+            ModelKind::Register | ModelKind::WideRegister | ModelKind::CasRegister => Name::Read,
             ModelKind::Mutex if first => Name::Acquire,
             ModelKind::Mutex => Name::Release,
             ModelKind::FifoQueue | ModelKind::UnorderedQueue if first => Name::Enqueue,
             ModelKind::FifoQueue | ModelKind::UnorderedQueue => Name::Dequeue,
-            ModelKind::Set if first => Name::Add,
-            ModelKind::Set => Name::Read,
+            ModelKind::Set | ModelKind::WideSet if first => Name::Add,
+            ModelKind::Set | ModelKind::WideSet => Name::Read,
         };
         Request {
             name,

@@ -1,7 +1,7 @@
 -- Promise: what is counted against the budget of a key, by the kind of its object (this project's own)
 use Rattle.std.specs.Prelude.{ℕ, Bool, List}
 use Rattle.models.specs.declared.model_kind.ModelKind.{ModelKind}
-use Rattle.models.specs.declared.model_kind.ModelKind.TheVariants.{Register, CasRegister, Mutex, FifoQueue, Set, UnorderedQueue}
+use Rattle.models.specs.declared.model_kind.ModelKind.TheVariants.{Register, CasRegister, Mutex, FifoQueue, Set, UnorderedQueue, WideRegister, WideSet}
 use Rattle.models.specs.declared.operation.Op.{Op}
 use Rattle.models.specs.Objects.{object_of}
 use Rattle.events.specs.Events.{Mark}

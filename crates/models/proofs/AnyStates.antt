@@ -4,9 +4,9 @@ use Rattle.std.specs.declared.alloc.AllocError.{AllocError}
 use Rattle.models.specs.declared.operation.Op.{Op}
 use Rattle.models.specs.declared.finding.Found.{Found}
 use Rattle.models.specs.declared.model_kind.ModelKind.{ModelKind}
-use Rattle.models.specs.declared.model_kind.ModelKind.TheVariants.{Register, CasRegister, Mutex, FifoQueue, Set, UnorderedQueue}
+use Rattle.models.specs.declared.model_kind.ModelKind.TheVariants.{Register, CasRegister, Mutex, FifoQueue, Set, UnorderedQueue, WideRegister, WideSet}
 use Rattle.models.specs.declared.any_state.AnyState.{AnyState}
-use Rattle.models.specs.declared.any_state.AnyState.TheVariants.{Register as OfRegister, CasRegister as OfCasRegister, Mutex as OfMutex, FifoQueue as OfFifoQueue, Set as OfSet, UnorderedQueue as OfUnorderedQueue}
+use Rattle.models.specs.declared.any_state.AnyState.TheVariants.{Register as OfRegister, CasRegister as OfCasRegister, Mutex as OfMutex, FifoQueue as OfFifoQueue, Set as OfSet, UnorderedQueue as OfUnorderedQueue, WideRegister, WideSet}
 use Rattle.models.specs.Objects.{IsOneOf, table_of, object_of}
 use Rattle.models.specs.AnyState.{any, kind_of_state, outcomes_of, AreOwnOutcomes}
 
@@ -22,6 +22,8 @@ own_at Mutex s op r h = h
 own_at FifoQueue s op r h = h
 own_at Set s op r h = h
 own_at UnorderedQueue s op r h = h
+own_at WideRegister s op r h = h
+own_at WideSet s op r h = h
 
 -- what holds by the state's own kind holds by any kind whose state it is
 pub outcomes-own : (a : AnyState) (op : Op) (r : Result (Vec (AnyState × Found) Global) AllocError)
@@ -64,6 +66,8 @@ is_own (OfMutex s) = (s, refl)
 is_own (OfFifoQueue s) = (s, refl)
 is_own (OfSet s) = (s, refl)
 is_own (OfUnorderedQueue s) = (s, refl)
+is_own (OfWideRegister s) = (s, refl)
+is_own (OfWideSet s) = (s, refl)
 
 pub kind_of_state-any : (kind : ModelKind) (s : (object_of kind).State) → kind_of_state (any kind s) ≡ kind
 kind_of_state-any Register s = refl
@@ -72,3 +76,5 @@ kind_of_state-any Mutex s = refl
 kind_of_state-any FifoQueue s = refl
 kind_of_state-any Set s = refl
 kind_of_state-any UnorderedQueue s = refl
+kind_of_state-any WideRegister s = refl
+kind_of_state-any WideSet s = refl

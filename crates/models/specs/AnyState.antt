@@ -3,9 +3,9 @@ use Rattle.std.specs.Prelude.{◌≡◌, List, map}
 use Rattle.models.specs.declared.operation.Op.{Op}
 use Rattle.models.specs.declared.finding.Found.{Found}
 use Rattle.models.specs.declared.model_kind.ModelKind.{ModelKind}
-use Rattle.models.specs.declared.model_kind.ModelKind.TheVariants.{Register, CasRegister, Mutex, FifoQueue, Set, UnorderedQueue}
+use Rattle.models.specs.declared.model_kind.ModelKind.TheVariants.{Register, CasRegister, Mutex, FifoQueue, Set, UnorderedQueue, WideRegister, WideSet}
 use Rattle.models.specs.declared.any_state.AnyState.{AnyState}
-use Rattle.models.specs.declared.any_state.AnyState.TheVariants.{Register as OfRegister, CasRegister as OfCasRegister, Mutex as OfMutex, FifoQueue as OfFifoQueue, Set as OfSet, UnorderedQueue as OfUnorderedQueue}
+use Rattle.models.specs.declared.any_state.AnyState.TheVariants.{Register as OfRegister, CasRegister as OfCasRegister, Mutex as OfMutex, FifoQueue as OfFifoQueue, Set as OfSet, UnorderedQueue as OfUnorderedQueue, WideRegister, WideSet}
 use Rattle.models.specs.Objects.{table_of, object_of}
 
 -- the state of the object of this kind
@@ -16,6 +16,8 @@ any Mutex s = OfMutex s
 any FifoQueue s = OfFifoQueue s
 any Set s = OfSet s
 any UnorderedQueue s = OfUnorderedQueue s
+any WideRegister s = OfWideRegister s
+any WideSet s = OfWideSet s
 
 abbrev pub kind_of_state : AnyState → ModelKind
 kind_of_state (OfRegister s) = Register
@@ -24,6 +26,8 @@ kind_of_state (OfMutex s) = Mutex
 kind_of_state (OfFifoQueue s) = FifoQueue
 kind_of_state (OfSet s) = Set
 kind_of_state (OfUnorderedQueue s) = UnorderedQueue
+kind_of_state (OfWideRegister s) = WideRegister
+kind_of_state (OfWideSet s) = WideSet
 
 -- the outcomes of the operation in the state, as the kind's table lists them, each state as one of any kind
 abbrev pub outcomes_of : (kind : ModelKind) → (object_of kind).State → Op → List (AnyState × Found)
@@ -38,3 +42,5 @@ AreOwnOutcomes (OfMutex s) op outcomes = outcomes ≡ outcomes_of Mutex s op
 AreOwnOutcomes (OfFifoQueue s) op outcomes = outcomes ≡ outcomes_of FifoQueue s op
 AreOwnOutcomes (OfSet s) op outcomes = outcomes ≡ outcomes_of Set s op
 AreOwnOutcomes (OfUnorderedQueue s) op outcomes = outcomes ≡ outcomes_of UnorderedQueue s op
+AreOwnOutcomes (OfWideRegister s) op outcomes = outcomes ≡ outcomes_of WideRegister s op
+AreOwnOutcomes (OfWideSet s) op outcomes = outcomes ≡ outcomes_of WideSet s op

@@ -13,7 +13,7 @@ use Rattle.models.specs.declared.finding.Found.TheVariants.{Unit as Done, Reg, I
 use Rattle.models.specs.declared.finding.Answer.{Answer}
 use Rattle.models.specs.declared.finding.Answer.TheVariants.{Nothing, Number, Numbers, Many}
 use Rattle.models.specs.declared.model_kind.ModelKind.{ModelKind}
-use Rattle.models.specs.declared.model_kind.ModelKind.TheVariants.{Register, CasRegister, Mutex, FifoQueue, Set as SetOfNumbers, UnorderedQueue}
+use Rattle.models.specs.declared.model_kind.ModelKind.TheVariants.{Register, CasRegister, Mutex, FifoQueue, Set as SetOfNumbers, UnorderedQueue, WideRegister, WideSet}
 use Rattle.values.specs.Members.{put_in}
 use Rattle.values.specs.Multisets.{with_one, without_one, values_of}
 
@@ -128,8 +128,18 @@ table_of UnorderedQueue = record {
   start = [];
   apply = λ op s. unordered_apply op.name op.part s;
 }
+table_of WideRegister = record {
+  State = Option ℤ;
+  start = None;
+  apply = λ op s. register_apply op.name op.part s;
+}
+table_of WideSet = record {
+  State = List ℤ;
+  start = [];
+  apply = λ op s. set_apply op.name op.part s;
+}
 
--- the object of each kind is that of its table
+-- the object of each kind is that of its table. A wide kind has the table of its plain kind: what is counted of it differs
 abbrev pub object_of : ModelKind → Object
 object_of kind = object_by (table_of kind)
 

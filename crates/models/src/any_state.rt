@@ -14,6 +14,8 @@ use crate::operation::Op;
 use crate::register::Register;
 use crate::set::Set;
 use crate::unordered_queue::UnorderedQueue;
+use crate::wide_register::WideRegister;
+use crate::wide_set::WideSet;
 use crate::{each_kind, of_kind};
 use std::alloc::{AllocError, Global};
 use values::{Items, Multiset, Spans};
@@ -26,6 +28,8 @@ pub enum AnyState {
     FifoQueue(Items),
     Set(Spans),
     UnorderedQueue(Multiset),
+    WideRegister(Option<i64>),
+    WideSet(Spans),
 }
 
 macro_rules! drop_of {

@@ -21,6 +21,8 @@ mod outcomes;
 pub mod register;
 pub mod set;
 pub mod unordered_queue;
+pub mod wide_register;
+pub mod wide_set;
 
 pub use any_state::AnyState;
 pub use cas_register::CasRegister;
@@ -33,3 +35,5 @@ pub use operation::{Key, Name, Op, Part};
 pub use register::Register;
 pub use set::Set;
 pub use unordered_queue::UnorderedQueue;
+pub use wide_register::WideRegister;
+pub use wide_set::WideSet;

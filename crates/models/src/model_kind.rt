@@ -18,6 +18,10 @@ pub enum ModelKind {
     Set,
     /// Empty at first: enqueue, dequeue, in any order.
     UnorderedQueue,
+    /// A register whose lean ends alone are counted.
+    WideRegister,
+    /// A set of which nothing is counted.
+    WideSet,
 }
 
 /// The list of the kinds: `each_kind!(callback; args)` is `callback!(args; KIND "name", ..)`. KIND is the kind's variant in
@@ -28,6 +32,23 @@ pub enum ModelKind {
 /// definitions (with its case where a proof goes by kinds).
 #[macro_export]
 macro_rules! each_kind {
+    ($callback:ident; $($args:tt)*) => {
+        $callback! { $($args)*;
+            Register "register",
+            CasRegister "cas-register",
+            Mutex "mutex",
+            FifoQueue "fifo-queue",
+            Set "set",
+            UnorderedQueue "unordered-queue",
+            WideRegister "wide-register",
+            WideSet "wide-set"
+        }
+    };
+}
+
+/// The list of the kinds whose ends are counted against the budget of a key, as [`each_kind!`] has them.
+#[macro_export]
+macro_rules! each_kind_with_ends {
     ($callback:ident; $($args:tt)*) => {
         $callback! { $($args)*;
             Register "register",

@@ -12,6 +12,8 @@ use crate::operation::Op;
 use crate::register::Register;
 use crate::set::Set;
 use crate::unordered_queue::UnorderedQueue;
+use crate::wide_register::WideRegister;
+use crate::wide_set::WideSet;
 use std::alloc::{AllocError, Global};
 use values::{Items, Multiset, Spans};
 
@@ -87,6 +89,28 @@ impl OfKind for UnorderedQueue {
 
     fn into_any(state: Multiset) -> AnyState {
         AnyState::UnorderedQueue(state)
+    }
+}
+
+impl OfKind for WideRegister {
+    ghost use Rattle.models.specs.AnyState.{any};
+    ghost use Rattle.models.specs.declared.model_kind.ModelKind.TheVariants.{WideRegister as OfThisKind};
+
+    ghost as_any = { λ state. any OfThisKind state };
+
+    fn into_any(state: Option<i64>) -> AnyState {
+        AnyState::WideRegister(state)
+    }
+}
+
+impl OfKind for WideSet {
+    ghost use Rattle.models.specs.AnyState.{any};
+    ghost use Rattle.models.specs.declared.model_kind.ModelKind.TheVariants.{WideSet as OfThisKind};
+
+    ghost as_any = { λ state. any OfThisKind state };
+
+    fn into_any(state: Spans) -> AnyState {
+        AnyState::WideSet(state)
     }
 }
 

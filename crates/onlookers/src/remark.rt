@@ -28,18 +28,20 @@ macro_rules! kinds {
     };
 }
 
-const KINDS: [ModelKind; 6] = each_kind!(kinds;);
+const KINDS: [ModelKind; 8] = each_kind!(kinds;);
 
 // Whether objects of this kind have operations of this name.
 fn has_operation(kind: ModelKind, name: Name) -> bool {
     match kind {
-        ModelKind::Register => matches!(name, Name::Read | Name::Write),
+        ModelKind::Register | ModelKind::WideRegister => {
+            matches!(name, Name::Read | Name::Write)
+        }
         ModelKind::CasRegister => matches!(name, Name::Read | Name::Write | Name::Cas),
         ModelKind::Mutex => matches!(name, Name::Acquire | Name::Release),
         ModelKind::FifoQueue | ModelKind::UnorderedQueue => {
             matches!(name, Name::Enqueue | Name::Dequeue)
         }
-        ModelKind::Set => matches!(name, Name::Add | Name::Read),
+        ModelKind::Set | ModelKind::WideSet => matches!(name, Name::Add | Name::Read),
     }
 }
 

@@ -30,7 +30,7 @@ fn add_children(
         ≡ map generator_of children.old.items ++ on_key kind key) }
 {
     match kind {
-        ModelKind::Register => {
+        ModelKind::Register | ModelKind::WideRegister => {
             children.push(plain(alloc, key, Name::Read)?)?;
             children.push(numbers(alloc, key, Name::Write)?)?;
         }
@@ -47,7 +47,7 @@ fn add_children(
             children.push(numbers(alloc, key, Name::Enqueue)?)?;
             children.push(plain(alloc, key, Name::Dequeue)?)?;
         }
-        ModelKind::Set => {
+        ModelKind::Set | ModelKind::WideSet => {
             children.push(numbers(alloc, key, Name::Add)?)?;
             children.push(plain(alloc, key, Name::Read)?)?;
         }

@@ -4,9 +4,9 @@ use Rattle.std.proofs.lemmas.Option.{same_Some}
 use Rattle.models.specs.declared.operation.Op.{Op}
 use Rattle.models.specs.declared.finding.Found.{Found}
 use Rattle.models.specs.declared.any_state.AnyState.{AnyState}
-use Rattle.models.specs.declared.any_state.AnyState.TheVariants.{Register as OfRegister, CasRegister as OfCasRegister, Mutex as OfMutex, FifoQueue as OfFifoQueue, Set as OfSet, UnorderedQueue as OfUnorderedQueue}
+use Rattle.models.specs.declared.any_state.AnyState.TheVariants.{Register as OfRegister, CasRegister as OfCasRegister, Mutex as OfMutex, FifoQueue as OfFifoQueue, Set as OfSet, UnorderedQueue as OfUnorderedQueue, WideRegister, WideSet}
 use Rattle.models.specs.declared.model_kind.ModelKind.{ModelKind}
-use Rattle.models.specs.declared.model_kind.ModelKind.TheVariants.{Register, CasRegister, Mutex, FifoQueue, Set, UnorderedQueue}
+use Rattle.models.specs.declared.model_kind.ModelKind.TheVariants.{Register, CasRegister, Mutex, FifoQueue, Set, UnorderedQueue, WideRegister, WideSet}
 use Rattle.models.specs.Objects.{object_of}
 use Rattle.models.specs.AnyState.{any, outcomes_of}
 use Rattle.test_store.specs.declared.held.Held.{Held}
@@ -28,6 +28,8 @@ some_kind (OfMutex s) = (Mutex, s, refl)
 some_kind (OfFifoQueue s) = (FifoQueue, s, refl)
 some_kind (OfSet s) = (Set, s, refl)
 some_kind (OfUnorderedQueue s) = (UnorderedQueue, s, refl)
+some_kind (OfWideRegister s) = (WideRegister, s, refl)
+some_kind (OfWideSet s) = (WideSet, s, refl)
 
 module _ (mode : Mode) (n : ℕ) (links : Links) (e : ℕ) (op : Op) (row : List Held) where
   one_place : (found other : Found) (a b : List Held) → TakesPlace mode n links e op row found a → TakesPlace mode n links e op row other b → (found ≡ other) × (a ≡ b)

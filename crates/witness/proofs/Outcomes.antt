@@ -5,7 +5,7 @@ use Rattle.std.proofs.lemmas.List.{length-append, length-map}
 use Rattle.models.specs.declared.operation.Op.{Op}
 use Rattle.models.specs.declared.finding.Found.{Found}
 use Rattle.models.specs.declared.model_kind.ModelKind.{ModelKind}
-use Rattle.models.specs.declared.model_kind.ModelKind.TheVariants.{Register, CasRegister, Mutex, FifoQueue, Set, UnorderedQueue}
+use Rattle.models.specs.declared.model_kind.ModelKind.TheVariants.{Register, CasRegister, Mutex, FifoQueue, Set, UnorderedQueue, WideRegister, WideSet}
 use Rattle.models.specs.declared.any_state.AnyState.{AnyState}
 use Rattle.models.specs.AnyState.{any, outcomes_of}
 use Rattle.models.specs.Objects.{IsOneOf, table_of, object_of}
@@ -32,6 +32,8 @@ one_at_most Mutex ne op s = few ((table_of Mutex).apply op s) (mutex_alone op s 
 one_at_most FifoQueue ne op s = few ((table_of FifoQueue).apply op s) (queue_alone op s 1 (omega arith)).0
 one_at_most Set ne op s = few ((table_of Set).apply op s) (set_alone op s 1 (omega arith)).0
 one_at_most UnorderedQueue ne op s = absurd (ne refl)
+one_at_most WideRegister ne op s = few ((table_of WideRegister).apply op s) (register_alone op s 1 (omega arith)).0
+one_at_most WideSet ne op s = few ((table_of WideSet).apply op s) (set_alone op s 1 (omega arith)).0
 
 -- a state has one form in each kind
 same_state : (kind : ModelKind) (s t : (object_of kind).State) → any kind s ≡ any kind t → s ≡ t
@@ -41,6 +43,8 @@ same_state Mutex s t e = cc
 same_state FifoQueue s t e = cc
 same_state Set s t e = cc
 same_state UnorderedQueue s t e = cc
+same_state WideRegister s t e = cc
+same_state WideSet s t e = cc
 
 module _ (kind : ModelKind) (s : (object_of kind).State) (c : Call) where
   -- no outcome

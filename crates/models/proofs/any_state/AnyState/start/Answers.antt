@@ -1,4 +1,4 @@
-use Rattle.models.specs.declared.model_kind.ModelKind.TheVariants.{Register, CasRegister, Mutex, FifoQueue, Set, UnorderedQueue}
+use Rattle.models.specs.declared.model_kind.ModelKind.TheVariants.{Register, CasRegister, Mutex, FifoQueue, Set, UnorderedQueue, WideRegister, WideSet}
 use Rattle.models.proofs.AnyStates.{start_at}
 use Rattle.models.proofs.any_state.AnyState.start.Goals as goal
 
@@ -19,3 +19,9 @@ returns-in-Set c = start_at Set c.start-in-Set.result c.args.kind c.start-in-Set
 
 pub returns-in-UnorderedQueue : goal.returns-in-UnorderedQueue
 returns-in-UnorderedQueue c = start_at UnorderedQueue c.start-in-UnorderedQueue.result c.args.kind c.start-in-UnorderedQueue.ensures c.in-UnorderedQueue.is
+
+pub returns-in-WideRegister : goal.returns-in-WideRegister
+returns-in-WideRegister c = start_at WideRegister c.start-in-WideRegister.result c.args.kind c.start-in-WideRegister.ensures c.in-WideRegister.is
+
+pub returns-in-WideSet : goal.returns-in-WideSet
+returns-in-WideSet c = start_at WideSet c.start-in-WideSet.result c.args.kind c.start-in-WideSet.ensures c.in-WideSet.is
