@@ -8,7 +8,7 @@ use Rattle.linspec.specs.Orders.{IsLinearizable}
 use Rattle.linspec.specs.Verdicts.{EndsShortestBadFront}
 use Rattle.linspec.proofs.Filters.{two_cuts}
 use Rattle.linspec.proofs.Fronts.{marks-append, IsLinearizable-front}
-use Rattle.lean_ends.specs.LeanEnds.{LeanEnd, IsLeanEnd}
+use Rattle.linspec.specs.LeanEnds.{LeanEnd, IsLeanEnd}
 use Rattle.lean_ends.proofs.Complete.{has_lean_end}
 use Rattle.lean_ends.proofs.Sound.{lean_end_is_left}
 

@@ -14,7 +14,7 @@ use Rattle.linspec.proofs.Lists.{Contains-nil, Contains-head, Pairwise-across, s
 use Rattle.linspec.proofs.Marks.{IsLegalOrder-fewer, IsLegalOrder-cut, Precedes-kept}
 use Rattle.linspec.proofs.Open.{open_without_new}
 use Rattle.linspec.proofs.Fates.{returned_or_not}
-use Rattle.lean_ends.specs.LeanEnds.{Reads, MayRead, LeanEnd, Becomes}
+use Rattle.linspec.specs.LeanEnds.{Reads, MayRead, LeanEnd, Becomes}
 use Rattle.lean_ends.proofs.Splits.{UpToLast, up_to_last}
 use Rattle.lean_ends.proofs.Steps.{run_same, no_read}
 use Rattle.lean_ends.proofs.Once.{one_op, sort_of}

@@ -8,7 +8,7 @@ use Rattle.linspec.specs.MarkRule.{AreWellFormed}
 use Rattle.linspec.specs.Orders.{Taken, IsLegalOrder, IsLinearizable}
 use Rattle.linspec.proofs.Lists.{Contains-nil, Contains-head}
 use Rattle.linspec.proofs.Marks.{IsLegalOrder-fewer}
-use Rattle.lean_ends.specs.LeanEnds.{LeanEnd, start, Becomes, BecomesBy, IsLeanEnd}
+use Rattle.linspec.specs.LeanEnds.{LeanEnd, start, Becomes, BecomesBy, IsLeanEnd}
 use Rattle.lean_ends.proofs.Covers.{Covers}
 use Rattle.lean_ends.proofs.Events.{after_fail, after_crash, after_ok}
 use Rattle.lean_ends.proofs.Beginning.{after_invoke}

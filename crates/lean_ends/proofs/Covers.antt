@@ -10,7 +10,7 @@ use Rattle.linspec.specs.Operations.{HasReturned, IsOpen, Precedes}
 use Rattle.linspec.specs.Orders.{Taken, Includes, Run, IsLegalOrder}
 use Rattle.linspec.proofs.Lists.{Contains-nil, Contains-head, Pairwise-across}
 use Rattle.linspec.proofs.Marks.{Run-cut}
-use Rattle.lean_ends.specs.LeanEnds.{Writes, Reads, IsWriteOf, MayRead, MayWrite, LeanEnd}
+use Rattle.linspec.specs.LeanEnds.{Writes, Reads, IsWriteOf, MayRead, MayWrite, LeanEnd}
 use Rattle.lean_ends.proofs.Splits.{two_cuts}
 use Rattle.lean_ends.proofs.Steps.{LastWrite, run_view, run_same, no_read}
 use Rattle.lean_ends.proofs.Once.{read_no_write}

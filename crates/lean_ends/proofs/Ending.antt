@@ -9,7 +9,7 @@ use Rattle.linspec.specs.MarkRule.{id_of}
 use Rattle.linspec.specs.Orders.{Taken}
 use Rattle.linspec.proofs.Marks.{Precedes-kept}
 use Rattle.linspec.proofs.Open.{IsCompletion, no_invocation, was_open}
-use Rattle.lean_ends.specs.LeanEnds.{MayRead, MayWrite, LeanEnd, IsWithout}
+use Rattle.linspec.specs.LeanEnds.{MayRead, MayWrite, LeanEnd, IsWithout}
 use Rattle.lean_ends.proofs.Covers.{MayFind, Extra, Covers}
 
 module _ (marks : List Mark) (m : Mark) (c : IsCompletion m) where

@@ -14,7 +14,7 @@ use Rattle.linspec.specs.Orders.{Taken, Includes, Pairwise, Run, IsLegalOrder}
 use Rattle.linspec.proofs.Lists.{Contains-cons_cases, Pairwise-right, cut_at}
 use Rattle.linspec.proofs.Marks.{IsLegalOrder-fewer, Run-cut, Precedes-returned}
 use Rattle.linspec.proofs.Open.{was_open}
-use Rattle.lean_ends.specs.LeanEnds.{IsWriteOf, IsRead, MayWrite, LeanEnd, IsWithout, Becomes}
+use Rattle.linspec.specs.LeanEnds.{IsWriteOf, IsRead, MayWrite, LeanEnd, IsWithout, Becomes}
 use Rattle.lean_ends.proofs.Steps.{step_view}
 use Rattle.lean_ends.proofs.Once.{read_no_write, read_or_not}
 use Rattle.lean_ends.proofs.Makes.{is_true, some_behind, some_before, some_without}

@@ -13,7 +13,7 @@ use Rattle.linspec.specs.Operations.{HasReturned, IsOpen, Precedes}
 use Rattle.linspec.specs.Orders.{Taken, Includes, Run, IsLegalOrder}
 use Rattle.linspec.proofs.Marks.{IsLegalOrder-more, Run-append, Run-cut, Precedes-cases, Precedes-returned}
 use Rattle.linspec.proofs.Open.{IsCompletion, no_invocation, stays_open}
-use Rattle.lean_ends.specs.LeanEnds.{Reads, MayRead, LeanEnd, IsWithout}
+use Rattle.linspec.specs.LeanEnds.{Reads, MayRead, LeanEnd, IsWithout}
 use Rattle.lean_ends.proofs.Splits.{two_cuts}
 use Rattle.lean_ends.proofs.Orders.{IsLegalOrder-within, within_cases, within_it, within_others}
 use Rattle.lean_ends.proofs.Steps.{run_same, read_step}

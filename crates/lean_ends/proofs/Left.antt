@@ -9,7 +9,7 @@ use Rattle.linspec.specs.Operations.{IsOpen}
 use Rattle.linspec.specs.Orders.{Taken, IsLinearizable, Pairwise}
 use Rattle.linspec.proofs.Counts.{no_longer_than}
 use Rattle.linspec.proofs.Lists.{Contains-nil, Contains-head, Contains-cons_cases, Pairwise-weaker}
-use Rattle.lean_ends.specs.LeanEnds.{LeanEnd, start, IsAtMost, AreLeftBy, AreLeftByAll, AreLeanEnds, HasMoreLeanEnds}
+use Rattle.linspec.specs.LeanEnds.{LeanEnd, start, IsAtMost, AreLeftBy, AreLeftByAll, AreLeanEnds, HasMoreLeanEnds}
 use Rattle.lean_ends.proofs.Covers.{Extra, Covers}
 use Rattle.lean_ends.proofs.Complete.{AreComplete, complete_after, at_first}
 use Rattle.lean_ends.proofs.Sound.{IsLeft, left_after, left_at_first}

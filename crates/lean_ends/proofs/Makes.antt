@@ -5,7 +5,7 @@ use Rattle.std.proofs.lemmas.Bool.{cases_Bool, cases_eq, true≢false}
 use Rattle.std.proofs.lemmas.Bool.Decides.{Decides-int_eq}
 use Rattle.events.specs.Events.{Mark}
 use Rattle.linspec.specs.MarkRule.{AreWellFormed}
-use Rattle.lean_ends.specs.LeanEnds.{LeanEnd, MayRead, MayWrite, IsPutBehind, IsPutBefore, IsWithout, IsWithRead}
+use Rattle.linspec.specs.LeanEnds.{LeanEnd, MayRead, MayWrite, IsPutBehind, IsPutBefore, IsWithout, IsWithRead}
 use Rattle.lean_ends.proofs.Once.{may_read_or_not, may_write_or_not}
 
 abbrev pub Decided : Type 0 → Type 0

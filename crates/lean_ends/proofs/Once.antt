@@ -12,7 +12,7 @@ use Rattle.events.specs.Events.Mark.{Invoked}
 use Rattle.linspec.specs.MarkRule.{IsNew, AreWellFormed}
 use Rattle.linspec.proofs.Lists.{Contains-head, Contains-cons_cases, cut_at}
 use Rattle.linspec.proofs.Fates.{invoked_or_not, open_or_not, returned_or_not, failed_or_not}
-use Rattle.lean_ends.specs.LeanEnds.{Writes, Reads, IsWriteOf, IsRead, MayWrite, MayRead}
+use Rattle.linspec.specs.LeanEnds.{Writes, Reads, IsWriteOf, IsRead, MayWrite, MayRead}
 use Rattle.lean_ends.proofs.Steps.{no_read, one_value}
 
 -- which operation it is: a read, a write or another one

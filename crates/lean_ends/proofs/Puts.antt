@@ -4,7 +4,7 @@ use Rattle.std.proofs.lemmas.Bool.{cases_eq}
 use Rattle.events.specs.Events.{Mark}
 use Rattle.linspec.specs.MarkRule.{AreWellFormed}
 use Rattle.linspec.specs.Orders.{Taken, Includes}
-use Rattle.lean_ends.specs.LeanEnds.{IsWriteOf, MayRead, LeanEnd, IsPutBehind, IsPutBefore}
+use Rattle.linspec.specs.LeanEnds.{IsWriteOf, MayRead, LeanEnd, IsPutBehind, IsPutBefore}
 use Rattle.lean_ends.proofs.Once.{read_no_write, same_value}
 use Rattle.lean_ends.proofs.Covers.{MayFind, Extra, CoversSame, CoversBehind, Covers}
 

@@ -16,7 +16,7 @@ use Rattle.linspec.specs.Orders.{Taken, Includes, Run, IsLegalOrder, IsLineariza
 use Rattle.linspec.proofs.Lists.{Contains-nil, cut_at}
 use Rattle.linspec.proofs.Marks.{IsLegalOrder-more, Run-cut, Precedes-cases}
 use Rattle.linspec.proofs.Open.{open_with_new, new_is_open}
-use Rattle.lean_ends.specs.LeanEnds.{Reads, IsWriteOf, IsRead, MayRead, MayWrite, LeanEnd, start, IsPutBehind, IsPutBefore, IsWithout, EndsWrite, EndsRead, Answers, Begins, Becomes, BecomesBy, IsLeanEnd}
+use Rattle.linspec.specs.LeanEnds.{Reads, IsWriteOf, IsRead, MayRead, MayWrite, LeanEnd, start, IsPutBehind, IsPutBefore, IsWithout, EndsWrite, EndsRead, Answers, Begins, Becomes, BecomesBy, IsLeanEnd}
 use Rattle.lean_ends.proofs.Steps.{step_view, no_read}
 use Rattle.lean_ends.proofs.Once.{one_op, read_no_write}
 use Rattle.lean_ends.proofs.Covers.{MayFind}

@@ -9,7 +9,7 @@ use Rattle.linspec.specs.Operations.{HasReturned, Precedes}
 use Rattle.linspec.specs.Orders.{Taken, Includes, Run, IsLegalOrder}
 use Rattle.linspec.proofs.Lists.{Contains-nil, Contains-cons_cases}
 use Rattle.linspec.proofs.Marks.{IsLegalOrder-extend, Run-append, Run-cut, Precedes-returned}
-use Rattle.lean_ends.specs.LeanEnds.{Writes, Reads, IsWriteOf, MayRead, MayWrite, LeanEnd, IsPutBehind, IsPutBefore}
+use Rattle.linspec.specs.LeanEnds.{Writes, Reads, IsWriteOf, MayRead, MayWrite, LeanEnd, IsPutBehind, IsPutBefore}
 use Rattle.lean_ends.proofs.Splits.{two_cuts}
 use Rattle.lean_ends.proofs.Orders.{IsLegalOrder-within, within_cases, within_it, within_others}
 use Rattle.lean_ends.proofs.Steps.{write_step, write_anywhere}

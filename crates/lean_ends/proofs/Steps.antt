@@ -12,7 +12,7 @@ use Rattle.models.specs.Objects.{IsOneOf, register, register_apply}
 use Rattle.models.proofs.Steps.{same_outcome}
 use Rattle.linspec.specs.Orders.{Taken, Run}
 use Rattle.linspec.proofs.Lists.{Contains-nil, Contains-cons_cases}
-use Rattle.lean_ends.specs.LeanEnds.{Writes, Reads}
+use Rattle.linspec.specs.LeanEnds.{Writes, Reads}
 
 -- a step is a write's or a read's
 abbrev pub View : Name → Part → Option ℤ → Found → Option ℤ → Type 0

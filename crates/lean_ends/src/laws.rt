@@ -6,7 +6,7 @@ ghost use Rattle.events.specs.Events.{Mark, Entry, marks, IsFront};
 ghost use Rattle.linspec.specs.MarkRule.{AreWellFormed};
 ghost use Rattle.linspec.specs.Orders.{IsLinearizable};
 ghost use Rattle.linspec.specs.Verdicts.{EndsShortestBadFront};
-ghost use Rattle.lean_ends.specs.LeanEnds.{LeanEnd, IsLeanEnd, AreLeanEnds, HasMoreLeanEnds};
+ghost use Rattle.linspec.specs.LeanEnds.{LeanEnd, IsLeanEnd, AreLeanEnds, HasMoreLeanEnds};
 
 /// A history of a register is linearizable exactly if it has a lean end. Nothing is lost if ends that are at most another one are left out at
 /// each event.

@@ -28,6 +28,8 @@ counted_order Mutex = some_order (object_of Mutex)
 counted_order FifoQueue = some_order (object_of FifoQueue)
 counted_order Set = some_order (object_of Set)
 counted_order UnorderedQueue = some_order (object_of UnorderedQueue)
+counted_order WideRegister = λ marks n h. h.0
+counted_order WideSet = λ marks n none. absurd none
 
 -- no fewer are counted with crashed reads
 pub counted_with_reads : (kind : ModelKind) → CountsLess (CountsMoreThan kind) (CountsMoreThanWithReads kind)
@@ -37,3 +39,5 @@ counted_with_reads Mutex = less_with_reads (object_of Mutex)
 counted_with_reads FifoQueue = less_with_reads (object_of FifoQueue)
 counted_with_reads Set = less_with_reads (object_of Set)
 counted_with_reads UnorderedQueue = less_with_reads (object_of UnorderedQueue)
+counted_with_reads WideRegister = λ marks n h. h
+counted_with_reads WideSet = λ marks n none. absurd none

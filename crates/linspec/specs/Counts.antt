@@ -6,9 +6,10 @@ use Rattle.models.specs.declared.operation.Op.{Op}
 use Rattle.models.specs.Objects.{object_of}
 use Rattle.events.specs.Events.{Mark}
 use Rattle.linspec.specs.Ends.{every, is_no_read, HasMoreThanBy}
+use Rattle.linspec.specs.LeanEnds.{HasMoreLeanEndsThan}
 
--- the history of a key of this kind has more than n of what is counted. Each of these kinds counts its ends, where counts
--- says which crashed operations count
+-- the history of a key of this kind has more than n of what is counted. A plain kind counts its ends, where counts says which
+-- crashed operations count; a wide register its lean ends; of a wide set nothing is counted
 abbrev pub CountsMoreThanBy : (Op → Bool) → ModelKind → List Mark → ℕ → Type 0
 CountsMoreThanBy counts Register = HasMoreThanBy counts (object_of Register)
 CountsMoreThanBy counts CasRegister = HasMoreThanBy counts (object_of CasRegister)
@@ -16,6 +17,8 @@ CountsMoreThanBy counts Mutex = HasMoreThanBy counts (object_of Mutex)
 CountsMoreThanBy counts FifoQueue = HasMoreThanBy counts (object_of FifoQueue)
 CountsMoreThanBy counts Set = HasMoreThanBy counts (object_of Set)
 CountsMoreThanBy counts UnorderedQueue = HasMoreThanBy counts (object_of UnorderedQueue)
+CountsMoreThanBy counts WideRegister = HasMoreLeanEndsThan
+CountsMoreThanBy counts WideSet = λ marks n. ⊥
 
 -- crashed reads are set aside
 abbrev pub CountsMoreThan : ModelKind → List Mark → ℕ → Type 0

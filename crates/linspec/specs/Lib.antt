@@ -1,6 +1,7 @@
 pub mod Operations
 pub mod Orders
 pub mod Ends
+pub mod LeanEnds
 pub mod Counts
 pub mod Verdicts
 pub mod MarkRule

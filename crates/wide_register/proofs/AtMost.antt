@@ -3,7 +3,7 @@ use Rattle.std.proofs.Common.{◌≡◌, ◌<◌, true, List, refl, sym, ◌∙�
 use Rattle.std.specs.List.{Contains}
 use Rattle.events.specs.Events.{Mark}
 use Rattle.linspec.specs.Operations.{IsOpen}
-use Rattle.lean_ends.specs.LeanEnds.{IsAtMost}
+use Rattle.linspec.specs.LeanEnds.{IsAtMost}
 use Rattle.lean_ends.proofs.Sound.{IsLeft}
 use Rattle.wide_register.specs.declared.calls.Call.{Call}
 use Rattle.wide_register.specs.declared.calls.What.TheVariants.{Writes}

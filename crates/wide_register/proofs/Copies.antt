@@ -8,7 +8,7 @@ use Rattle.std.proofs.lemmas.List.Elements.{AllZip-push, Contains-push, Contains
 use Rattle.events.specs.Events.{Mark}
 use Rattle.linspec.specs.MarkRule.{AreWellFormed}
 use Rattle.linspec.proofs.Lists.{Contains-nil, Contains-head, Contains-tail, Contains-cons_cases}
-use Rattle.lean_ends.specs.LeanEnds.{AreLeanEnds, start}
+use Rattle.linspec.specs.LeanEnds.{AreLeanEnds, start}
 use Rattle.wide_register.specs.declared.calls.Call.{Call}
 use Rattle.wide_register.specs.declared.calls.What.{What}
 use Rattle.wide_register.specs.declared.calls.What.TheVariants.{Writes, Reads}

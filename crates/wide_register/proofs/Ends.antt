@@ -6,7 +6,7 @@ use Rattle.std.proofs.lemmas.Bool.{cases_Bool, true≢false, and_parts, and_from
 use Rattle.std.proofs.lemmas.Bool.Decides.{Decides-int_eq, nat_tests}
 use Rattle.events.specs.Events.{Mark}
 use Rattle.linspec.proofs.Lists.{Contains-nil, Contains-head, Contains-tail, Contains-cons_cases}
-use Rattle.lean_ends.specs.LeanEnds.{LeanEnd, IsPutBehind, IsPutBefore, IsWithout, IsWithRead}
+use Rattle.linspec.specs.LeanEnds.{LeanEnd, IsPutBehind, IsPutBefore, IsWithout, IsWithRead}
 use Rattle.lean_ends.proofs.Left.{at_most_each_other}
 use Rattle.wide_register.specs.declared.calls.Call.{Call}
 use Rattle.wide_register.specs.declared.row.Found.{Found}

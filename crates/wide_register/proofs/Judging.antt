@@ -11,7 +11,7 @@ use Rattle.events.specs.Events.Mark.{Invoked, Returned, Failed, Crashed}
 use Rattle.linspec.specs.MarkRule.{MayFollow}
 use Rattle.linspec.specs.Orders.{IsLinearizable}
 use Rattle.linspec.proofs.Lists.{Contains-nil, Contains-head}
-use Rattle.lean_ends.specs.LeanEnds.{HasMoreLeanEnds}
+use Rattle.linspec.specs.LeanEnds.{HasMoreLeanEnds}
 use Rattle.lean_ends.proofs.Left.{some_is_left, as_many}
 use Rattle.wide_register.specs.declared.row.Row.{Row}
 use Rattle.wide_register.specs.declared.kept.Kept.{Kept}

@@ -10,7 +10,7 @@ use Rattle.events.specs.Events.{Mark}
 use Rattle.events.specs.Events.Mark.{Invoked, Failed, Crashed}
 use Rattle.linspec.specs.Operations.{IsOpen}
 use Rattle.linspec.specs.MarkRule.{AreWellFormed}
-use Rattle.lean_ends.specs.LeanEnds.{LeanEnd, IsRead, IsWithRead, Becomes, Reads as ReadsBy}
+use Rattle.linspec.specs.LeanEnds.{LeanEnd, IsRead, IsWithRead, Becomes, Reads as ReadsBy}
 use Rattle.lean_ends.proofs.Sound.{IsLeft}
 use Rattle.wide_register.specs.declared.calls.Call.{Call}
 use Rattle.wide_register.specs.declared.calls.What.TheVariants.{Writes, Reads}

@@ -5,7 +5,7 @@ use Rattle.events.specs.Events.{Mark}
 use Rattle.linspec.specs.MarkRule.{AreWellFormed}
 use Rattle.linspec.specs.Orders.{Pairwise}
 use Rattle.linspec.proofs.Lists.{Contains-nil, Contains-cons_cases}
-use Rattle.lean_ends.specs.LeanEnds.{LeanEnd, MayRead, MayWrite, IsRead, IsPutBehind, IsPutBefore, IsWithout}
+use Rattle.linspec.specs.LeanEnds.{LeanEnd, MayRead, MayWrite, IsRead, IsPutBehind, IsPutBefore, IsWithout}
 use Rattle.lean_ends.proofs.Once.{read_no_write}
 use Rattle.lean_ends.proofs.Makes.{some_behind, some_before}
 use Rattle.lean_ends.proofs.Sound.{IsLeft}

@@ -7,7 +7,7 @@ use Rattle.events.specs.Events.{Mark}
 use Rattle.events.specs.Events.Mark.{Returned}
 use Rattle.linspec.specs.Operations.{IsOpen}
 use Rattle.linspec.specs.MarkRule.{AreWellFormed}
-use Rattle.lean_ends.specs.LeanEnds.{LeanEnd, IsWriteOf, IsRead, IsPutBehind, IsPutBefore, IsWithout, EndsWrite as EndsWriteBy, EndsRead as EndsReadBy, Becomes}
+use Rattle.linspec.specs.LeanEnds.{LeanEnd, IsWriteOf, IsRead, IsPutBehind, IsPutBefore, IsWithout, EndsWrite as EndsWriteBy, EndsRead as EndsReadBy, Becomes}
 use Rattle.lean_ends.proofs.Once.{read_no_write, same_value}
 use Rattle.lean_ends.proofs.Sound.{IsLeft}
 use Rattle.wide_register.specs.declared.calls.Call.{Call}

@@ -16,7 +16,7 @@ use Rattle.linspec.specs.MarkRule.{id_of, IsNew, MayFollow}
 use Rattle.linspec.specs.Orders.{Pairwise}
 use Rattle.linspec.proofs.Lists.{Contains-nil, Contains-cons_cases, Pairwise-append}
 use Rattle.linspec.proofs.Open.{IsCompletion, was_open, stays_open, open_with_new, open_without_new, new_is_open}
-use Rattle.lean_ends.specs.LeanEnds.{MayWrite, Reads as ReadsBy, Writes as WritesBy}
+use Rattle.linspec.specs.LeanEnds.{MayWrite, Reads as ReadsBy, Writes as WritesBy}
 use Rattle.lean_ends.proofs.Ending.{write_was, write_is, read_was}
 use Rattle.wide_register.specs.declared.calls.Call.{Call}
 use Rattle.wide_register.specs.declared.calls.What.{What}

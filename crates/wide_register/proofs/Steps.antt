@@ -6,7 +6,7 @@ use Rattle.events.specs.Events.Mark.{Invoked, Returned, Failed, Crashed}
 use Rattle.linspec.specs.MarkRule.{AreWellFormed, MayFollow}
 use Rattle.linspec.specs.Orders.{Pairwise}
 use Rattle.linspec.proofs.Lists.{Pairwise-weaker, snoc_cut}
-use Rattle.lean_ends.specs.LeanEnds.{LeanEnd, Becomes, IsAtMost}
+use Rattle.linspec.specs.LeanEnds.{LeanEnd, Becomes, IsAtMost}
 use Rattle.lean_ends.proofs.Left.{are_left, left_then}
 use Rattle.lean_ends.proofs.Sound.{IsLeft, left_after}
 use Rattle.wide_register.specs.declared.calls.Call.{Call}

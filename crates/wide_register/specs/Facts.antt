@@ -21,7 +21,7 @@ use Rattle.events.specs.Events.Mark.{Invoked, Returned, Failed, Crashed}
 use Rattle.linspec.specs.Operations.{IsOpen}
 use Rattle.linspec.specs.Orders.{Pairwise}
 use Rattle.linspec.specs.MarkRule.{AreWellFormed}
-use Rattle.lean_ends.specs.LeanEnds.{LeanEnd, MayRead, MayWrite, AreLeanEnds}
+use Rattle.linspec.specs.LeanEnds.{LeanEnd, MayRead, MayWrite, AreLeanEnds}
 
 -- what an operation does to a register
 abbrev pub what_by : Name → Part → Option What

@@ -2,7 +2,7 @@
 ghost use Rattle.std.specs.Prelude.{◌≡◌, ◌↔◌, ◌<◌, IfOk, IsTrue, length};
 ghost use Rattle.models.specs.Objects.{register};
 ghost use Rattle.events.specs.Events.{act_by, mark_by_act};
-ghost use Rattle.lean_ends.specs.LeanEnds.{HasMoreLeanEnds};
+ghost use Rattle.linspec.specs.LeanEnds.{HasMoreLeanEnds};
 ghost use Rattle.wide_register.specs.Counts.{IsCounted};
 ghost use Rattle.wide_register.specs.Facts.{IsDeed};
 ghost use Rattle.wide_register.specs.Meaning.{Commits, IsCopy, IsStart, Observes, Prepares};

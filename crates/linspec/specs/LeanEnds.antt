@@ -6,11 +6,12 @@ use Rattle.models.specs.declared.operation.Part.TheVariants.{Nil, Int}
 use Rattle.models.specs.declared.operation.Op.{Op}
 use Rattle.models.specs.declared.finding.Answer.{Answer}
 use Rattle.models.specs.declared.finding.Answer.TheVariants.{Nothing, Number}
+use Rattle.models.specs.Objects.{register}
 use Rattle.events.specs.Events.{Mark}
 use Rattle.events.specs.Events.Mark.{Invoked, Returned, Failed, Crashed}
 use Rattle.linspec.specs.MarkRule.{AreWellFormed}
 use Rattle.linspec.specs.Operations.{HasReturned, IsOpen}
-use Rattle.linspec.specs.Orders.{Pairwise}
+use Rattle.linspec.specs.Orders.{IsLinearizable, Pairwise}
 
 -- the operation writes v; it reads
 abbrev pub Writes : Op → ℤ → Type 0
@@ -152,3 +153,7 @@ pub record HasMoreLeanEnds (marks : List Mark) (n : ℕ) : Type 0 where
   pub ends : List LeanEnd
   pub are : AreLeanEnds marks ends
   pub many : n < length ends
+
+-- and it has a legal order
+abbrev pub HasMoreLeanEndsThan : List Mark → ℕ → Type 0
+HasMoreLeanEndsThan marks n = IsLinearizable register marks × HasMoreLeanEnds marks n
