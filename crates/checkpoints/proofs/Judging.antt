@@ -23,9 +23,9 @@ use Rattle.linspec.specs.Verdicts.{IsKeyStatus, IsRising}
 use Rattle.linspec.proofs.ByKind.{counted_order}
 use Rattle.linspec.proofs.Fronts.{marks-append}
 use Rattle.linspec.proofs.Histories.{of_history}
-use Rattle.frontier.specs.declared.frontier.Step.{Step}
-use Rattle.frontier.specs.declared.frontier.Step.TheVariants as steps
-use Rattle.frontier.specs.Meaning.{mark_by, Blows, IsStep, IsAnswer, Answers, TakesUnlessOver}
+use Rattle.judging.specs.declared.step.Step.{Step}
+use Rattle.judging.specs.declared.step.Step.TheVariants as steps
+use Rattle.judging.specs.Meaning.{mark_by, Blows, IsStep, IsAnswer, Answers, TakesUnlessOver}
 use Rattle.frontier.specs.AnyFrontier.{any_view_of, kind_of_frontier}
 use Rattle.checkpoints.specs.declared.live_key.LiveKey.{LiveKey}
 use Rattle.checkpoints.specs.declared.key_state.KeyState.{KeyState}

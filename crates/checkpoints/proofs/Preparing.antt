@@ -7,7 +7,7 @@ use Rattle.events.specs.declared.event.Body.TheVariants as bodies
 use Rattle.events.specs.declared.event.Event.{Event}
 use Rattle.events.specs.Events.{entries_of, marks}
 use Rattle.events.specs.ProcessRule.{IsHistory}
-use Rattle.frontier.specs.Meaning.{Keeps}
+use Rattle.judging.specs.Meaning.{Keeps}
 use Rattle.frontier.specs.AnyFrontier.{any_view_of, kind_of_frontier}
 use Rattle.checkpoints.specs.declared.live_key.LiveKey.{LiveKey}
 use Rattle.checkpoints.specs.Noted.{noted_of}

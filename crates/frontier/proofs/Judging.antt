@@ -16,7 +16,7 @@ use Rattle.ends.specs.declared.kept_end.KeptEnd.{KeptEnd}
 use Rattle.ends.specs.KeptEnds.{AreIncluded, ArePending, end_kept}
 use Rattle.ends.specs.EndSteps.{Along, AreClosed, Fails, ReachesMoreThan, is_other}
 use Rattle.frontier.specs.Kept.{IsListed, Lists, StandsFor, table_of}
-use Rattle.frontier.specs.Meaning.{Keeps, StepsOfOk}
+use Rattle.judging.specs.Meaning.{Keeps, StepsOfOk}
 use Rattle.ends.specs.Tables.{AreShown, Asked, HasEachOnce, IsAdvanced, IsOpenAt, ShownWith}
 use Rattle.frontier.proofs.AfterEvents.{ends_after_ok}
 use Rattle.ends.proofs.Closing.{among_front, closed_after_fail, closed_after_ok, closed_fewer, one_fewer}

@@ -10,10 +10,10 @@ use Rattle.frontier.specs.declared.change.Change.{Change}
 use Rattle.frontier.specs.declared.change.Change.TheVariants.{Nothing, Invoked as ToInvoked}
 use Rattle.frontier.specs.declared.change.Fresh.{Fresh}
 use Rattle.frontier.specs.declared.frontier.Frontier.{Frontier}
-use Rattle.frontier.specs.declared.frontier.Step.{Step}
+use Rattle.judging.specs.declared.step.Step.{Step}
 use Rattle.ends.specs.declared.pending_op.PendingOp.{PendingOp}
 use Rattle.ends.specs.declared.table.Table.{Table}
-use Rattle.frontier.specs.Meaning.{Commits, Costs, FrontierView, IsReturn, Keeps, Observes, Prepares, StepsOfOk, TakesAlways}
+use Rattle.judging.specs.Meaning.{Commits, Costs, FrontierView, IsReturn, Keeps, Observes, Prepares, StepsOfOk, TakesAlways}
 use Rattle.frontier.specs.Kept.{IsIdle, IsListed, IsOf, Lists, ListsBut, Makes, StandsFor, StandsWith, WillStandFor, table_of}
 use Rattle.ends.specs.Tables.{AreShown, Widens, rows_of}
 use Rattle.ends.proofs.Showing.{shown_more}

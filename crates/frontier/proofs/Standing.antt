@@ -6,8 +6,8 @@ use Rattle.linspec.specs.Orders.{Pairwise}
 use Rattle.ends.specs.declared.pending_op.PendingOp.{PendingOp}
 use Rattle.ends.specs.declared.kept_end.KeptEnd.{KeptEnd}
 use Rattle.frontier.specs.declared.frontier.Frontier.{Frontier}
-use Rattle.frontier.specs.declared.frontier.Step.{Step}
-use Rattle.frontier.specs.declared.frontier.Step.TheVariants.{Alive, Dead, Over}
+use Rattle.judging.specs.declared.step.Step.{Step}
+use Rattle.judging.specs.declared.step.Step.TheVariants.{Alive, Dead, Over}
 use Rattle.ends.specs.KeptEnds.{AreIncluded, ArePending, IsIncluded, IsWellKept, end_kept}
 use Rattle.ends.specs.Tables.{AreShown, IsThat, Says, Shows, ShownWith, found_by, rows_of, with_rows}
 use Rattle.interned.specs.Numbers.{IsSlot}
@@ -26,7 +26,7 @@ use Rattle.linspec.specs.Ends.{End, IsEnd, HasMoreThan}
 use Rattle.ends.proofs.Starting.{back, to}
 use Rattle.ends.proofs.Closing.{closed_again}
 use Rattle.frontier.specs.Kept.{IsStepOf, Lists, table_of}
-use Rattle.frontier.specs.Meaning.{Blows, IsStep}
+use Rattle.judging.specs.Meaning.{Blows, IsStep}
 use Rattle.ends.specs.EndSteps.{Adds, Along, AreClosed, IsReached}
 use Rattle.frontier.proofs.Including.{included_more}
 use Rattle.frontier.proofs.Generating.{Generates, generates_by, reached_by, none_left, some_left}

@@ -5,7 +5,7 @@ use Rattle.models.specs.Objects.{register, cas_register, mutex, fifo_queue, set_
 use Rattle.frontier.specs.declared.any_frontier.AnyFrontier.{AnyFrontier}
 use Rattle.frontier.specs.declared.any_frontier.AnyFrontier.TheVariants.{Register, CasRegister, Mutex, FifoQueue, Set, UnorderedQueue}
 use Rattle.frontier.specs.Kept.{view_of}
-use Rattle.frontier.specs.Meaning.{FrontierView}
+use Rattle.judging.specs.Meaning.{FrontierView}
 
 abbrev pub kind_of_frontier : AnyFrontier → ModelKind
 kind_of_frontier (Register f) = kinds.Register

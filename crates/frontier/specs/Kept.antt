@@ -16,15 +16,15 @@ use Rattle.frontier.specs.declared.change.Fresh.{Fresh}
 use Rattle.frontier.specs.declared.change.Change.{Change}
 use Rattle.frontier.specs.declared.change.Change.TheVariants.{Nothing, Crashed, Done, Invoked as ToInvoked}
 use Rattle.frontier.specs.declared.frontier.Frontier.{Frontier}
-use Rattle.frontier.specs.declared.frontier.Step.{Step}
-use Rattle.frontier.specs.declared.frontier.Step.TheVariants.{Alive, Dead, Over}
+use Rattle.judging.specs.declared.step.Step.{Step}
+use Rattle.judging.specs.declared.step.Step.TheVariants.{Alive, Dead, Over}
 use Rattle.ends.specs.KeptEnds.{IsWellKept}
 use Rattle.ends.specs.Tables.{AreShown, Asked, rows_of, with_rows}
 use Rattle.products.specs.Products.{rows_in}
 use Rattle.std.specs.Global.{Box}
 use Rattle.frontier.specs.declared.product_form.ProductForm.{ProductForm}
 use Rattle.ends.specs.EndSteps.{AreClosed, IsReached, is_other}
-use Rattle.frontier.specs.Meaning.{FrontierView, Keeps}
+use Rattle.judging.specs.Meaning.{FrontierView, Keeps}
 
 -- the rows of the kept products, where there are any, else these
 abbrev pub rows_by : {S : Type 0} → Option (Box (ProductForm S)) → List (List ℕ) → List (List ℕ)

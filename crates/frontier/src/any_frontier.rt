@@ -4,10 +4,11 @@ ghost use Rattle.models.specs.Objects.{object_of, of_table};
 ghost use Rattle.linspec.specs.Counts.{CountsMoreThan};
 ghost use Rattle.frontier.specs.AnyFrontier.{any_view_of, kind_of_frontier};
 ghost use Rattle.frontier.specs.Kept.{view_of};
-ghost use Rattle.frontier.specs.Meaning.{Commits, IsCopy, IsStart, Observes, Prepares, mark_by};
+ghost use Rattle.judging.specs.Meaning.{Commits, IsCopy, IsStart, Observes, Prepares, mark_by};
 
-use crate::frontier::{Frontier, Step};
+use crate::frontier::Frontier;
 use events::EventKind;
+use judging::Step;
 use models::{
     CasRegister, FifoQueue, ModelKind, Mutex, Op, Register, SeqObject, Set, UnorderedQueue,
     each_kind,

@@ -12,12 +12,13 @@ ghost use Rattle.ends.specs.Tables.{most_steps, rows_of, with_rows};
 ghost use Rattle.product_ends.specs.Deeds.{HasOneOutcome};
 ghost use Rattle.frontier.specs.Kept.{IsAlike, IsIdle, IsListed, IsOf, IsStepOf, HasCountsOf, ListsFresh, Reforms, StandsFor};
 ghost use Rattle.frontier.specs.Kept.{asked_of, call_of, left_of, rows_by, table_of, view_of};
-ghost use Rattle.frontier.specs.Meaning.{Commits, IsCopy, IsStart, Keeps, Observes, Prepares, TakesAlways, mark_by};
+ghost use Rattle.judging.specs.Meaning.{Commits, IsCopy, IsStart, Keeps, Observes, Prepares, TakesAlways, mark_by};
 
 use crate::change::{self, AfterCrash, Change, Fresh};
 use crate::product_form::{self, ProductForm};
 use ends::{KeptEnd, PendingOp, Returning, Room, Table};
 use events::EventKind;
+use judging::Step;
 use models::{Answer, Op, SeqObject};
 use rows::RowSet;
 use std::alloc::{AllocError, Global};
@@ -26,17 +27,6 @@ use std::mem::swap;
 
 // Room for so many calls is made at the start: two clients of a key have no more open at once.
 const FEW_CALLS: usize = 2;
-
-/// What an event leaves.
-#[derive(Clone, Copy, Debug, PartialEq, Eq)]
-pub enum Step {
-    /// Some end is left: the history is linearizable.
-    Alive,
-    /// No end is left: the history is not linearizable.
-    Dead,
-    /// There were more ends than the budget just before the event.
-    Over,
-}
 
 /// The ends of the legal orders of one key's history (Herlihy and Wing 1990, section 2), found just in time (Lowe 2017).
 /// It does not keep the events. It keeps some ends, from which pending operations lead to all others, and only an ok

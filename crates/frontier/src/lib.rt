@@ -14,4 +14,5 @@ pub mod frontier;
 mod product_form;
 
 pub use any_frontier::AnyFrontier;
-pub use frontier::{Frontier, Step};
+pub use frontier::Frontier;
+pub use judging::Step;

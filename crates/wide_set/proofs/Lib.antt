@@ -16,3 +16,4 @@ pub mod Searching
 pub mod Beginning
 pub mod Prepared
 pub mod Bases
+pub mod Stepping

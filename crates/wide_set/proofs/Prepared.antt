@@ -15,8 +15,7 @@ use Rattle.wide_set.specs.declared.change.Change.{Change}
 use Rattle.wide_set.specs.declared.change.Change.TheVariants.{Dies, Invokes, Leaves, Logs, Answers}
 use Rattle.wide_set.specs.Facts.{Facts, AreFacts}
 use Rattle.wide_set.specs.Kept.{IsDead, StandAfter}
-use Rattle.wide_set.specs.Meaning.{IsAnswer}
-use Rattle.wide_set.specs.Views.{kills}
+use Rattle.wide_set.specs.Judges.{IsAlive, kills}
 use Rattle.wide_set.proofs.Tests.{not_true, is_not}
 use Rattle.wide_set.proofs.Taking.{still_dead}
 
@@ -41,7 +40,7 @@ module _ (f : Facts) (ms : List Mark) (facts : AreFacts f ms) (change : Change) 
       (λ a. ((λ t. a.1), (λ l. not_dead a.0)))
       (dead_or_alive change f (ms ++ m ∷ []) h)
 
-  pub alive_of : (m : Mark) → StandAfter change f (ms ++ m ∷ []) → IsAnswer ms m (not b)
+  pub alive_of : (m : Mark) → StandAfter change f (ms ++ m ∷ []) → IsAlive ms m (not b)
   alive_of (Returned id answer) h = decides (Returned id answer) h
   alive_of (Failed id) h = decides (Failed id) h
   alive_of (Invoked id op) h = ⊎_elim
@@ -57,7 +56,7 @@ module _ (f : Facts) (ms : List Mark) (facts : AreFacts f ms) (change : Change) 
 no_more : (ms : List Mark) (m : Mark) → IsDead ms → MayFollow ms m → IsTrue false ↔ IsLinearizable set_of_numbers (ms ++ m ∷ [])
 no_more ms m dead may = ((λ t. absurd (true≢false (sym t))), (λ l. absurd ((still_dead ms m dead may).1 l)))
 
-pub answer_of_dead : (kind : EventKind) (id : ℕ) (op : Op) (ms : List Mark) → IsDead ms → MayFollow ms (mark_by_act id id (act_by kind op)) → IsAnswer ms (mark_by_act id id (act_by kind op)) (not (kills kind))
+pub answer_of_dead : (kind : EventKind) (id : ℕ) (op : Op) (ms : List Mark) → IsDead ms → MayFollow ms (mark_by_act id id (act_by kind op)) → IsAlive ms (mark_by_act id id (act_by kind op)) (not (kills kind))
 answer_of_dead Invoke id op ms dead may = refl
 answer_of_dead Ok id op ms dead may = no_more ms _ dead may
 answer_of_dead Fail id op ms dead may = no_more ms _ dead may

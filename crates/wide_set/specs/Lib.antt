@@ -1,5 +1,5 @@
 pub mod Facts
 pub mod Queries
 pub mod Kept
-pub mod Meaning
+pub mod Judges
 pub mod Views

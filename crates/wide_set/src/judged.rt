@@ -1,15 +1,20 @@
 //! Sets that are judged live.
 ghost use Rattle.std.specs.Prelude.{◌≡◌, ◌≢◌, ◌↔◌, [], List, Some, None, IfOk, OnOk, OnErr, IsTrue};
+ghost use Rattle.models.specs.Objects.{object_of};
+ghost use Rattle.models.specs.declared.model_kind.ModelKind.TheVariants.{WideSet as OfWideSet};
 ghost use Rattle.events.specs.Events.{act_by, mark_by_act, Mark};
+ghost use Rattle.linspec.specs.Counts.{CountsMoreThan};
+ghost use Rattle.judging.specs.Meaning.{Commits, IsCopy, IsStart, Observes, Prepares, mark_by};
 ghost use Rattle.wide_set.specs.declared.change.Change.TheVariants.{Dies};
 ghost use Rattle.wide_set.specs.Facts.{AreFacts, facts_of};
 ghost use Rattle.wide_set.specs.Kept.{StandBy};
-ghost use Rattle.wide_set.specs.Views.{kills, view_of};
-ghost use Rattle.wide_set.specs.Meaning.{Commits, IsCopy, Observes, Prepares};
+ghost use Rattle.wide_set.specs.Judges.{JudgesNext, kills};
+ghost use Rattle.wide_set.specs.Views.{step_by, view_of};
 
 use crate::change::Change;
 use crate::known::Known;
 use events::EventKind;
+use judging::Step;
 use models::Op;
 use std::alloc::{AllocError, Global};
 
@@ -23,6 +28,8 @@ use std::alloc::{AllocError, Global};
 /// and the adds since then.
 #[derive(Drop)]
 pub struct WideSet {
+    /// The key's budget, which no set exceeds.
+    budget: u32,
     known: Known,
     /// The change by the last event, which the next one carries out.
     due: Option<Change>,
@@ -47,6 +54,13 @@ fn copied(change: &Option<Change>) -> Result<Option<Change>, AllocError>
     }
 }
 
+// The answer of an event after which the history is linearizable, or is not.
+fn step_of(is_alive: bool) -> Step
+    ensures { result ≡ step_by is_alive }
+{
+    if is_alive { Step::Alive } else { Step::Dead }
+}
+
 // Whether an event of this kind can kill.
 fn can_kill(kind: EventKind) -> bool
     ensures { result ≡ kills kind }
@@ -56,10 +70,11 @@ fn can_kill(kind: EventKind) -> bool
 
 impl WideSet {
     /// A history without events. Takes constant time, and no memory.
-    pub fn start(alloc: Global) -> WideSet
-        ensures { (view_of result).stands [] }
+    pub fn start(alloc: Global, budget: u32) -> WideSet
+        ensures { IsStart budget (view_of result) }
     {
         WideSet {
+            budget,
             known: Known::new(alloc),
             due: None,
             next: None,
@@ -72,6 +87,7 @@ impl WideSet {
         ensures { IfOk result (λ set. IsCopy (view_of self.now) (view_of set)) }
     {
         Ok(WideSet {
+            budget: self.budget,
             known: self.known.copy()?,
             due: copied(&self.due)?,
             next: None,
@@ -86,6 +102,7 @@ impl WideSet {
             → AreFacts (facts_of self.new.known) marks)) }
         ensures err { OnErr result ((marks : List Mark) → StandBy self.old.due (facts_of self.old.known) marks
             → StandBy self.new.due (facts_of self.new.known) marks) }
+        ensures budget { self.new.budget ≡ self.old.budget }
     {
         if let Some(change) = &self.due {
             self.known.carry_out(change)?;
@@ -95,13 +112,10 @@ impl WideSet {
         Ok(())
     }
 
-    /// Prepares an event of an operation, and answers whether the history with it is linearizable. The id is the index of the
-    /// operation's invocation: new for an invocation, else that of an open operation. The part of an ok is the answer. An invocation and
-    /// an info are answered true, since they kill nothing. The history stays the same until [`commit`](Self::commit). After
-    /// `AllocError` no commit must follow. Another prepared event is dropped. The ok of a read takes O(members, answers that have more,
-    /// n log n in the logged adds), another event O(open operations).
-    pub fn prepare(&mut self, id: u32, kind: EventKind, op: &Op) -> Result<bool, AllocError>
-        ensures { Prepares (view_of self.old) (view_of self.new) (mark_by_act id id (act_by kind op.now)) result }
+    // Prepares an event, and answers whether the history with it is linearizable; an invocation and an info get true.
+    fn judge(&mut self, id: u32, kind: EventKind, op: &Op) -> Result<bool, AllocError>
+        ensures judged { JudgesNext self.old self.new (mark_by_act id id (act_by kind op.now)) result }
+        ensures budget { self.new.budget ≡ self.old.budget }
     {
         self.next = None;
         if is_dead(&self.due) {
@@ -115,6 +129,19 @@ impl WideSet {
         Ok(alive)
     }
 
+    /// Prepares an event of an operation, and gives its answer, which is never Over. The id is the index of the operation's
+    /// invocation: new for an invocation, else that of an open operation. The part of an ok is the answer. An invocation and an info are
+    /// answered Alive, since they kill nothing. The history stays the same until [`commit`](Self::commit). After `AllocError` no commit
+    /// must follow. Another prepared event is dropped. The ok of a read takes O(members, answers that have more, n log n in the logged
+    /// adds), another event O(open operations).
+    pub fn prepare(&mut self, id: u32, kind: EventKind, op: &Op) -> Result<Step, AllocError>
+        ensures { Prepares (view_of self.old) (view_of self.new) (CountsMoreThan OfWideSet) (object_of OfWideSet)
+            (mark_by id kind op.now) result }
+    {
+        let alive = self.judge(id, kind, op)?;
+        Ok(step_of(alive))
+    }
+
     /// Carries out the prepared event, if there is one. It takes no memory and cannot fail.
     pub fn commit(&mut self)
         ensures { Commits (view_of self.old) (view_of self.new) }
@@ -126,11 +153,19 @@ impl WideSet {
 
     /// An event of an operation: [`prepare`](Self::prepare) and [`commit`](Self::commit) in one. On `AllocError` the history stays the
     /// same.
-    pub fn observe(&mut self, id: u32, kind: EventKind, op: &Op) -> Result<bool, AllocError>
-        ensures { Observes (view_of self.old) (view_of self.new) (mark_by_act id id (act_by kind op.now)) result }
+    pub fn observe(&mut self, id: u32, kind: EventKind, op: &Op) -> Result<Step, AllocError>
+        ensures { Observes (view_of self.old) (view_of self.new) (CountsMoreThan OfWideSet) (object_of OfWideSet)
+            (mark_by id kind op.now) result }
     {
-        let alive = self.prepare(id, kind, op)?;
+        let step = self.prepare(id, kind, op)?;
         self.commit();
-        Ok(alive)
+        Ok(step)
+    }
+
+    /// How many steps were made so far: none, since nothing is tried.
+    pub fn applied(&self) -> u64
+        ensures { result ≡ (view_of self.now).applied }
+    {
+        0
     }
 }

@@ -1,7 +1,7 @@
 use Rattle.std.proofs.Common.{◌∙◌, ap}
 use Rattle.events.specs.Events.{op_event_in}
 use Rattle.events.specs.declared.event.Process.TheVariants.{Client}
-use Rattle.frontier.specs.declared.frontier.Step.TheVariants as steps
+use Rattle.judging.specs.declared.step.Step.TheVariants as steps
 use Rattle.frontier.specs.AnyFrontier.{any_view_of}
 use Rattle.checkpoints.proofs.Judging.{silent_after, never_none, status_stepped, marks_stepped}
 use Rattle.checkpoints.proofs.Preparing.{still_live, will_be_live}

@@ -2,7 +2,7 @@ use Rattle.std.proofs.Common.{refl, rules}
 use Rattle.std.proofs.lemmas.Result.{err_from_is_err_and}
 use Rattle.models.specs.Objects.{of_table}
 use Rattle.frontier.specs.Kept.{IsIdle, IsListed, StandsFor}
-use Rattle.frontier.specs.Meaning.{Keeps}
+use Rattle.judging.specs.Meaning.{Keeps}
 use Rattle.frontier.proofs.Preparing.{err_keeps, idle_like, ok_keeps}
 use Rattle.frontier.proofs.frontier.Frontier.list_fresh.Goals as goal
 

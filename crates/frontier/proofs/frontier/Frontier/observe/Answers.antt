@@ -1,6 +1,6 @@
 use Rattle.models.specs.Objects.{of_table}
 use Rattle.frontier.specs.Kept.{view_of}
-use Rattle.frontier.specs.Meaning.{mark_by}
+use Rattle.judging.specs.Meaning.{mark_by}
 use Rattle.frontier.proofs.Preparing.{observed}
 use Rattle.frontier.proofs.frontier.Frontier.observe.Goals as goal
 

@@ -13,7 +13,7 @@ use Rattle.frontier.proofs.Judging.{kept_ends}
 use Rattle.frontier.proofs.Generating.{crash_each, generates_after_crash}
 use Rattle.frontier.proofs.Including.{included_after_crash}
 use Rattle.frontier.proofs.Pending.{pending_after_crash, once_after_crash, tells_counted}
-use Rattle.frontier.specs.declared.frontier.Step.TheVariants.{Alive, Over}
+use Rattle.judging.specs.declared.step.Step.TheVariants.{Alive, Over}
 use Rattle.frontier.proofs.Preparing.{lists_like, listed_stands, stands_like, will_by}
 use Rattle.frontier.proofs.Reordering.{shown_rows}
 use Rattle.frontier.proofs.frontier.Frontier.prepare_crash.Goals as goal

@@ -7,7 +7,7 @@ use Rattle.linspec.specs.Ends.{HasMoreThan}
 use Rattle.ends.specs.EndSteps.{is_other}
 use Rattle.ends.specs.Tables.{with_rows}
 use Rattle.frontier.specs.Kept.{StandsFor, left_of, table_of}
-use Rattle.frontier.specs.Meaning.{Answers}
+use Rattle.judging.specs.Meaning.{Answers}
 use Rattle.frontier.proofs.Standing.{step_by}
 use Rattle.frontier.proofs.Judging.{failed_by, generates_failed, stands_failed}
 use Rattle.frontier.proofs.Preparing.{listed_stands, stands_like, will_by}

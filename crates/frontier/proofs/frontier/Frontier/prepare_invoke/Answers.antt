@@ -1,6 +1,6 @@
 use Rattle.std.proofs.Common.{◌≡◌, refl, rules}
 use Rattle.models.specs.Objects.{of_table}
-use Rattle.frontier.specs.declared.frontier.Step.TheVariants.{Alive, Over}
+use Rattle.judging.specs.declared.step.Step.TheVariants.{Alive, Over}
 use Rattle.frontier.proofs.Preparing.{lists_like, listed_stands, stands_like, will_invoke}
 use Rattle.frontier.proofs.frontier.Frontier.prepare_invoke.Goals as goal
 

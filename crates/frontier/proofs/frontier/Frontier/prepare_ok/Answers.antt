@@ -6,9 +6,9 @@ use Rattle.events.specs.Events.Mark.{Returned}
 use Rattle.linspec.specs.Ends.{HasMoreThan}
 use Rattle.ends.specs.EndSteps.{is_other}
 use Rattle.ends.specs.Tables.{with_rows}
-use Rattle.frontier.specs.declared.frontier.Step.TheVariants.{Over}
+use Rattle.judging.specs.declared.step.Step.TheVariants.{Over}
 use Rattle.frontier.specs.Kept.{StandsFor, left_of, table_of}
-use Rattle.frontier.specs.Meaning.{Answers}
+use Rattle.judging.specs.Meaning.{Answers}
 use Rattle.frontier.proofs.Standing.{step_by}
 use Rattle.frontier.proofs.Judging.{advanced, generates_left, ok_costs, stands_after, too_many_by, within}
 use Rattle.frontier.proofs.Preparing.{idle_of, idle_will, listed_more, listed_stands, stands_like}

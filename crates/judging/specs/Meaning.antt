@@ -13,8 +13,8 @@ use Rattle.linspec.specs.MarkRule.{MayFollow}
 use Rattle.linspec.specs.Operations.{IsOpen}
 use Rattle.linspec.specs.Orders.{IsLinearizable}
 use Rattle.linspec.specs.Ends.{HasCrashedBy, is_no_read, Count}
-use Rattle.frontier.specs.declared.frontier.Step.{Step}
-use Rattle.frontier.specs.declared.frontier.Step.TheVariants.{Alive, Dead, Over}
+use Rattle.judging.specs.declared.step.Step.{Step}
+use Rattle.judging.specs.declared.step.Step.TheVariants.{Alive, Dead, Over}
 
 -- the mark that an event of this kind makes of the operation with this id. The part of an ok is the
 -- answer

@@ -3,10 +3,10 @@ use Rattle.events.specs.Events.{Mark, act_by, mark_by_act}
 use Rattle.wide_set.specs.declared.change.Change.TheVariants.{Dies}
 use Rattle.wide_set.specs.Facts.{facts_of}
 use Rattle.wide_set.specs.Kept.{IsDead, StandBy}
-use Rattle.wide_set.specs.Meaning.{IsAnswer}
+use Rattle.wide_set.specs.Judges.{IsAlive}
 use Rattle.wide_set.proofs.Taking.{still_dead}
 use Rattle.wide_set.proofs.Prepared.{alive_of, answer_of_dead}
-use Rattle.wide_set.proofs.judged.WideSet.prepare.Goals as goal
+use Rattle.wide_set.proofs.judged.WideSet.judge.Goals as goal
 
 pub returns-then-is_dead : goal.returns-then-is_dead
 returns-then-is_dead c =
@@ -15,7 +15,7 @@ returns-then-is_dead c =
     let due : c.args.self.now.due ≡ Some Dies = c.is_dead.ensures.0 c.if-is_dead.true in
     let dead : (ms : List Mark) → StandBy c.args.self.now.due f ms → IsDead ms = λ ms st. subst (λ d. StandBy d f ms) due st in
     record {
-      alive = λ ms st may. subst (λ b. IsAnswer ms mark (not b)) (sym c.can_kill.ensures) (answer_of_dead c.args.kind c.args.id c.args.op.now ms (dead ms st) may);
+      alive = λ ms st may. subst (λ b. IsAlive ms mark (not b)) (sym c.can_kill.ensures) (answer_of_dead c.args.kind c.args.id c.args.op.now ms (dead ms st) may);
       now = λ ms st. st;
       next = λ ms st may. still_dead ms mark (dead ms st) may;
     }
