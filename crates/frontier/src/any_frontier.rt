@@ -1,4 +1,4 @@
-//! Frontiers of any kind of object.
+//! Judges of the history of a key of any kind.
 ghost use Rattle.std.specs.Prelude.{◌≡◌, IfOk};
 ghost use Rattle.models.specs.Objects.{object_of, of_table};
 ghost use Rattle.linspec.specs.Counts.{CountsMoreThan};
@@ -11,12 +11,14 @@ use events::EventKind;
 use judging::Step;
 use models::{
     CasRegister, FifoQueue, ModelKind, Mutex, Op, Register, SeqObject, Set, UnorderedQueue,
-    each_kind,
+    each_kind_with_ends,
 };
 use std::alloc::{AllocError, Global};
+use wide_register::WideRegister;
+use wide_set::WideSet;
 
-/// The ends of the legal orders of one key's history, for a key whose kind of object is known only as the program runs: a
-/// [`Frontier`] of that kind.
+/// What judges one key's history, for a key whose kind of object is known only as the program runs: a [`Frontier`] of that kind, or
+/// a wide register or set.
 #[derive(Drop)]
 pub enum AnyFrontier {
     /// Of a register.
@@ -31,13 +33,23 @@ pub enum AnyFrontier {
     Set(Box<Frontier<Set>>),
     /// Of a queue without an order.
     UnorderedQueue(Box<Frontier<UnorderedQueue>>),
+    /// Of a register whose lean ends are counted.
+    WideRegister(Box<WideRegister>),
+    /// Of a set of which nothing is counted.
+    WideSet(Box<WideSet>),
 }
 
-// The bodies below, for each kind of the list.
+// The bodies below, for each kind of the list, and for the wide ones.
 macro_rules! start_of {
     ($kind:expr, $alloc:expr, $budget:expr; $($K:ident $name:literal),*) => {
         match $kind {
             $(ModelKind::$K => Ok(AnyFrontier::$K(started::<$K>($alloc, $budget)?)),)*
+            ModelKind::WideRegister => {
+                Ok(AnyFrontier::WideRegister(Box::new($alloc, WideRegister::start($alloc, $budget)?)?))
+            }
+            ModelKind::WideSet => {
+                Ok(AnyFrontier::WideSet(Box::new($alloc, WideSet::start($alloc, $budget))?))
+            }
         }
     };
 }
@@ -46,6 +58,12 @@ macro_rules! copy_of {
     ($any:expr; $($K:ident $name:literal),*) => {
         match $any {
             $(AnyFrontier::$K(frontier) => Ok(AnyFrontier::$K(copied(frontier)?)),)*
+            AnyFrontier::WideRegister(judge) => {
+                Ok(AnyFrontier::WideRegister(Box::new(judge.allocator(), judge.copy()?)?))
+            }
+            AnyFrontier::WideSet(judge) => {
+                Ok(AnyFrontier::WideSet(Box::new(judge.allocator(), judge.copy()?)?))
+            }
         }
     };
 }
@@ -54,6 +72,8 @@ macro_rules! applied_of {
     ($any:expr; $($K:ident $name:literal),*) => {
         match $any {
             $(AnyFrontier::$K(frontier) => frontier.applied(),)*
+            AnyFrontier::WideRegister(judge) => judge.applied(),
+            AnyFrontier::WideSet(judge) => judge.applied(),
         }
     };
 }
@@ -62,6 +82,8 @@ macro_rules! observe_of {
     ($any:expr, $id:expr, $event:expr, $op:expr; $($K:ident $name:literal),*) => {
         match $any {
             $(AnyFrontier::$K(frontier) => frontier.observe($id, $event, $op),)*
+            AnyFrontier::WideRegister(judge) => judge.observe($id, $event, $op),
+            AnyFrontier::WideSet(judge) => judge.observe($id, $event, $op),
         }
     };
 }
@@ -70,6 +92,8 @@ macro_rules! prepare_of {
     ($any:expr, $id:expr, $event:expr, $op:expr; $($K:ident $name:literal),*) => {
         match $any {
             $(AnyFrontier::$K(frontier) => frontier.prepare($id, $event, $op),)*
+            AnyFrontier::WideRegister(judge) => judge.prepare($id, $event, $op),
+            AnyFrontier::WideSet(judge) => judge.prepare($id, $event, $op),
         }
     };
 }
@@ -78,6 +102,8 @@ macro_rules! commit_of {
     ($any:expr; $($K:ident $name:literal),*) => {
         match $any {
             $(AnyFrontier::$K(frontier) => frontier.commit(),)*
+            AnyFrontier::WideRegister(judge) => judge.commit(),
+            AnyFrontier::WideSet(judge) => judge.commit(),
         }
     };
 }
@@ -107,7 +133,7 @@ impl AnyFrontier {
         ensures started { IfOk result (λ f. IsStart budget (any_view_of f)) }
         ensures kind { IfOk result (λ f. kind_of_frontier f ≡ kind) }
     {
-        each_kind!(start_of; kind, alloc, budget)
+        each_kind_with_ends!(start_of; kind, alloc, budget)
     }
 
     /// An event of an operation: [`Frontier::observe`], at its cost. The id is the index of the operation's invocation, which
@@ -120,7 +146,7 @@ impl AnyFrontier {
             (mark_by id kind op.now) result }
         ensures kind { kind_of_frontier self.new ≡ kind_of_frontier self.old }
     {
-        each_kind!(observe_of; self, id, kind, op)
+        each_kind_with_ends!(observe_of; self, id, kind, op)
     }
 
     /// Prepares an event of an operation, and gives its answer: [`Frontier::prepare`], at its cost. The frontier stands for
@@ -132,7 +158,7 @@ impl AnyFrontier {
             (mark_by id kind op.now) result }
         ensures kind { kind_of_frontier self.new ≡ kind_of_frontier self.old }
     {
-        each_kind!(prepare_of; self, id, kind, op)
+        each_kind_with_ends!(prepare_of; self, id, kind, op)
     }
 
     /// Carries out what is prepared, if anything is: [`Frontier::commit`]. It takes no memory and cannot fail.
@@ -140,14 +166,14 @@ impl AnyFrontier {
         ensures committed { Commits (any_view_of self.old) (any_view_of self.new) }
         ensures kind { kind_of_frontier self.new ≡ kind_of_frontier self.old }
     {
-        each_kind!(commit_of; self)
+        each_kind_with_ends!(commit_of; self)
     }
 
     /// How many steps were made so far: [`Frontier::applied`].
     pub fn applied(&self) -> u64
         ensures { result ≡ (any_view_of self.now).applied }
     {
-        each_kind!(applied_of; self)
+        each_kind_with_ends!(applied_of; self)
     }
 
     /// An equal frontier, which shares the items of queues and the members that were found; nothing is prepared of it:
@@ -156,6 +182,6 @@ impl AnyFrontier {
         ensures copied { IfOk result (λ f. IsCopy (any_view_of self.now) (any_view_of f)) }
         ensures kind { IfOk result (λ f. kind_of_frontier f ≡ kind_of_frontier self.now) }
     {
-        each_kind!(copy_of; self)
+        each_kind_with_ends!(copy_of; self)
     }
 }

@@ -17,3 +17,9 @@ returns-in-Set-clause-prepared c = rw c.in-Set.is (rw (← c.deref_mut-in-Set.en
 
 pub returns-in-UnorderedQueue-clause-prepared : goal.returns-in-UnorderedQueue-clause-prepared
 returns-in-UnorderedQueue-clause-prepared c = rw c.in-UnorderedQueue.is (rw (← c.deref_mut-in-UnorderedQueue.ensures.value) c.prepare-in-UnorderedQueue.ensures)
+
+pub returns-in-WideRegister-clause-prepared : goal.returns-in-WideRegister-clause-prepared
+returns-in-WideRegister-clause-prepared c = rw c.in-WideRegister.is (rw (← c.deref_mut-in-WideRegister.ensures.value) c.prepare-in-WideRegister.ensures)
+
+pub returns-in-WideSet-clause-prepared : goal.returns-in-WideSet-clause-prepared
+returns-in-WideSet-clause-prepared c = rw c.in-WideSet.is (rw (← c.deref_mut-in-WideSet.ensures.value) c.prepare-in-WideSet.ensures)
