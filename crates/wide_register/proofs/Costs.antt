@@ -19,7 +19,7 @@ use Rattle.wide_register.specs.declared.next.Deed.{Deed}
 use Rattle.wide_register.specs.declared.kept.Kept.{Kept}
 use Rattle.wide_register.specs.Counts.{AreTries, IsCounted}
 use Rattle.wide_register.specs.Facts.{AreFacts, IsCall, IsDeed}
-use Rattle.wide_register.specs.Meaning.{HasAtMostPending, StepsOfOk}
+use Rattle.judging.specs.Meaning.{HasAtMostPending, StepsOfOk}
 use Rattle.wide_register.proofs.Others.{map_from}
 use Rattle.wide_register.proofs.Pending.{Pairwise-map}
 

@@ -11,16 +11,16 @@ use Rattle.events.specs.Events.Mark.{Invoked, Returned, Failed, Crashed}
 use Rattle.linspec.specs.MarkRule.{MayFollow}
 use Rattle.linspec.specs.Orders.{IsLinearizable}
 use Rattle.linspec.proofs.Lists.{Contains-nil, Contains-head}
-use Rattle.linspec.specs.LeanEnds.{HasMoreLeanEnds}
-use Rattle.lean_ends.proofs.Left.{some_is_left, as_many}
+use Rattle.linspec.specs.LeanEnds.{HasMoreLeanEnds, HasMoreLeanEndsThan}
+use Rattle.lean_ends.proofs.Left.{some_is_left, as_many, counted_order}
 use Rattle.wide_register.specs.declared.row.Row.{Row}
 use Rattle.wide_register.specs.declared.kept.Kept.{Kept}
-use Rattle.wide_register.specs.declared.judged.Step.{Step}
-use Rattle.wide_register.specs.declared.judged.Step.TheVariants.{Alive, Dead, Over}
+use Rattle.judging.specs.declared.step.Step.{Step}
+use Rattle.judging.specs.declared.step.Step.TheVariants.{Alive, Dead, Over}
 use Rattle.wide_register.specs.Facts.{AreFacts, IsAfter, end_of}
 use Rattle.wide_register.specs.declared.judged.WideRegister.{WideRegister}
 use Rattle.wide_register.specs.Counts.{IsCounted}
-use Rattle.wide_register.specs.Meaning.{Answers, Blows, Costs, IsAnswer, IsStep, RegisterView, StepsOfOk}
+use Rattle.judging.specs.Meaning.{Answers, Blows, Costs, IsAnswer, IsStep, FrontierView, StepsOfOk}
 use Rattle.wide_register.specs.Views.{IsStepLeft, is_an_ok, kills, view_of}
 use Rattle.wide_register.proofs.Costs.{crash_cost, fail_cost, invoke_cost, ok_cost}
 use Rattle.wide_register.proofs.Others.{map_from, map_to}
@@ -34,16 +34,18 @@ length_map f [] = refl
 length_map f (x ∷ xs) = let e = length_map f xs in grind arith
 
 module _ (k : Kept) (marks : List Mark) (f : AreFacts k marks) where
-  pub has_more : (budget : ℕ) → budget < length k.rows.items → HasMoreLeanEnds marks budget
-  has_more budget h = record {
-    well = f.well;
-    ends = map (end_of k.calls.items) k.rows.items;
-    are = f.ends;
-    many = (let e = length_map (end_of k.calls.items) k.rows.items in omega arith);
-  }
+  pub has_more : (budget : ℕ) → budget < length k.rows.items → HasMoreLeanEndsThan marks budget
+  has_more budget h =
+      let more : HasMoreLeanEnds marks budget = record {
+        well = f.well;
+        ends = map (end_of k.calls.items) k.rows.items;
+        are = f.ends;
+        many = (let e = length_map (end_of k.calls.items) k.rows.items in omega arith);
+      } in
+      (counted_order marks budget more, more)
 
-  pub has_no_more : (budget : ℕ) → ¬ (budget < length k.rows.items) → ¬ HasMoreLeanEnds marks budget
-  has_no_more budget n h = n (let e = length_map (end_of k.calls.items) k.rows.items in let s = as_many marks (map (end_of k.calls.items) k.rows.items) h.ends f.ends h.are in let l = h.many in omega arith)
+  pub has_no_more : (budget : ℕ) → ¬ (budget < length k.rows.items) → ¬ HasMoreLeanEndsThan marks budget
+  has_no_more budget n h = n (let e = length_map (end_of k.calls.items) k.rows.items in let s = as_many marks (map (end_of k.calls.items) k.rows.items) h.1.ends f.ends h.1.are in let l = h.1.many in omega arith)
 
   pub lives : (r : Row) (rows : List Row) → k.rows.items ≡ r ∷ rows → IsLinearizable register marks
   lives r rows e =
@@ -67,10 +69,10 @@ module _ (budget : ℕ) (k new : Kept) (marks : List Mark) (m : Mark) (f : AreFa
   abbrev Step_is : Step → Type 0
   Step_is step = ((step ≡ Dead) × (new.rows.items ≡ [])) ⊎ ((step ≡ Alive) × (new.rows.items ≢ []))
 
-  step_is : (step : Step) → ¬ Blows HasMoreLeanEnds budget marks m → Step_is step → IsStep HasMoreLeanEnds register budget marks m step
+  step_is : (step : Step) → ¬ Blows HasMoreLeanEndsThan budget marks m → Step_is step → IsStep HasMoreLeanEndsThan register budget marks m step
   step_is step n s = ⊎_elim
-      (λ d. subst (IsStep HasMoreLeanEnds register budget marks m) (sym d.0) (n, dies new (marks ++ m ∷ []) g d.1))
-      (λ a. subst (IsStep HasMoreLeanEnds register budget marks m) (sym a.0) (n, lives_by new (marks ++ m ∷ []) g a.1))
+      (λ d. subst (IsStep HasMoreLeanEndsThan register budget marks m) (sym d.0) (n, dies new (marks ++ m ∷ []) g d.1))
+      (λ a. subst (IsStep HasMoreLeanEndsThan register budget marks m) (sym a.0) (n, lives_by new (marks ++ m ∷ []) g a.1))
       s
 
 module _ (budget : ℕ) (k new : Kept) (id : ℕ) (op : Op) (step : Step) where
@@ -87,7 +89,7 @@ module _ (budget : ℕ) (k new : Kept) (id : ℕ) (op : Op) (step : Step) where
       s
 
   right : (kind : EventKind) → IsAfter (mark_of id kind op) k new → ¬ (IsTrue (is_an_ok kind) × (budget < length k.rows.items)) → IsStepLeft new kind step
-      → (marks : List Mark) → AreFacts k marks → MayFollow marks (mark_of id kind op) → IsAnswer HasMoreLeanEnds register budget marks (mark_of id kind op) step
+      → (marks : List Mark) → AreFacts k marks → MayFollow marks (mark_of id kind op) → IsAnswer HasMoreLeanEndsThan register budget marks (mark_of id kind op) step
   right Invoke a n s marks f may = sparing Invoke refl s
   right Info a n s marks f may = sparing Info refl s
   right Ok a n s marks f may = step_is budget k new marks (mark_of id Ok op) f (facts_after (mark_of id Ok op) k new a marks f may) step
@@ -96,16 +98,16 @@ module _ (budget : ℕ) (k new : Kept) (id : ℕ) (op : Op) (step : Step) where
       (λ b. b) (killing Fail refl s)
 
   pub answers : (kind : EventKind) → IsAfter (mark_of id kind op) k new → ¬ (IsTrue (is_an_ok kind) × (budget < length k.rows.items)) → IsStepLeft new kind step
-      → Answers HasMoreLeanEnds register budget (AreFacts k) (mark_of id kind op) step
+      → Answers HasMoreLeanEndsThan register budget (AreFacts k) (mark_of id kind op) step
   answers kind a n s = record { right = right kind a n s; over_at_ok = λ e. absurd (not_over kind s e) }
 
-pub answers_over : (budget : ℕ) (k : Kept) (id : ℕ) (op : Op) (kind : EventKind) → IsTrue (is_an_ok kind) → budget < length k.rows.items → Answers HasMoreLeanEnds register budget (AreFacts k) (mark_of id kind op) Over
+pub answers_over : (budget : ℕ) (k : Kept) (id : ℕ) (op : Op) (kind : EventKind) → IsTrue (is_an_ok kind) → budget < length k.rows.items → Answers HasMoreLeanEndsThan register budget (AreFacts k) (mark_of id kind op) Over
 answers_over budget k id op Ok t h = record { right = λ marks f may. has_more k marks f budget h; over_at_ok = λ e. tt }
 answers_over budget k id op Invoke t h = absurd (true≢false (sym t))
 answers_over budget k id op Fail t h = absurd (true≢false (sym t))
 answers_over budget k id op Info t h = absurd (true≢false (sym t))
 
-abbrev pub stepped : WideRegister → ℕ → RegisterView
+abbrev pub stepped : WideRegister → ℕ → FrontierView
 stepped w n = record { stands = AreFacts w.kept; will_stand = AreFacts w.kept; budget = w.budget; applied = n }
 
 pub costs_of : (kind : EventKind) (w : WideRegister) (id : ℕ) (op : Op) (after : ℕ) → ¬ (IsTrue (is_an_ok kind) × (w.budget < length w.kept.rows.items)) → IsCounted w.kept (mark_of id kind op) w.applied after
@@ -122,7 +124,7 @@ no_cost Invoke w id op = refl
 no_cost Fail w id op = refl
 no_cost Info w id op = refl
 
-pub cost_then : (old mid new : RegisterView) → new.applied ≡ mid.applied → (m : Mark) → Costs old mid m → Costs old new m
+pub cost_then : (old mid new : FrontierView) → new.applied ≡ mid.applied → (m : Mark) → Costs old mid m → Costs old new m
 cost_then old mid new e (Returned id answer) h = subst (StepsOfOk old.budget old.stands old.applied) (sym e) h
 cost_then old mid new e (Invoked id op) h = e ∙ h
 cost_then old mid new e (Failed id) h = e ∙ h

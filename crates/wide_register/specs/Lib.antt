@@ -1,4 +1,3 @@
 pub mod Facts
 pub mod Counts
-pub mod Meaning
 pub mod Views

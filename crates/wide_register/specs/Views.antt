@@ -3,11 +3,11 @@ use Rattle.std.specs.Prelude.{◌≡◌, ◌⊎◌, Bool, true, false, IsTrue, O
 use Rattle.events.specs.declared.event.EventKind.{EventKind}
 use Rattle.events.specs.declared.event.EventKind.TheVariants.{Invoke, Ok, Fail, Info}
 use Rattle.wide_register.specs.declared.kept.Kept.{Kept}
-use Rattle.wide_register.specs.declared.judged.Step.{Step}
-use Rattle.wide_register.specs.declared.judged.Step.TheVariants.{Alive, Dead}
+use Rattle.judging.specs.declared.step.Step.{Step}
+use Rattle.judging.specs.declared.step.Step.TheVariants.{Alive, Dead}
 use Rattle.wide_register.specs.declared.judged.WideRegister.{WideRegister}
 use Rattle.wide_register.specs.Facts.{AreFacts}
-use Rattle.wide_register.specs.Meaning.{RegisterView}
+use Rattle.judging.specs.Meaning.{FrontierView}
 
 -- an ok and a fail can kill
 abbrev pub kills : EventKind → Bool
@@ -33,7 +33,7 @@ abbrev pub next_of : Option Kept → Kept → Kept
 next_of None kept = kept
 next_of (Some next) kept = next
 
-abbrev pub view_of : WideRegister → RegisterView
+abbrev pub view_of : WideRegister → FrontierView
 view_of w = record {
   stands = AreFacts w.kept;
   will_stand = AreFacts (next_of w.next w.kept);

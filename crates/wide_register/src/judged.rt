@@ -1,29 +1,20 @@
 //! Registers that are judged live.
 ghost use Rattle.std.specs.Prelude.{◌≡◌, ◌↔◌, ◌<◌, IfOk, IsTrue, length};
-ghost use Rattle.models.specs.Objects.{register};
+ghost use Rattle.models.specs.Objects.{object_of};
+ghost use Rattle.models.specs.declared.model_kind.ModelKind.TheVariants.{WideRegister as OfWideRegister};
 ghost use Rattle.events.specs.Events.{act_by, mark_by_act};
-ghost use Rattle.linspec.specs.LeanEnds.{HasMoreLeanEnds};
+ghost use Rattle.linspec.specs.Counts.{CountsMoreThan};
+ghost use Rattle.judging.specs.Meaning.{Commits, IsCopy, IsStart, Observes, Prepares, mark_by};
 ghost use Rattle.wide_register.specs.Counts.{IsCounted};
 ghost use Rattle.wide_register.specs.Facts.{IsDeed};
-ghost use Rattle.wide_register.specs.Meaning.{Commits, IsCopy, IsStart, Observes, Prepares};
 ghost use Rattle.wide_register.specs.Views.{IsStepLeft, is_an_ok, kills, view_of};
 
 use crate::kept::Kept;
 use crate::next::{deed_of, tries_of};
 use events::EventKind;
+use judging::Step;
 use models::Op;
 use std::alloc::{AllocError, Global};
-
-/// What an event leaves.
-#[derive(Clone, Copy, Debug, PartialEq, Eq)]
-pub enum Step {
-    /// Some lean end is left: the history is linearizable.
-    Alive,
-    /// No lean end is left: the history is not linearizable.
-    Dead,
-    /// There were more lean ends than the budget just before the event.
-    Over,
-}
 
 /// The history of one register, judged as its events come, by its lean ends: it is linearizable exactly if it has one (`lean_ends`).
 ///
@@ -115,7 +106,8 @@ impl WideRegister {
     /// register stands for what it stood for until [`commit`](Self::commit); after `AllocError` no commit must follow. What was prepared before
     /// is dropped. Takes the time of the pairs of the rows that are made.
     pub fn prepare(&mut self, id: u32, kind: EventKind, op: &Op) -> Result<Step, AllocError>
-        ensures { Prepares (view_of self.old) (view_of self.new) HasMoreLeanEnds register (mark_by_act id id (act_by kind op.now)) result }
+        ensures { Prepares (view_of self.old) (view_of self.new) (CountsMoreThan OfWideRegister) (object_of OfWideRegister)
+            (mark_by id kind op.now) result }
     {
         self.next = None;
         if self.is_over(kind) {
@@ -140,7 +132,8 @@ impl WideRegister {
     /// An event of an operation: [`prepare`](Self::prepare) and [`commit`](Self::commit) in one. After Over, and on `AllocError`, the register
     /// stands for what it stood for.
     pub fn observe(&mut self, id: u32, kind: EventKind, op: &Op) -> Result<Step, AllocError>
-        ensures { Observes (view_of self.old) (view_of self.new) HasMoreLeanEnds register (mark_by_act id id (act_by kind op.now)) result }
+        ensures { Observes (view_of self.old) (view_of self.new) (CountsMoreThan OfWideRegister) (object_of OfWideRegister)
+            (mark_by id kind op.now) result }
     {
         let step = self.prepare(id, kind, op)?;
         self.commit();

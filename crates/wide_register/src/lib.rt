@@ -11,4 +11,4 @@ mod left;
 mod next;
 mod row;
 
-pub use judged::{Step, WideRegister};
+pub use judged::WideRegister;

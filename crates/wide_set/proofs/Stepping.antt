@@ -6,19 +6,13 @@ use Rattle.models.specs.declared.model_kind.ModelKind.TheVariants.{WideSet}
 use Rattle.models.specs.Objects.{object_of}
 use Rattle.events.specs.declared.event.EventKind.{EventKind}
 use Rattle.events.specs.declared.event.EventKind.TheVariants.{Invoke, Ok, Fail, Info}
-use Rattle.events.specs.Events.{Mark, act_by, mark_by_act}
+use Rattle.events.specs.Events.{Mark}
 use Rattle.events.specs.Events.Mark.{Invoked, Returned, Failed, Crashed}
 use Rattle.linspec.specs.Counts.{CountsMoreThan}
 use Rattle.judging.specs.declared.step.Step.TheVariants.{Over}
 use Rattle.judging.specs.Meaning.{mark_by, IsAnswer, FrontierView, Costs}
 use Rattle.wide_set.specs.Judges.{IsAlive}
 use Rattle.wide_set.specs.Views.{step_by}
-
-pub same_mark : (kind : EventKind) (id : ℕ) (op : Op) → mark_by_act id id (act_by kind op) ≡ mark_by id kind op
-same_mark Invoke id op = refl
-same_mark Ok id op = refl
-same_mark Fail id op = refl
-same_mark Info id op = refl
 
 -- nothing is counted, so the answer is a step
 pub right_step : (budget : ℕ) (marks : List Mark) (m : Mark) (alive : Bool) → IsAlive marks m alive → IsAnswer (CountsMoreThan WideSet) (object_of WideSet) budget marks m (step_by alive)

@@ -1,5 +1,6 @@
 use Rattle.std.proofs.Common.{◌∷◌, ◌++◌, [], ◌∙◌}
-use Rattle.events.specs.Events.{Mark, act_by, mark_by_act}
+use Rattle.events.specs.Events.{Mark}
+use Rattle.judging.specs.Meaning.{mark_by}
 use Rattle.wide_register.specs.Views.{view_of}
 use Rattle.wide_register.proofs.Judging.{cost_then}
 use Rattle.wide_register.proofs.judged.WideRegister.observe.Goals as goal
@@ -8,7 +9,7 @@ pub returns : goal.returns
 returns c =
     let p = c.in_ok-step.ensures in
     let m = c.commit.ensures in
-    let mark : Mark = mark_by_act c.args.id c.args.id (act_by c.args.kind c.args.op.now) in
+    let mark : Mark = mark_by c.args.id c.args.kind c.args.op.now in
     record {
       step = p.step;
       kept = record {
