@@ -59,10 +59,10 @@ macro_rules! copy_of {
         match $any {
             $(AnyFrontier::$K(frontier) => Ok(AnyFrontier::$K(copied(frontier)?)),)*
             AnyFrontier::WideRegister(judge) => {
-                Ok(AnyFrontier::WideRegister(Box::new(judge.allocator(), judge.copy()?)?))
+                Ok(AnyFrontier::WideRegister(Box::new(*Box::allocator(judge), judge.copy()?)?))
             }
             AnyFrontier::WideSet(judge) => {
-                Ok(AnyFrontier::WideSet(Box::new(judge.allocator(), judge.copy()?)?))
+                Ok(AnyFrontier::WideSet(Box::new(*Box::allocator(judge), judge.copy()?)?))
             }
         }
     };
