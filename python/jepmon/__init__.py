@@ -22,7 +22,7 @@ if TYPE_CHECKING:
     from .operation import Operation
     from .verdicts import Failed, Illegal, NotLegal, Refused, Unknown
 
-__version__ = "1.4.0"
+__version__ = "1.5.0"
 __all__ = ["ABSENT", "Failed", "Illegal", "Keys", "LongMonitor", "Monitor", "NotLegal", "Operation", "Refused", "Unknown"]
 
 # Where each name is; its module is loaded at first use, so that the tools begin fast.
