@@ -18,8 +18,11 @@ pub enum Remark {
         name: Name,
         meant: Option<ModelKind>,
     },
-    /// The budget of the key did not suffice.
-    Blown(Key),
+    /// The budget of the key did not suffice. A wide kind of the same object may do with it.
+    Blown {
+        key: Key,
+        wide: Option<ModelKind>,
+    },
 }
 
 macro_rules! kinds {
@@ -50,7 +53,10 @@ pub fn remark_on(monitor: &Monitor, verdict: &Verdict) -> Option<Remark> {
     match verdict {
         Verdict::Legal => None,
         Verdict::Illegal { key, index } => none_of_the_kind(monitor, *key, *index),
-        Verdict::Unknown { key, .. } => Some(Remark::Blown(*key)),
+        Verdict::Unknown { key, .. } => Some(Remark::Blown {
+            key: *key,
+            wide: wide_kind(monitor, *key),
+        }),
     }
 }
 
@@ -73,6 +79,15 @@ fn none_of_the_kind(monitor: &Monitor, key: Key, index: u32) -> Option<Remark> {
             .copied()
             .find(|kind| has_all(*kind, events, key)),
     })
+}
+
+// The kind of the key's object of which fewer ends are counted, if there is one.
+fn wide_kind(monitor: &Monitor, key: Key) -> Option<ModelKind> {
+    match kind_of(monitor, key)? {
+        ModelKind::Register => Some(ModelKind::WideRegister),
+        ModelKind::Set => Some(ModelKind::WideSet),
+        _ => None,
+    }
 }
 
 // The kind by which the key is judged.
@@ -115,13 +130,14 @@ impl fmt::Display for Remark {
                     None => Ok(()),
                 }
             }
-            Remark::Blown(key) => {
-                write!(
-                    f,
-                    "key {key} has more ends than its budget: raise --budget, "
-                )?;
+            Remark::Blown { key, wide } => {
+                write!(f, "key {key} has more ends than its budget: ")?;
+                if let Some(wide) = wide {
+                    let wide = wide.name();
+                    write!(f, "take the model {wide}, ")?;
+                }
                 f.write_str(
-                    "let fewer clients use one key, or write to a new key after timeouts and go on reading this one",
+                    "raise --budget, let fewer clients use one key, or write to a new key after timeouts and go on reading this one",
                 )
             }
         }
