@@ -8,8 +8,8 @@ use Rattle.wide_set.proofs.Taking.{still_dead}
 use Rattle.wide_set.proofs.Prepared.{alive_of, answer_of_dead}
 use Rattle.wide_set.proofs.judged.WideSet.judge.Goals as goal
 
-pub returns-then-is_dead : goal.returns-then-is_dead
-returns-then-is_dead c =
+pub returns-then-is_dead-clause-judged : goal.returns-then-is_dead-clause-judged
+returns-then-is_dead-clause-judged c =
     let f = facts_of c.args.self.now.known in
     let mark : Mark = mark_by_act c.args.id c.args.id (act_by c.args.kind c.args.op.now) in
     let due : c.args.self.now.due ≡ Some Dies = c.is_dead.ensures.0 c.if-is_dead.true in
@@ -20,8 +20,8 @@ returns-then-is_dead c =
       next = λ ms st may. still_dead ms mark (dead ms st) may;
     }
 
-pub returns : goal.returns
-returns c =
+pub returns-clause-judged : goal.returns-clause-judged
+returns-clause-judged c =
     let g = facts_of c.settle.new.self.known in
     let mark : Mark = mark_by_act c.args.id c.args.id (act_by c.args.kind c.args.op.now) in
     let settled = c.in_ok-settle.ensures.ok in
