@@ -1,15 +1,19 @@
 -- the answer of an event, and its cost
 use Rattle.std.proofs.Common.{◌≡◌, ◌≢◌, ℕ, ◌<◌, ◌⊎◌, inl, inr, ⊎_elim, true, false, IsTrue, List, [], ◌∷◌, ◌++◌, length, map, refl, sym, ◌∙◌, subst, arith}
+use Rattle.std.specs.Prelude.{Result}
+use Rattle.std.specs.declared.alloc.AllocError.{AllocError}
 use Rattle.std.specs.List.{Contains}
 use Rattle.std.proofs.lemmas.Bool.{true≢false}
 use Rattle.models.specs.declared.operation.Op.{Op}
-use Rattle.models.specs.Objects.{register, answer_of}
+use Rattle.models.specs.declared.model_kind.ModelKind.TheVariants.{WideRegister as WideRegisterKind}
+use Rattle.models.specs.Objects.{register, object_of, answer_of}
 use Rattle.events.specs.declared.event.EventKind.{EventKind}
 use Rattle.events.specs.declared.event.EventKind.TheVariants.{Invoke, Ok, Fail, Info}
 use Rattle.events.specs.Events.{Mark, act_by, mark_by_act}
 use Rattle.events.specs.Events.Mark.{Invoked, Returned, Failed, Crashed}
 use Rattle.linspec.specs.MarkRule.{MayFollow}
 use Rattle.linspec.specs.Orders.{IsLinearizable}
+use Rattle.linspec.specs.Counts.{CountsMoreThan}
 use Rattle.linspec.proofs.Lists.{Contains-nil, Contains-head}
 use Rattle.linspec.specs.LeanEnds.{HasMoreLeanEnds, HasMoreLeanEndsThan}
 use Rattle.lean_ends.proofs.Left.{some_is_left, as_many, counted_order}
@@ -20,7 +24,8 @@ use Rattle.judging.specs.declared.step.Step.TheVariants.{Alive, Dead, Over}
 use Rattle.wide_register.specs.Facts.{AreFacts, IsAfter, end_of}
 use Rattle.wide_register.specs.declared.judged.WideRegister.{WideRegister}
 use Rattle.wide_register.specs.Counts.{IsCounted}
-use Rattle.judging.specs.Meaning.{Answers, Blows, Costs, IsAnswer, IsStep, FrontierView, StepsOfOk}
+use Rattle.judging.specs.Meaning.{Answers, Blows, Costs, IsAnswer, IsStep, FrontierView, Prepares, StepsOfOk, mark_by}
+use Rattle.judging.proofs.Marks.{same_mark}
 use Rattle.wide_register.specs.Views.{IsStepLeft, is_an_ok, kills, view_of}
 use Rattle.wide_register.proofs.Costs.{crash_cost, fail_cost, invoke_cost, ok_cost}
 use Rattle.wide_register.proofs.Others.{map_from, map_to}
@@ -129,3 +134,9 @@ cost_then old mid new e (Returned id answer) h = subst (StepsOfOk old.budget old
 cost_then old mid new e (Invoked id op) h = e ∙ h
 cost_then old mid new e (Failed id) h = e ∙ h
 cost_then old mid new e (Crashed id) h = e ∙ h
+
+-- the same of the mark in the words of all judges
+pub prepared_as : {old new : FrontierView} {result : Result Step AllocError} (kind : EventKind) (id : ℕ) (op : Op)
+    → Prepares old new (CountsMoreThan WideRegisterKind) (object_of WideRegisterKind) (mark_of id kind op) result
+    → Prepares old new (CountsMoreThan WideRegisterKind) (object_of WideRegisterKind) (mark_by id kind op) result
+prepared_as {old} {new} {result} kind id op p = subst (λ m. Prepares old new (CountsMoreThan WideRegisterKind) (object_of WideRegisterKind) m result) (same_mark kind id op) p
