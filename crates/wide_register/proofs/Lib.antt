@@ -16,3 +16,4 @@ pub mod Keeping
 pub mod Making
 pub mod Copies
 pub mod Gathering
+pub mod Crossing

@@ -17,3 +17,4 @@ pub mod Beginning
 pub mod Prepared
 pub mod Bases
 pub mod Stepping
+pub mod Crossing
