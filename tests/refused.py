@@ -23,7 +23,7 @@ import run as cases
 SCRIPTS = {
     "set_members": 100, "set_members_by_model": 100, "model_changes": 100, "five_ends": 100, "illegal_beside_blown": 100,
     "rewind_brings_processes_back": 100, "refusals_in_order": 100, "unreadable_places": 20, "open_reads_within_their_ends": 150,
-    "products_of_large_numbers": 200,
+    "products_of_large_numbers": 200, "wide_register_and_back": 100, "wide_set_answers_crossed": 100,
 }
 CHECKS = {"check_finds_a_stale_read": 50, "check_of_failed_and_crashed": 50, "confirm_of_an_order_for_each_key": 50,
           "confirm_of_a_dequeue_by_its_value": 50}

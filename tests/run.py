@@ -484,7 +484,7 @@ def run_words():
 
 
 ROW = re.compile(r"key (\d+) model ([a-z-]+) budget (\d+) events (\d+) status (alive|dead \d+|over \d+)")
-KINDS = ("register", "cas-register", "mutex", "fifo-queue", "set", "unordered-queue")
+KINDS = ("register", "cas-register", "mutex", "fifo-queue", "set", "unordered-queue", "wide-register", "wide-set")
 
 
 def run_of(words):

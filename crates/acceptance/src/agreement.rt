@@ -1,5 +1,5 @@
-//! Two ways to find whether a history is linearizable agree: to try each order of its operations, and to keep the ends
-//! of the legal ones as its events come.
+//! Two ways to find whether a history is linearizable agree: to try each order of its operations, and to judge its events as they
+//! come. A wide kind and its plain one also agree on each event.
 ghost use Rattle.std.specs.Prelude.{◌<◌};
 
 use events::{Body, Event, EventKind, Process};
@@ -96,7 +96,7 @@ impl Request {
         kind: ModelKind,
     ) -> Result<Part, AllocError> {
         match (self.name, kind) {
-            (Name::Read, ModelKind::Set) => Ok(Part::Set(some_members(alloc, numbers)?)),
+            (Name::Read, ModelKind::Set | ModelKind::WideSet) => Ok(Part::Set(some_members(alloc, numbers)?)),
             (Name::Read, _) if numbers.below(6) == 0 => Ok(Part::Nil),
             (Name::Read | Name::Dequeue, _) => Ok(Part::Int(numbers.value())),
             _ => Ok(self.part()),
@@ -186,7 +186,16 @@ impl Seen {
     }
 }
 
-/// A history as it grows, with the frontier of its events.
+/// The plain kind of the same objects, of a wide kind.
+fn plain_kind(kind: ModelKind) -> Option<ModelKind> {
+    match kind {
+        ModelKind::WideRegister => Some(ModelKind::Register),
+        ModelKind::WideSet => Some(ModelKind::Set),
+        _ => None,
+    }
+}
+
+/// A history as it grows, with the frontier of its events; and of a wide kind with the one of the plain kind, too.
 #[derive(Drop)]
 struct Run {
     alloc: Global,
@@ -195,6 +204,7 @@ struct Run {
     threads: u32,
     history: History,
     frontier: AnyFrontier,
+    plain: Option<AnyFrontier>,
     invoked: u32,
     seen: Seen,
 }
@@ -202,6 +212,10 @@ struct Run {
 impl Run {
     fn new(alloc: Global, kind: ModelKind, form: Form) -> Result<Run, Fail> {
         let threads = if form == Form::AllOpen { OPEN } else { 3 };
+        let plain = match plain_kind(kind) {
+            Some(plain) => Some(AnyFrontier::start(alloc, plain, BUDGET)?),
+            None => None,
+        };
         Ok(Run {
             alloc,
             kind,
@@ -209,6 +223,7 @@ impl Run {
             threads,
             history: History::new(alloc, threads)?,
             frontier: AnyFrontier::start(alloc, kind, BUDGET)?,
+            plain,
             invoked: 0,
             seen: Seen::default(),
         })
@@ -217,6 +232,11 @@ impl Run {
     /// The frontier and the history get the same event of the operation with this id.
     fn append(&mut self, id: u32, kind: EventKind, process: u32, op: Op) -> Result<Step, Fail> {
         let step = self.frontier.observe(id, kind, &op)?;
+        if let Some(plain) = &mut self.plain {
+            if plain.observe(id, kind, &op)? != step {
+                return Err("a wide kind answers otherwise".into());
+            }
+        }
         self.history.push(Event {
             index: None,
             kind,
@@ -378,8 +398,8 @@ fn compare_all(
     Ok(all)
 }
 
-/// Of 360 histories, 60 of each kind, so many are legal and the others are not. In 311 an operation is open at the end, in
-/// 192 one has failed, in 190 one has crashed.
+/// Of 480 histories, 60 of each kind, so many are legal and the others are not. In 416 an operation is open at the end, in
+/// 246 one has failed, in 264 one has crashed.
 #[test]
 fn orders_and_ends_agree(rt: HostRuntime) -> Result<(), Fail> {
     let kinds = [
@@ -389,10 +409,12 @@ fn orders_and_ends_agree(rt: HostRuntime) -> Result<(), Fail> {
         (ModelKind::FifoQueue, 20),
         (ModelKind::Set, 14),
         (ModelKind::UnorderedQueue, 23),
+        (ModelKind::WideRegister, 34),
+        (ModelKind::WideSet, 17),
     ];
     let all = compare_all(rt.alloc(), 1, Form::Mixed, 60, &kinds)?;
-    assert!(rt; (all.legal, all.illegal) == (139, 221));
-    assert!(rt; (all.open, all.failed, all.crashed) == (311, 192, 190));
+    assert!(rt; (all.legal, all.illegal) == (190, 290));
+    assert!(rt; (all.open, all.failed, all.crashed) == (416, 246, 264));
     Ok(())
 }
 
@@ -407,6 +429,8 @@ fn orders_and_ends_agree_on_eight_open(rt: HostRuntime) -> Result<(), Fail> {
         (ModelKind::FifoQueue, 8),
         (ModelKind::Set, 12),
         (ModelKind::UnorderedQueue, 8),
+        (ModelKind::WideRegister, 1),
+        (ModelKind::WideSet, 1),
     ];
     let all = compare_all(rt.alloc(), 2, Form::AllOpen, 20, &kinds)?;
     assert!(rt; (all.legal, all.illegal) == (69, 51));
@@ -414,8 +438,8 @@ fn orders_and_ends_agree_on_eight_open(rt: HostRuntime) -> Result<(), Fail> {
     Ok(())
 }
 
-/// Of 200 more histories, 50 of each kind that reads and 50 of unordered queues, half of the reads that end crash. So many are
-/// legal and the others are not. In 110 a read has crashed, in 106 an operation has failed.
+/// Of 300 more histories, 50 of each kind that reads and 50 of unordered queues, half of the reads that end crash. So many are
+/// legal and the others are not. In 190 a read has crashed, in 161 an operation has failed.
 #[test]
 fn orders_and_ends_agree_on_crashed_reads(rt: HostRuntime) -> Result<(), Fail> {
     let kinds = [
@@ -423,9 +447,11 @@ fn orders_and_ends_agree_on_crashed_reads(rt: HostRuntime) -> Result<(), Fail> {
         (ModelKind::CasRegister, 23),
         (ModelKind::Set, 24),
         (ModelKind::UnorderedQueue, 10),
+        (ModelKind::WideRegister, 27),
+        (ModelKind::WideSet, 28),
     ];
     let all = compare_all(rt.alloc(), 3, Form::Crashing, 50, &kinds)?;
-    assert!(rt; (all.legal, all.illegal) == (90, 110));
-    assert!(rt; (all.failed, all.crashed, all.crashed_read) == (106, 160, 110));
+    assert!(rt; (all.legal, all.illegal) == (145, 155));
+    assert!(rt; (all.failed, all.crashed, all.crashed_read) == (161, 248, 190));
     Ok(())
 }

@@ -1,12 +1,13 @@
 //! Histories of registers that are judged by lean ends, event by event.
 use events::EventKind;
 use events::EventKind::{Fail as Failed, Info as Crashed, Invoke, Ok as Done};
+use judging::Step;
+use judging::Step::{Alive, Dead, Over};
 use models::Name::{Cas, Read, Write};
 use models::{Name, Op, Part};
 use std::alloc::{AllocError, Global};
 use std::test::Fail;
-use wide_register::Step::{Alive, Dead, Over};
-use wide_register::{Step, WideRegister};
+use wide_register::WideRegister;
 
 // What an event carries: nothing, a value, or two.
 #[derive(Clone, Copy)]

@@ -1,6 +1,8 @@
 //! Histories of sets, event by event.
 use events::EventKind;
 use events::EventKind::{Fail as Failed, Info as Crashed, Invoke, Ok as Done};
+use judging::Step;
+use judging::Step::{Alive, Dead};
 use models::Name::{Add, Read, Write};
 use models::{Name, Op, Part};
 use std::alloc::{AllocError, Global};
@@ -26,12 +28,13 @@ fn part_of(alloc: Global, said: Said) -> Result<Part, AllocError> {
     }
 }
 
-// An event of the operation with this id, and whether the history with it is linearizable.
-type Row = (u32, EventKind, Name, Said, bool);
+// An event of the operation with this id, and its answer.
+type Row = (u32, EventKind, Name, Said, Step);
 
-// Whether each event is answered so, by one set, or each event by a copy of the set before it.
+// Whether each event is answered so, by one set, or each event by a copy of the set before it. Nothing is tried, and no budget is
+// exceeded.
 fn judge(alloc: Global, rows: &[Row], copies: bool) -> Result<bool, AllocError> {
-    let mut set = WideSet::start(alloc);
+    let mut set = WideSet::start(alloc, 1);
     for row in rows {
         let (id, kind, name, said, want) = *row;
         if copies {
@@ -46,81 +49,81 @@ fn judge(alloc: Global, rows: &[Row], copies: bool) -> Result<bool, AllocError> 
             return Ok(false);
         }
     }
-    Ok(true)
+    Ok(set.applied() == 0)
 }
 
 const STALE_READ: [Row; 4] = [
-    (0, Invoke, Add, One(5), true),
-    (0, Done, Add, One(5), true),
-    (1, Invoke, Read, Nil, true),
-    (1, Done, Read, All(&[]), false),
+    (0, Invoke, Add, One(5), Alive),
+    (0, Done, Add, One(5), Alive),
+    (1, Invoke, Read, Nil, Alive),
+    (1, Done, Read, All(&[]), Dead),
 ];
 
 const CROSSED_ANSWERS: [Row; 8] = [
-    (0, Invoke, Add, One(5), true),
-    (1, Invoke, Add, One(6), true),
-    (2, Invoke, Read, Nil, true),
-    (3, Invoke, Read, Nil, true),
-    (2, Done, Read, All(&[5]), true),
-    (3, Done, Read, All(&[6]), false),
-    (0, Done, Add, One(5), false),
-    (4, Invoke, Read, Nil, true),
+    (0, Invoke, Add, One(5), Alive),
+    (1, Invoke, Add, One(6), Alive),
+    (2, Invoke, Read, Nil, Alive),
+    (3, Invoke, Read, Nil, Alive),
+    (2, Done, Read, All(&[5]), Alive),
+    (3, Done, Read, All(&[6]), Dead),
+    (0, Done, Add, One(5), Dead),
+    (4, Invoke, Read, Nil, Alive),
 ];
 
 const FAILED_ADD_WAS_READ: [Row; 4] = [
-    (0, Invoke, Add, One(5), true),
-    (1, Invoke, Read, Nil, true),
-    (1, Done, Read, All(&[5]), true),
-    (0, Failed, Add, One(5), false),
+    (0, Invoke, Add, One(5), Alive),
+    (1, Invoke, Read, Nil, Alive),
+    (1, Done, Read, All(&[5]), Alive),
+    (0, Failed, Add, One(5), Dead),
 ];
 
 const ANOTHER_ADD_STAYS: [Row; 7] = [
-    (0, Invoke, Add, One(5), true),
-    (1, Invoke, Add, One(5), true),
-    (2, Invoke, Read, Nil, true),
-    (2, Done, Read, All(&[5]), true),
-    (0, Failed, Add, One(5), true),
-    (1, Crashed, Add, One(5), true),
-    (3, Invoke, Write, One(5), true),
+    (0, Invoke, Add, One(5), Alive),
+    (1, Invoke, Add, One(5), Alive),
+    (2, Invoke, Read, Nil, Alive),
+    (2, Done, Read, All(&[5]), Alive),
+    (0, Failed, Add, One(5), Alive),
+    (1, Crashed, Add, One(5), Alive),
+    (3, Invoke, Write, One(5), Alive),
 ];
 
 const READ_BACKWARDS: [Row; 7] = [
-    (0, Invoke, Add, One(5), true),
-    (1, Invoke, Read, Nil, true),
-    (1, Done, Read, All(&[5]), true),
-    (2, Invoke, Read, Nil, true),
-    (2, Done, Read, All(&[5]), true),
-    (3, Invoke, Read, Nil, true),
-    (3, Done, Read, All(&[]), false),
+    (0, Invoke, Add, One(5), Alive),
+    (1, Invoke, Read, Nil, Alive),
+    (1, Done, Read, All(&[5]), Alive),
+    (2, Invoke, Read, Nil, Alive),
+    (2, Done, Read, All(&[5]), Alive),
+    (3, Invoke, Read, Nil, Alive),
+    (3, Done, Read, All(&[]), Dead),
 ];
 
 const LATE_ANSWER: [Row; 8] = [
-    (0, Invoke, Read, Nil, true),
-    (1, Invoke, Add, One(5), true),
-    (1, Done, Add, One(5), true),
-    (2, Invoke, Add, One(6), true),
-    (2, Crashed, Add, One(6), true),
-    (3, Invoke, Read, Nil, true),
-    (3, Done, Read, All(&[6, 5]), true),
-    (0, Done, Read, All(&[]), true),
+    (0, Invoke, Read, Nil, Alive),
+    (1, Invoke, Add, One(5), Alive),
+    (1, Done, Add, One(5), Alive),
+    (2, Invoke, Add, One(6), Alive),
+    (2, Crashed, Add, One(6), Alive),
+    (3, Invoke, Read, Nil, Alive),
+    (3, Done, Read, All(&[6, 5]), Alive),
+    (0, Done, Read, All(&[]), Alive),
 ];
 
 const ADDED_AGAIN: [Row; 12] = [
-    (0, Invoke, Add, One(5), true),
-    (0, Done, Add, One(5), true),
-    (1, Invoke, Read, Nil, true),
-    (1, Done, Read, All(&[5]), true),
-    (2, Invoke, Add, One(5), true),
-    (3, Invoke, Read, Nil, true),
-    (3, Done, Read, All(&[5]), true),
-    (2, Failed, Add, One(5), true),
-    (4, Invoke, Add, One(6), true),
-    (4, Crashed, Add, One(6), true),
-    (5, Invoke, Read, Nil, true),
-    (5, Done, Read, All(&[6]), false),
+    (0, Invoke, Add, One(5), Alive),
+    (0, Done, Add, One(5), Alive),
+    (1, Invoke, Read, Nil, Alive),
+    (1, Done, Read, All(&[5]), Alive),
+    (2, Invoke, Add, One(5), Alive),
+    (3, Invoke, Read, Nil, Alive),
+    (3, Done, Read, All(&[5]), Alive),
+    (2, Failed, Add, One(5), Alive),
+    (4, Invoke, Add, One(6), Alive),
+    (4, Crashed, Add, One(6), Alive),
+    (5, Invoke, Read, Nil, Alive),
+    (5, Done, Read, All(&[6]), Dead),
 ];
 
-const NIL_IS_NO_SET: [Row; 2] = [(0, Invoke, Read, Nil, true), (0, Done, Read, Nil, false)];
+const NIL_IS_NO_SET: [Row; 2] = [(0, Invoke, Read, Nil, Alive), (0, Done, Read, Nil, Dead)];
 
 #[test]
 fn wide_set_answers(rt: HostRuntime) -> Result<(), Fail> {

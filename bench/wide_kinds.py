@@ -1,0 +1,143 @@
+#!/usr/bin/env python3
+"""Measures the wide kinds beside the plain ones, on keys that many clients share: `wide_kinds.py [--seeds N] [--ops N] [--seconds N]
+[--kind NAME] [--clients N,..]`; JEPMON names the program.
+
+A load is one key of a correct object, whose clients never rest: at each step one client, drawn at random, invokes an operation, or its
+operation takes place, or it returns or times out. All values differ. For each load it prints, of the plain kind and of the wide one, how many
+seeds `jepmon check` decides at the budgets 4,096 and 65,536. If it decides all at 65,536, the row also has the least power of two that decides
+all of them, and the microseconds of the processor for an event. A key that takes more than the seconds is not decided.
+"""
+import argparse
+import pathlib
+import random
+import resource
+import subprocess
+import sys
+from typing import Iterator, List, NamedTuple
+
+sys.path.insert(0, str(pathlib.Path(__file__).resolve().parent.parent / "python"))
+
+from jepmon.program import find_program  # noqa: E402
+
+GREATEST = 16  # the power of two that is the greatest budget
+UPDATES = {"register": "write", "set": "add"}
+CLIENTS = (5, 8, 12, 16, 20)
+READS = (0.3, 0.5, 0.9)
+TIMEOUTS = (0.0, 0.01, 0.05)
+
+
+class Load(NamedTuple):
+    kind: str
+    clients: int
+    reads: float
+    timeouts: float
+
+
+class Client:
+    """A client and its open operation."""
+
+    def __init__(self, process: int) -> None:
+        self.process = process
+        self.name, self.part, self.answer = "", "nil", ""
+        self.is_open = self.took_place = False
+
+
+class Result(NamedTuple):
+    is_decided: bool
+    seconds: float  # of the processor
+
+
+def events_of(load: Load, operations: int, seed: int) -> Iterator[str]:
+    """The events of a load, a line each."""
+    draw = random.Random(f"{load} {seed}")
+    clients = [Client(process) for process in range(load.clients)]
+    state: List[int] = []
+    invoked = 0
+    while invoked < operations or any(client.is_open for client in clients):
+        client = clients[draw.randrange(load.clients)]
+        if not client.is_open:
+            if invoked < operations:
+                invoked += 1
+                client.is_open, client.took_place = True, False
+                client.name, client.part = ("read", "nil") if draw.random() < load.reads else (UPDATES[load.kind], str(invoked))
+                yield told(client, "invoke", client.part)
+        elif not client.took_place:
+            client.took_place, client.answer = True, client.part
+            if client.name == "read":
+                client.answer = "#{" + " ".join(map(str, state)) + "}" if load.kind == "set" else str(state[-1]) if state else "nil"
+            else:
+                state.append(int(client.part))
+        elif draw.random() < load.timeouts:
+            yield told(client, "info", client.part)
+            client.process, client.is_open = client.process + load.clients, False
+        else:
+            yield told(client, "ok", client.answer)
+            client.is_open = False
+
+
+def told(client: Client, kind: str, part: str) -> str:
+    return f"{{:type :{kind}, :process {client.process}, :f :{client.name}, :value [7 {part}]}}\n"
+
+
+def processor_seconds() -> float:
+    """Of all programs that have ended."""
+    used = resource.getrusage(resource.RUSAGE_CHILDREN)
+    return used.ru_utime + used.ru_stime
+
+
+def checked(text: str, load: Load, model: str, budget: int, limit: float) -> Result:
+    words = [find_program(), "check", "--concurrency", str(load.clients), "--model", model, "--budget", str(budget), "-"]
+    began = processor_seconds()
+    try:
+        ran = subprocess.run(words, input=text.encode(), stdout=subprocess.PIPE, stderr=subprocess.DEVNULL, timeout=limit)
+    except subprocess.TimeoutExpired:
+        return Result(False, limit)
+    if ran.returncode not in (0, 2):
+        raise SystemExit(f"{' '.join(words)}: status {ran.returncode}, of a correct load: {ran.stdout.decode()}")
+    return Result(ran.returncode == 0, processor_seconds() - began)
+
+
+def least_budget(text: str, load: Load, model: str, limit: float) -> int:
+    """The least power of two that decides the key, between the limits of a budget; it is known that the greatest one does."""
+    low, high = 0, GREATEST
+    while low < high:
+        middle = (low + high) // 2
+        low, high = (low, middle) if checked(text, load, model, 1 << middle, limit).is_decided else (middle + 1, high)
+    return 1 << high
+
+
+def row_of(load: Load, texts: List[str], limit: float) -> List[str]:
+    """Of each kind, how many seeds are decided at both budgets, the least power of two that decides all, and the time of an event."""
+    cells: List[str] = []
+    for model in (load.kind, f"wide-{load.kind}"):
+        results = [checked(text, load, model, 1 << GREATEST, limit) for text in texts]
+        budgets = [least_budget(text, load, model, limit) for text, result in zip(texts, results) if result.is_decided]
+        decided = [f"{sum(budget <= most for budget in budgets)}" for most in (4096, 1 << GREATEST)]
+        nothing = checked("", load, model, 1 << GREATEST, limit).seconds
+        events = sum(text.count("\n") for text in texts)
+        each = 1e6 * (sum(result.seconds for result in results) - nothing * len(texts)) / events
+        are_all = len(budgets) == len(texts)
+        cells += [*decided, str(max(budgets)) if are_all else "", f"{each:.1f} us" if are_all else ""]
+    return cells
+
+
+def main() -> None:
+    asked = argparse.ArgumentParser(description=__doc__.split("\n", 1)[1], formatter_class=argparse.RawDescriptionHelpFormatter)
+    asked.add_argument("--seeds", type=int, default=2)
+    asked.add_argument("--ops", type=int, default=1000)
+    asked.add_argument("--seconds", type=float, default=10.0)
+    asked.add_argument("--kind", choices=sorted(UPDATES), action="append")
+    asked.add_argument("--clients", type=lambda word: [int(part) for part in word.split(",")], default=list(CLIENTS))
+    given = asked.parse_args()
+    print(f"Of {given.seeds} seeds each:\n")
+    print("| Load | 4,096 | 65,536 | least | an event | wide: 4,096 | 65,536 | least | an event |\n|---|---|---|---|---|---|---|---|---|")
+    loads = [Load(kind, clients, reads, timeouts) for kind in given.kind or UPDATES for clients in given.clients
+             for reads in READS for timeouts in TIMEOUTS]
+    for load in loads:
+        texts = ["".join(events_of(load, given.ops, seed)) for seed in range(given.seeds)]
+        name = f"{load.kind}, {load.clients} clients, {load.reads:.0%} reads, {load.timeouts:.0%} timeouts"
+        print("| " + " | ".join([name, *row_of(load, texts, given.seconds)]) + " |", flush=True)
+
+
+if __name__ == "__main__":
+    main()
