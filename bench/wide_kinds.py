@@ -5,7 +5,7 @@
 A load is one key of a correct object, whose clients never rest: at each step one client, drawn at random, invokes an operation, or its
 operation takes place, or it returns or times out. All values differ. For each load it prints, of the plain kind and of the wide one, how many
 seeds `jepmon check` decides at the budgets 4,096 and 65,536. If it decides all at 65,536, the row also has the least power of two that decides
-all of them, and the microseconds of the processor for an event. A key that takes more than the seconds is not decided.
+all of them, and the microseconds of the processor for an event. A key that takes more seconds of the processor than the limit is late.
 """
 import argparse
 import pathlib
@@ -44,6 +44,7 @@ class Client:
 
 class Result(NamedTuple):
     is_decided: bool
+    is_late: bool
     seconds: float  # of the processor
 
 
@@ -85,19 +86,18 @@ def processor_seconds() -> float:
     return used.ru_utime + used.ru_stime
 
 
-def checked(text: str, load: Load, model: str, budget: int, limit: float) -> Result:
+def checked(text: str, load: Load, model: str, budget: int, limit: int) -> Result:
     words = [find_program(), "check", "--concurrency", str(load.clients), "--model", model, "--budget", str(budget), "-"]
     began = processor_seconds()
-    try:
-        ran = subprocess.run(words, input=text.encode(), stdout=subprocess.PIPE, stderr=subprocess.DEVNULL, timeout=limit)
-    except subprocess.TimeoutExpired:
-        return Result(False, limit)
-    if ran.returncode not in (0, 2):
+    ran = subprocess.run(words, input=text.encode(), stdout=subprocess.PIPE, stderr=subprocess.DEVNULL,
+                         preexec_fn=lambda: resource.setrlimit(resource.RLIMIT_CPU, (limit, limit + 1)))
+    is_late = ran.returncode < 0
+    if ran.returncode not in (0, 2) and not is_late:
         raise SystemExit(f"{' '.join(words)}: status {ran.returncode}, of a correct load: {ran.stdout.decode()}")
-    return Result(ran.returncode == 0, processor_seconds() - began)
+    return Result(ran.returncode == 0, is_late, processor_seconds() - began)
 
 
-def least_budget(text: str, load: Load, model: str, limit: float) -> int:
+def least_budget(text: str, load: Load, model: str, limit: int) -> int:
     """The least power of two that decides the key, between the limits of a budget; it is known that the greatest one does."""
     low, high = 0, GREATEST
     while low < high:
@@ -106,13 +106,15 @@ def least_budget(text: str, load: Load, model: str, limit: float) -> int:
     return 1 << high
 
 
-def row_of(load: Load, texts: List[str], limit: float) -> List[str]:
+def row_of(load: Load, texts: List[str], limit: int) -> List[str]:
     """Of each kind, how many seeds are decided at both budgets, the least power of two that decides all, and the time of an event."""
     cells: List[str] = []
     for model in (load.kind, f"wide-{load.kind}"):
         results = [checked(text, load, model, 1 << GREATEST, limit) for text in texts]
         budgets = [least_budget(text, load, model, limit) for text, result in zip(texts, results) if result.is_decided]
         decided = [f"{sum(budget <= most for budget in budgets)}" for most in (4096, 1 << GREATEST)]
+        late = sum(result.is_late for result in results)
+        decided[1] += f", {late} late" if late else ""
         nothing = checked("", load, model, 1 << GREATEST, limit).seconds
         events = sum(text.count("\n") for text in texts)
         each = 1e6 * (sum(result.seconds for result in results) - nothing * len(texts)) / events
@@ -125,7 +127,7 @@ def main() -> None:
     asked = argparse.ArgumentParser(description=__doc__.split("\n", 1)[1], formatter_class=argparse.RawDescriptionHelpFormatter)
     asked.add_argument("--seeds", type=int, default=2)
     asked.add_argument("--ops", type=int, default=1000)
-    asked.add_argument("--seconds", type=float, default=10.0)
+    asked.add_argument("--seconds", type=int, default=10)
     asked.add_argument("--kind", choices=sorted(UPDATES), action="append")
     asked.add_argument("--clients", type=lambda word: [int(part) for part in word.split(",")], default=list(CLIENTS))
     given = asked.parse_args()

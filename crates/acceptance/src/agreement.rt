@@ -429,12 +429,20 @@ fn orders_and_ends_agree_on_eight_open(rt: HostRuntime) -> Result<(), Fail> {
         (ModelKind::FifoQueue, 8),
         (ModelKind::Set, 12),
         (ModelKind::UnorderedQueue, 8),
-        (ModelKind::WideRegister, 1),
-        (ModelKind::WideSet, 1),
     ];
     let all = compare_all(rt.alloc(), 2, Form::AllOpen, 20, &kinds)?;
     assert!(rt; (all.legal, all.illegal) == (69, 51));
     assert!(rt; (all.failed, all.crashed) == (80, 89));
+    Ok(())
+}
+
+/// So it is of 40 more, 20 of each wide kind. In 28 an operation has failed, in 35 one has crashed.
+#[test]
+fn wide_kinds_agree_on_eight_open(rt: HostRuntime) -> Result<(), Fail> {
+    let kinds = [(ModelKind::WideRegister, 14), (ModelKind::WideSet, 12)];
+    let all = compare_all(rt.alloc(), 4, Form::AllOpen, 20, &kinds)?;
+    assert!(rt; (all.legal, all.illegal) == (26, 14));
+    assert!(rt; (all.failed, all.crashed) == (28, 35));
     Ok(())
 }
 
