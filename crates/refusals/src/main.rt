@@ -5,7 +5,7 @@
 
 mod board_calls;
 mod following;
-mod judging;
+mod judged;
 mod loading;
 mod recorded;
 mod said;
@@ -15,7 +15,7 @@ mod trial;
 use board_calls::print_board_calls;
 use edn::Refusal;
 use following::{print_answer, print_opened};
-use judging::Judged;
+use judged::Judged;
 use loading::load;
 use recorded::Recorded;
 use std::alloc::{AllocError, Global};
@@ -64,10 +64,10 @@ fn print_named<R: Threads + Wait + Print + Sync>(
     match name {
         "texts" => print_opened(rt, Ok(Texts::new(alloc))),
         "events" => print_opened(rt, twice!(rt, Recorded::new(alloc))),
-        "models" => print_opened(rt, twice!(rt, Judged::new(alloc, judging::MODELS))),
-        "budgets" => print_opened(rt, twice!(rt, Judged::new(alloc, judging::BUDGETS))),
-        "rewinds" => print_opened(rt, twice!(rt, Judged::new(alloc, judging::REWINDS))),
-        "wides" => print_opened(rt, twice!(rt, Judged::new(alloc, judging::WIDES))),
+        "models" => print_opened(rt, twice!(rt, Judged::new(alloc, judged::MODELS))),
+        "budgets" => print_opened(rt, twice!(rt, Judged::new(alloc, judged::BUDGETS))),
+        "rewinds" => print_opened(rt, twice!(rt, Judged::new(alloc, judged::REWINDS))),
+        "wides" => print_opened(rt, twice!(rt, Judged::new(alloc, judged::WIDES))),
         "board" => print_board_calls(rt, alloc),
         "load" => print_answer(rt, twice!(rt, load(rt, alloc))),
         "trial" => print_answer(rt, twice!(rt, run(rt, alloc))),
