@@ -36,7 +36,7 @@ class Batch(NamedTuple):
     budget: int
     scripts: List[List[Line]]
     is_right: List[bool]
-    kinds: List[List[bool]]  # after each line of the mixed script, whether the kind is the wide one from then on
+    kinds: List[List[bool]]  # for each line of the mixed script, whether the kind is the wide one when it comes
 
 
 def drawn(model: str, seed: int) -> Batch:
@@ -179,11 +179,14 @@ def main() -> int:
     count, first = int(sys.argv[1]) if len(sys.argv) > 1 else 2000, int(sys.argv[2]) if len(sys.argv) > 2 else 0
     seen: "collections.Counter[str]" = collections.Counter()
     wrong = 0
-    for seed in range(first, first - -count // TOGETHER):
-        for model in UPDATES:
-            wrong += tried(model, seed, seen)
-        if (seed - first + 1) % 100 == 0:
-            print(f"{seen['register: scripts'] + seen['set: scripts']} scripts, {wrong} differ", flush=True)
+    try:
+        for seed in range(first, first - -count // TOGETHER):
+            for model in UPDATES:
+                wrong += tried(model, seed, seen)
+            if (seed - first + 1) % 100 == 0:
+                print(f"{seen['register: scripts'] + seen['set: scripts']} scripts, {wrong} differ", flush=True)
+    except KeyboardInterrupt:
+        print("interrupted")
     for what, number in sorted(seen.items()):
         print(f"{number:10,} {what}")
     print(f"{seen['register: scripts'] + seen['set: scripts'] - wrong} passed, {wrong} failed")
