@@ -4,7 +4,7 @@ An end is what one possible order of the operations leaves: the state, the open 
 each found, and the timed-out ones that have (but reads, which decide nothing). The words are those of docs/guide/BUDGETS.md.
 Where no end goes on the key is dead; where an ok meets more ends than the budget it is over. The proved program says
 both, and this walk must say the same: it is there to show what the program only counts. Of the kinds wide-register and wide-set the
-program counts something else, so `follow` gives the walk no budget there. It is tested against the program, and not
+program counts something else, so there `follow` gives up in place of that. It is tested against the program, and not
 proved. Where it would take too long it gives up, and then nothing that it has found may be shown.
 
     walked = walk(of_key(events, 7), "register", 4096)
@@ -323,11 +323,10 @@ def walk(events: Iterable[Event], model: str, budget: int, work: int = WORK) -> 
 
 
 def follow(events: Iterable[Event], options: Options, program: Optional[str] = None, work: int = WORK) -> Walk:
-    """A walk through the events of a key that the program has judged with these options. If it has counted the outcomes as of a wide kind, the
-    walk has no budget: with more than GREATEST ends it gave up."""
-    is_wide = options.is_wide(program)
-    walked = walk(events, options.model, GREATEST if is_wide else options.budget, work)
-    return dataclasses.replace(walked, status="gave up") if is_wide and walked.status == "over" else walked
+    """A walk through the events of a key that the program has judged with these options. With more ends than the budget it gave up, if the
+    program has counted something else: the outcomes of a wide kind."""
+    walked = walk(events, options.model, options.budget, work)
+    return dataclasses.replace(walked, status="gave up") if walked.status == "over" and options.is_wide(program) else walked
 
 
 def _probing(state: State, _part: Part) -> List[Outcome]:
