@@ -15,7 +15,7 @@ from .names import NOUNS, Names, client, listed
 SHOWN = 8  # steps of the growth
 TOLD = 12  # operations whose invocations are mentioned
 COUNTED = 100_000  # ends that are counted beyond the budget
-LEAN = "An outcome counts here by the writes that were open or had timed out and that an answer needs, and not by all of these."
+LEAN = "A lean outcome has only those open or timed-out writes that an answer needs."
 GREATEST = BUDGETS[-1]
 CERTAIN = float("inf")  # it has taken place in each outcome
 
@@ -47,8 +47,8 @@ class Growth(NamedTuple):
 
 def of_unknown(over: Over) -> Found:
     index, named = over.front[-1].index, over.names.object(over.model, over.key)
-    most = f"{over.options.budget:,} outcome" + ("" if over.options.budget == 1 else "s")
-    headline = (f"At event {index} more than {'lean ' if over.is_wide else ''}{most} {'was' if over.options.budget == 1 else 'were'} possible for {named}, which is its "
+    most = f"{over.options.budget:,} {'lean ' if over.is_wide else ''}outcome" + ("" if over.options.budget == 1 else "s")
+    headline = (f"At event {index} more than {most} {'was' if over.options.budget == 1 else 'were'} possible for {named}, which is its "
                 "budget: from there on jepmon does not judge it.")
     made = operations(over.front, over.options.concurrency)
     pending = [operation for operation in made if may_still_take_place(operation, index)]
