@@ -18,6 +18,7 @@ import sys
 import tempfile
 
 TOP = pathlib.Path(__file__).resolve().parent.parent
+import case_loop  # noqa: E402
 from program import COMPILED, PROGRAM  # noqa: E402
 GUIDE = sorted(str(page.relative_to(TOP)) for page in TOP.glob("docs/guide/*.md"))
 DOCUMENTS = ["README.md", "docs/GUIDE.md", *GUIDE, "docs/READING_PROOFS.md", "docs/FORMATS.md", "docs/ADDING.md"]
@@ -85,10 +86,15 @@ def run(commands, files):
 
 
 def fits(shown, got):
-    """Whether the lines are those that are shown, where a line of three dots stands for any."""
-    rest = [line.rstrip() for line in shown]
+    """Whether the lines are those that are shown, where a line of three dots stands for any. A program up to version 1.4.0 has no wide kinds."""
+    rest, told = by_model(shown), by_model(got)
     pattern = "".join(r"(?s:.*)" if line == "..." else re.escape(line) + "\n" for line in rest)
-    return re.fullmatch(pattern, "".join(line.rstrip() + "\n" for line in got)) is not None
+    return re.fullmatch(pattern, "".join(line + "\n" for line in told)) is not None
+
+
+def by_model(lines):
+    """The lines with the models in place of their wide kinds."""
+    return [case_loop.by_model(line.rstrip().encode()).decode() for line in lines]
 
 
 def faults_of(lines, files):

@@ -15,7 +15,7 @@ import tempfile
 from typing import Dict, List
 
 import forked
-from case_loop import LIMIT, Case, differing, given, read, run_cases, words
+from case_loop import LIMIT, Case, by_model, differing, given, read, run_cases, words
 
 TOP = pathlib.Path(__file__).resolve().parent.parent
 CASES = TOP / "tests" / "explain"
@@ -31,12 +31,13 @@ def explained(arguments: List[str], text: bytes = b"", program: str = PROGRAM) -
 def run_case(case: pathlib.Path) -> List[str]:
     text = given(case, "history")
     ran = explained(["-"] + words(case / "args"), text)
-    plain = subprocess.run([PROGRAM, "check", "/dev/stdin"] + words(case / "args"), input=text, stdout=subprocess.PIPE,
+    options = [word for word in words(case / "args") if word != "--by-ends"]
+    plain = subprocess.run([PROGRAM, "check", "/dev/stdin"] + options, input=text, stdout=subprocess.PIPE,
                            stderr=subprocess.PIPE, timeout=LIMIT)
     return (differing("the last line of standard output", b"".join(ran.stdout.splitlines(True)[-1:]), read(case / "stdout"))
             + differing("standard error", ran.stderr, read(case / "stderr"))
             + differing("status", ran.returncode, int(read(case / "status", b"0")))
-            + differing("what jepmon check says", (ran.stdout, ran.returncode), (plain.stdout, plain.returncode)))
+            + differing("what jepmon check says", (by_model(ran.stdout), ran.returncode), (plain.stdout, plain.returncode)))
 
 
 def run_file() -> List[str]:
@@ -76,7 +77,7 @@ def run_no_verdict() -> List[str]:
                          (str(TOP), b"can't be run: Permission denied"),
                          ("/bin/true", b"explain: /bin/true gave no verdict: it printed nothing, and its status was 0; is it"),
                          ("/bin/false", b"gave no verdict: it printed nothing, and its status was 1"),
-                         ("/bin/echo", b"gave no verdict: its last line was 'check /dev/stdin', and its status was 0")):
+                         ("/bin/echo", b"gave no verdict: its last line was 'check /dev/stdin --model register', and its status was 0")):
         ran = explained([str(case)], program=program)
         faults += differing(f"the status with {program}", (ran.returncode, ran.stdout, why in ran.stderr), (3, b"", True))
     return faults

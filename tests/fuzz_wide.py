@@ -35,7 +35,7 @@ def main() -> int:
     for seed in range(first, first - -count // (TOGETHER * len(MODELS))):
         for model in MODELS:
             for clients, histories in batches(model, seed, WAYS[seed % len(WAYS):] + WAYS[:seed % len(WAYS)], TOGETHER):
-                compare(seed, histories, Options(clients, model, BUDGETS[-1]), seen)
+                compare(seed, histories, Options(clients, model, BUDGETS[-1], by_ends=True), seen)
         if (seed - first + 1) % 10 == 0:
             print(f"{seen.total() if hasattr(seen, 'total') else sum(seen.values())} histories, {wrong_of(seen)} differ", flush=True)
     for what, number in sorted(seen.items()):

@@ -22,7 +22,7 @@ from typing import Dict, List, Optional
 import case_loop as histories
 import forked
 import program
-from case_loop import LIMIT, Case, differing, read, run_cases, words
+from case_loop import LIMIT, Case, by_model, differing, read, run_cases, words
 
 TOP = pathlib.Path(__file__).resolve().parent.parent
 sys.path.insert(0, str(TOP / "python"))
@@ -47,7 +47,9 @@ def environment(jepmon: str = PROGRAM) -> Dict[str, str]:
 
 def ran(arguments: List[str], text: bytes = b"", jepmon: str = PROGRAM, folder: Optional[str] = None,
         tool: Optional[List[str]] = None) -> "subprocess.CompletedProcess[bytes]":
-    return forked.ran((tool or JUDGE)[1:] + arguments, text, folder, environment(jepmon))
+    got = forked.ran((tool or JUDGE)[1:] + arguments, text, folder, environment(jepmon))
+    got.stdout, got.stderr = by_model(got.stdout), by_model(got.stderr)
+    return got
 
 
 def run_case(case: pathlib.Path) -> List[str]:
@@ -95,7 +97,7 @@ def run_cases_of_check() -> List[str]:
 
 def with_defaults(options: List[str]) -> List[str]:
     """The options of a check with what jepmon takes where they say nothing. What is over its budget stays so."""
-    return (options + ["--wide-seconds", "0", "--least", "0", "--nil-is-unknown"] + ([] if "--model" in options else ["--model", "register"])
+    return (options + ["--wide-seconds", "0", "--least", "0", "--nil-is-unknown", "--by-ends"] + ([] if "--model" in options else ["--model", "register"])
             + ([] if "--concurrency" in options else ["--concurrency", "2"]))
 
 
@@ -199,7 +201,7 @@ def run_closed_pipe() -> List[str]:
         error = child.stderr.read()
         child.stderr.close()
         status = child.wait(timeout=LIMIT)
-    return (differing("its first line", first, b"key 0 model register budget 4096 events 2 status alive\n")
+    return (differing("its first line", by_model(first), b"key 0 model register budget 4096 events 2 status alive\n")
             + differing("its status", status, 3) + differing("a traceback", b"Traceback" in error or b"Error" in error, False))
 
 
@@ -237,10 +239,10 @@ def run_out() -> List[str]:
         faults = differing("what came", (got.returncode, got.stdout), (1, VERDICT))
         faults += differing("its files", sorted(os.listdir(out)),
                             ["cause.txt", "history.edn", "judge-again", "page.html", "report.txt", "verdict.txt"])
-        faults += differing("the report", (out / "report.txt").read_bytes(), VERDICT)
+        faults += differing("the report", by_model((out / "report.txt").read_bytes()), VERDICT)
         faults += differing("the verdict", (out / "verdict.txt").read_bytes(), b"illegal key 7 index 5\n")
         again = subprocess.run([str(out / "judge-again")], stdout=subprocess.PIPE, timeout=LIMIT, env=environment())
-        faults += differing("what it judges again", (again.returncode, again.stdout), (1, VERDICT))
+        faults += differing("what it judges again", (again.returncode, by_model(again.stdout)), (1, VERDICT))
         got = ran([str(out)])
         faults += differing("what comes of the folder", (got.returncode, got.stdout), (1, VERDICT))
         got = ran([str(TOP / "examples" / "write-then-read.edn"), "--out", str(out)])

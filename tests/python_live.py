@@ -9,12 +9,14 @@ from typing import List
 
 import live_examples
 import live_long
+import live_many
 import live_objects
 import live_outcomes
 import live_program
 
 LIMIT = 1200  # seconds for all of them, on a machine that does much else
-TESTS = [*live_objects.TESTS, *live_outcomes.TESTS, *live_program.TESTS, *live_long.TESTS, *live_examples.TESTS]
+TESTS = [*live_objects.TESTS, *live_outcomes.TESTS, *live_program.TESTS, *live_long.TESTS, *live_many.TESTS,
+         *live_examples.TESTS]
 
 
 def main(names: List[str]) -> int:

@@ -24,8 +24,15 @@ def tool(*words: str, python: str = sys.executable, jepmon: str = str(PROGRAM), 
     return ran.returncode, ran.stdout, ran.stderr
 
 
+def kind_of_register() -> str:
+    """The kind by which the tools judge a register: programs up to version 1.4.0 have no wide one."""
+    ran = subprocess.run([str(PROGRAM), "check", "--help"], stdout=subprocess.PIPE, timeout=LIMIT)
+    return "wide-register" if b"wide-register" in ran.stdout else "register"
+
+
 def checked(path: pathlib.Path, *words: str) -> Tuple[int, str]:
-    ran = subprocess.run([str(PROGRAM), "check", str(path), *words], stdout=subprocess.PIPE, stderr=subprocess.DEVNULL,
+    """What jepmon check says of a history of registers, judged as the tools judge them."""
+    ran = subprocess.run([str(PROGRAM), "check", str(path), "--model", kind_of_register(), *words], stdout=subprocess.PIPE, stderr=subprocess.DEVNULL,
                          universal_newlines=True, timeout=LIMIT)
     return ran.returncode, ran.stdout
 

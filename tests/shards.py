@@ -16,7 +16,7 @@ from typing import List
 from case_loop import Case, differing, run_cases
 from shard_engines import (has_dask, run_a_worker_killed, run_no_worker_left, run_parallel, run_program_fails_there,
                            run_scheduler_lost)
-from shard_runs import LIMIT, TOP, checked, environment, line, room, script, several, tool, written
+from shard_runs import LIMIT, TOP, checked, environment, kind_of_register, line, room, script, several, tool, written
 
 
 # --- jepmon-judge ---
@@ -78,7 +78,7 @@ def run_beyond() -> List[str]:
         status, output, error = tool("judge", str(path))
         lines = output.splitlines()
         faults += differing("the verdict", (status, lines[-1]), (2, "unknown key 5 index 1048576"))
-        faults += differing("the hot key", lines[0], "key 5 model register budget 4096 events 1050000 status full 1048576")
+        faults += differing("the hot key", lines[0], f"key 5 model {kind_of_register()} budget 4096 events 1050000 status full 1048576")
         faults += differing("keys", len(lines), 66_002)
         faults += differing("what was said", "more than 1,048,576 events, which one check does not take; it is judged in" in error, True)
         faults += differing("what was not judged", "key 5 has more than 1,048,576 events, and is judged up to event 1048576" in error, True)
@@ -108,7 +108,7 @@ def run_many_clients() -> List[str]:
         faults += differing("the client", ("concurrency 200" in error, "Client 150 read 9 from key 50" in error), (True, True))
         path.write_text("".join(line(kind, client, "read", 3, "nil") for kind in ("invoke", "ok") for client in range(70)))
         status, output, error = tool("judge", str(path), "--jobs", "1")
-        faults += differing("a wide key", (status, output), (2, "key 3 model register budget 4096 events 140 status wide 64\n"
+        faults += differing("a wide key", (status, output), (2, f"key 3 model {kind_of_register()} budget 4096 events 140 status wide 64\n"
                                                              "unknown key 3 index 64\n"))
         faults += differing("what is said of it", "key 3 has more than 64 operations open at once" in error, True)
     return faults

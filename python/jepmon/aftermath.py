@@ -46,10 +46,12 @@ def _told(folder: RunFolder, bad: Bad) -> Told:
     from . import cause, page, walk  # here, since no test that is legal needs them
 
     events, faults = read(folder.path / HISTORY, bad.key)
-    report = report_of(bad, len(events))
+    own = folder.options._replace(model=bad.model, budget=bad.budget)
+    report = report_of(bad, len(events), own.is_wide(folder.program))
     found = cause.explain(events, report, folder.options, program=folder.program, faults=faults)
     found = found._replace(sentences=[*read_again(folder), *found.sentences]) if found is not None else None
-    walked = page.walked(walk.walk(events, bad.model, bad.budget), {})
+    is_uncounted = report.word == "unknown" and own.is_wide(folder.program)  # by a walk
+    walked = None if is_uncounted else page.walked(walk.follow(events, own, folder.program), {})
     drawn = page.render(page.PageInput(
         verdict=bad.reply, key=bad.key, events=events, model=bad.model, concurrency=folder.options.concurrency, budget=bad.budget,
         report=report.text.split("\n")[0], file=f"{folder.name}/{HISTORY}", walked=walked, faults=faults, again=f"jepmon {folder.again}",
@@ -90,12 +92,11 @@ def event_of(line: str, index: int, number: int) -> Event:
     return Event(index, kind, int(process), name, int(key), None if part == "nil" else int(part), number, line, {"time": int(time)})
 
 
-def report_of(bad: Bad, events: int) -> Report:
+def report_of(bad: Bad, events: int, is_wide: bool) -> Report:
     """What `jepmon check` says of this key, as far as the reply has it."""
     word = bad.reply.split(" ")[0]
-    line = KeyLine(bad.key, bad.model, bad.budget, events, "dead" if word == "illegal" else "over", bad.at)
-    text = f"key {line.key} model {line.model} budget {line.budget} events {line.events} status {line.status} {line.index}"
-    return Report(f"{text}\n{bad.reply}\n", [line], bad.reply, word, bad.key, bad.at, STATUSES[word], "")
+    line = KeyLine(bad.key, bad.model, bad.budget, events, "dead" if word == "illegal" else "over", bad.at, is_wide)
+    return Report(f"{line.text}\n{bad.reply}\n", [line], bad.reply, word, bad.key, bad.at, STATUSES[word], "")
 
 
 def say(text: str) -> None:

@@ -28,7 +28,7 @@ from .kinds import MODELS
 from .notes import Fault
 from .program import Options, Report
 from .shrink import Part, smallest
-from .walk import walk
+from .walk import follow
 
 NOT_PROVED = "Proved are the verdict, and what jepmon was asked. The other sentences are not."
 BY_MODEL: Dict[str, Callable[[Case], Found]] = {
@@ -75,7 +75,7 @@ def explain(events: Sequence[Event], report: Report, options: Options, names: Na
     line = next((line for line in report.keys if line.key == report.key), None)
     if line is None or line.index is None or report.word not in ("illegal", "unknown"):
         return None
-    own, named = Options(options.concurrency, line.model, line.budget), Names(names.values, names.keys)
+    own, named = Options(options.concurrency, line.model, line.budget, by_ends=options.by_ends), Names(names.values, names.keys)
     whole = of_key(events, line.key)
     front = [event for event in whole if event.index <= (line.index or 0)]
     effort = effort or Effort()
@@ -103,8 +103,8 @@ def of_illegal(options: Options, front: List[Event], later: List[Event], names: 
     """What there is to say of a key that is illegal at the last of these events; None where the walk does not come to that."""
     made = operations(front, options.concurrency)
     fatal = next(operation for operation in made if operation.completion is front[-1])
-    walked = walk(front, options.model, options.budget, effort.work)
-    effort.learn(walked)
+    walked = follow(front, options, program, effort.work)
+    effort.learn(walked, options.is_wide(program))
     if walked.status != "dead" or walked.fatal != front[-1]:
         return None
     case = Case(options.model, front[-1].key, front, made, fatal, later, walked, options, names, program, effort, faults)

@@ -171,6 +171,12 @@ class Words(argparse.ArgumentParser):
         raise self.refusal(message)
 
 
+def add_by_ends(parser: argparse.ArgumentParser) -> None:
+    """Adds the option that turns the wide kinds off."""
+    parser.add_argument("--by-ends", action="store_true", help="judge registers and sets by all their possible outcomes (ends), as jepmon check "
+                        "--model register does: more keys are unknown then")
+
+
 def run(name: str, main: Callable[[], int]) -> int:
     """Does the work of a command, and gives its exit status. What it raises is said in one line."""
     status = REFUSED

@@ -16,6 +16,10 @@ UNKNOWN = (
     "let fewer clients use one key, let writes go on at a new key after some timeouts while reads stay (Monitor.keys), "
     "or raise the budget"
 )
+UNKNOWN_WIDE = (
+    "many writes were open or had timed out that answers need: let fewer clients write to one key, let writes go on at a new key after some "
+    "timeouts while reads stay (Monitor.keys), or raise the budget"
+)
 UNKNOWN_QUEUE = (
     "{} enqueues and {} dequeues had completed: let the queue be shorter, let fewer consumers wait on it and fewer producers "
     "send at once, split it into several keys, or raise the budget"
@@ -26,9 +30,9 @@ def hint_of_refusal(refusal: str) -> str:
     return next((hint for name, hint in HINTS.items() if name in refusal.split()), "")
 
 
-def hint_of_unknown(names: AbstractSet[str], enqueues: int, dequeues: int) -> str:
+def hint_of_unknown(names: AbstractSet[str], enqueues: int, dequeues: int, is_wide: bool) -> str:
     """Of a key over its budget that has seen operations of these names, of which so many had completed."""
-    return UNKNOWN_QUEUE.format(enqueues, dequeues) if "enqueue" in names else UNKNOWN
+    return UNKNOWN_QUEUE.format(enqueues, dequeues) if "enqueue" in names else UNKNOWN_WIDE if is_wide else UNKNOWN
 
 
 def hint_of_model(key: int, model: str, names: AbstractSet[str], is_legal_as: Callable[[str], bool]) -> str:

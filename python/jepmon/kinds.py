@@ -12,6 +12,9 @@ MODELS: Dict[str, FrozenSet[str]] = {
     "unordered-queue": frozenset({"enqueue", "dequeue"}),
     "set": frozenset({"add", "read"}),
 }
+# Models of which the program has a second kind, and its name: the same object, counted otherwise, so that less is over the budget.
+WIDE: Dict[str, str] = {"register": "wide-register", "set": "wide-set"}
+NAMES: Tuple[str, ...] = (*MODELS, *WIDE.values())  # by which a model may be named
 OPERATIONS: FrozenSet[str] = frozenset().union(*MODELS.values())
 REGISTERS: Tuple[str, ...] = ("register", "cas-register")
 QUEUES: Tuple[str, ...] = ("fifo-queue", "unordered-queue")
@@ -35,3 +38,14 @@ EVENTS = 1 << 20  # of a history at most
 BUDGETS = range(1, (1 << 16) + 1)
 
 ABSENT = -(1 << 63)  # the value by which a Monitor tells that a register's key is missing
+
+
+def model_of(name: str) -> str:
+    """The model that a kind of the program is; another name stays as it is."""
+    return next((model for model, wide in WIDE.items() if wide == name), name)
+
+
+def kind_of(model: str, by_ends: bool) -> str:
+    """The kind by which the program judges a model: the wide one, if there is one, or by ends the one of the model's name."""
+    model = model_of(model)
+    return model if by_ends else WIDE.get(model, model)

@@ -41,7 +41,7 @@ from .conclusion import say_if_idle
 from .endings import Exceptions, endings
 from .exchange import Exchange
 from .keys import Keys
-from .kinds import ABSENT
+from .kinds import ABSENT, model_of
 from .notes import BEGIN, END, NOTE, folded
 from .numbered import Numbers
 from .operation import Operation
@@ -75,6 +75,8 @@ class Monitor:
                  operations are not recorded; the other keys go on, and nothing is raised. See dropped. The log takes the event back
     initial      the value of each register before its first operation; else it is missing. begin names the value of one key
     absent       the store's answer for a missing key instead of None, such as "" or 0; writing it deletes the key
+    by_ends      judges registers and sets by all their possible outcomes (ends), as `jepmon check --model register` does. Else it judges
+                 them as the kinds wide-register and wide-set, by which far fewer keys are Unknown; the other verdicts are the same
     log          gets each recorded line, with its :time in nanoseconds since the monitor began, and the notes. `jepmon script` with
                  the same options judges it again. Open a file with open(path, "w", buffering=1), by lines: then it is complete
                  even if the test is killed
@@ -95,12 +97,13 @@ class Monitor:
         out: Union[str, os.PathLike[str], None] = None,
         initial: Optional[int] = None,
         absent: object = NONE,
+        by_ends: bool = False,
     ) -> None:
         test_unknown(unknown)
         ends, of_missing = endings(expected, failed), missing(initial, absent)
-        options = Options(concurrency, model, budget)
+        options = Options(concurrency, model_of(model), budget, by_ends=by_ends)
         begun, clock = datetime.datetime.now().astimezone(), time.monotonic_ns()
-        exchange = Exchange(options.words(), timeout, program)
+        exchange = Exchange(options, timeout, program)
         try:
             folder = None if out is None else run_folder(out, begun, options, exchange.program)
         except BaseException:

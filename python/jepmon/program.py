@@ -5,6 +5,7 @@ text is one line. What the program says of a history is a Report, also where tha
 """
 from __future__ import annotations
 
+import functools
 import os
 import pathlib
 import re
@@ -18,12 +19,15 @@ import weakref
 from typing import IO, Iterator, List, NamedTuple, Optional, Tuple, Union
 
 from .errors import ProgramError
+from .kinds import WIDE, kind_of, model_of
 
-__all__ = ["History", "KeyLine", "Options", "ProgramError", "Report", "Script", "check", "find_program", "report_of", "run_check"]
+__all__ = ["History", "KeyLine", "Options", "ProgramError", "Report", "Script", "check", "find_program", "has_wide_kinds", "report_of",
+           "run_check"]
 
 STATUSES = {"legal": 0, "illegal": 1, "unknown": 2, "refused": 3}  # by the first word of the last line
 CURE = "`./jepmon install DIR`, put DIR on the PATH, or set JEPMON"
 PATIENCE = 10.0  # seconds that the program may take to end
+PROMPT = 5.0  # seconds in which it prints its help
 KEY_LINE = re.compile(r"key (\d+) model (\S+) budget (\d+) events (\d+) status (alive|dead|over)(?: (\d+))?")
 VERDICT = re.compile(r"(?:illegal|unknown) key (\d+) index (\d+)|refused .* event (\d+)")
 
@@ -37,9 +41,20 @@ class Options(NamedTuple):
     model: str = "register"
     budget: int = 4096
     workers: Optional[int] = None
+    by_ends: bool = False  # whether registers and sets are judged by all their ends, and not as wide kinds
 
-    def words(self) -> List[str]:
-        words = ["--concurrency", str(self.concurrency), "--model", self.model, "--budget", str(self.budget)]
+    def kind(self, program: Optional[str] = None, model: Optional[str] = None) -> str:
+        """The kind by which this program judges the model, or another one with these options. A program without wide kinds judges
+        by ends."""
+        model = model_of(self.model if model is None else model)
+        return kind_of(model, model not in WIDE or self.by_ends or not has_wide_kinds(program))
+
+    def is_wide(self, program: Optional[str] = None) -> bool:
+        """Whether this program counts the outcomes of the model in the other way."""
+        return self.kind(program) != model_of(self.model)
+
+    def words(self, program: Optional[str] = None) -> List[str]:
+        words = ["--concurrency", str(self.concurrency), "--model", self.kind(program), "--budget", str(self.budget)]
         return words if self.workers is None else words + ["--workers", str(self.workers)]
 
 
@@ -52,6 +67,18 @@ class KeyLine(NamedTuple):
     events: int
     status: str  # "alive", "dead" or "over"
     index: Optional[int]  # type: ignore[assignment]  # (also a method of tuple) the event from which it is dead or over
+    is_wide: bool = False  # whether it was judged as the wide kind of the model
+
+    @property
+    def kind(self) -> str:
+        """The model as the program names it."""
+        return kind_of(self.model, not self.is_wide)
+
+    @property
+    def text(self) -> str:
+        """The line as the program prints it."""
+        return f"key {self.key} model {self.kind} budget {self.budget} events {self.events} status {self.status}" \
+               + ("" if self.index is None else f" {self.index}")
 
 
 class Report(NamedTuple):
@@ -103,6 +130,29 @@ def _is_program(path: pathlib.Path) -> bool:
         return False
 
 
+def has_wide_kinds(program: Optional[str] = None) -> bool:
+    """Whether the program has the kinds wide-register and wide-set. Versions up to 1.4.0 do not have them."""
+    return _has_wide_kinds(find_program(program))
+
+
+@functools.lru_cache(maxsize=None)
+def _has_wide_kinds(name: str) -> bool:
+    try:
+        ran = subprocess.run([name, "check", "--help"], stdin=subprocess.DEVNULL, stdout=subprocess.PIPE, stderr=subprocess.DEVNULL,
+                             timeout=PROMPT)
+    except (OSError, subprocess.TimeoutExpired):
+        return False  # whoever asks it for a verdict will say so
+    return all(kind.encode() in ran.stdout for kind in WIDE.values())
+
+
+def by_ends_note(options: Options, program: Optional[str] = None) -> str:
+    """A sentence beside an `unknown` if this program lacks the wide kind by which the options ask; else nothing."""
+    if options.by_ends or model_of(options.model) not in WIDE or options.is_wide(program):
+        return ""
+    return (f"{find_program(program)} does not have the kind {kind_of(options.model, False)}, so it judged by ends, as --by-ends does: "
+            "a newer jepmon may decide this key")
+
+
 # --- A check ---
 
 
@@ -110,7 +160,7 @@ def check(history: History, options: Options = Options(), program: Optional[str]
           timeout: Optional[float] = None) -> Report:
     """Has a recorded history judged: its bytes, or the file of this path."""
     file, raw = ("/dev/stdin", history) if isinstance(history, bytes) else (os.fspath(history), None)
-    output, error, status = run_check([file] + options.words(), raw, program, timeout, subprocess.PIPE)
+    output, error, status = run_check([file] + options.words(program), raw, program, timeout, subprocess.PIPE)
     return report_of(output, error, status)
 
 
@@ -146,8 +196,9 @@ def report_of(output: str, error: str, status: int) -> Report:
 
 
 def key_line(match: "re.Match[str]") -> KeyLine:
-    key, model, budget, events, status, index = match.groups()
-    return KeyLine(int(key), model, int(budget), int(events), status, None if index is None else int(index))
+    """The line that a match of KEY_LINE is; `model` is the object, whatever kind of it was judged."""
+    key, kind, budget, events, status, index = match.groups()
+    return KeyLine(int(key), model_of(kind), int(budget), int(events), status, None if index is None else int(index), kind in WIDE.values())
 
 
 # --- A running script ---

@@ -97,7 +97,7 @@ class RunFolder:
     @property
     def again(self) -> str:
         """The words after `jepmon` that judge the history again, in this folder."""
-        words = " ".join(self.options.words())
+        words = " ".join(self.options.words(self.program))
         return f"script {words} < {HISTORY}" if self.is_script else f"check {HISTORY} {words}"
 
     def _script(self) -> str:

@@ -9,7 +9,7 @@ from .conclusion import Conclusion, leave_cause, leave_page, leave_verdict
 from .endings import Endings
 from .exchange import Exchange
 from .hints import hint_of_model, hint_of_refusal, hint_of_unknown
-from .kinds import REGISTERS
+from .kinds import REGISTERS, model_of
 from .lines import End, Line, LineQueue
 from .notes import BEGIN
 from .owner import OwnedLock
@@ -147,8 +147,8 @@ class Telling:
 
     def set_model(self, key: int, model: str) -> None:
         with self.lock:
-            self._models[key] = model
-            self._command(f"[:model {key} :{model}]")
+            self._models[key] = model_of(model)
+            self._command(self._exchange.model_line(key, model))
 
     def set_budget(self, key: int, budget: int) -> None:
         with self.lock:
@@ -314,7 +314,10 @@ class Telling:
 
     def _hint_of_unknown(self, key: int) -> str:
         counts = (self.told.ended(key, name, "ok") for name in ("enqueue", "dequeue"))
-        return hint_of_unknown(self.told.names(key), *counts)
+        model = self.model_of(key)
+        note = self._exchange.by_ends_note(model)
+        hint = hint_of_unknown(self.told.names(key), *counts, is_wide=self._exchange.is_wide(model))
+        return f"{hint}\n{note}" if note else hint
 
     # --- The end ---
 

@@ -3,7 +3,8 @@
 An end is what one possible order of the operations leaves: the state, the open operations that have taken place in it, with what
 each found, and the timed-out ones that have (but reads, which decide nothing). The words are those of docs/guide/BUDGETS.md.
 Where no end goes on the key is dead; where an ok meets more ends than the budget it is over. The proved program says
-both, and this walk must say the same: it is there to show what the program only counts. It is tested against the program, and not
+both, and this walk must say the same: it is there to show what the program only counts. Of the kinds wide-register and wide-set the
+program counts something else, so there `follow` gives up in place of that. It is tested against the program, and not
 proved. Where it would take too long it gives up, and then nothing that it has found may be shown.
 
     walked = walk(of_key(events, 7), "register", 4096)
@@ -21,8 +22,9 @@ import dataclasses
 from typing import Any, Callable, Dict, FrozenSet, Iterable, List, Mapping, NamedTuple, Optional, Set, Tuple
 
 from .history import Event
-from .kinds import REGISTERS
+from .kinds import BUDGETS, REGISTERS
 from .objects import START, Found, Outcome, Part, Rule, State, rule
+from .program import Options
 
 WORK = 4_000_000  # outcomes that a walk tries at most before it gives up: some seconds
 MEMBERS = 32  # of a state, as a set or a queue, that cost as much as one outcome
@@ -33,6 +35,7 @@ Place = Tuple[State, int, FrozenSet[Find]]  # an end: the state, the seats of th
 Move = Tuple[int, int, State, FrozenSet[Find]]  # an operation's seat and id, the state after it, and what it finds
 NOTHING: FrozenSet[Find] = frozenset()
 UNBOUNDED = 1 << 62
+GREATEST = BUDGETS[-1]
 BETWEEN = 2000  # steps between two stops
 
 
@@ -317,6 +320,13 @@ def walk(events: Iterable[Event], model: str, budget: int, work: int = WORK) -> 
         if walker.dead:
             return Walk(model, budget, "dead", steps, stops, walker, work - walker.work)
     return Walk(model, budget, "alive", steps, stops, walker, work - walker.work)
+
+
+def follow(events: Iterable[Event], options: Options, program: Optional[str] = None, work: int = WORK) -> Walk:
+    """A walk through the events of a key that the program has judged with these options. With more ends than the budget it gave up, if the
+    program has counted something else: the outcomes of a wide kind."""
+    walked = walk(events, options.model, options.budget, work)
+    return dataclasses.replace(walked, status="gave up") if walked.status == "over" and options.is_wide(program) else walked
 
 
 def _probing(state: State, _part: Part) -> List[Outcome]:

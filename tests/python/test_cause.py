@@ -110,7 +110,7 @@ class Words(unittest.TestCase):
 
     def test_unknown(self) -> None:
         made = stores.UNKNOWN["many_timeouts"]()
-        found = explained(made.text, program.Options(made.concurrency, made.model))
+        found = explained(made.text, program.Options(made.concurrency, made.model, by_ends=True))
         self.assertEqual(found.headline, "At event 77 more than 4,096 outcomes were possible for key 0, which is its budget: from there "
                          "on jepmon does not judge it.")
         self.assertEqual("\n".join(found.sentences[1:]), """\
@@ -171,7 +171,7 @@ In the next test let fewer clients use one key at once.""")
             if judged.verdict == "legal" or len(judged.events) > 2000:
                 continue
             with self.subTest(judged.name):
-                options = program.Options(judged.concurrency, judged.model, judged.budget)
+                options = program.Options(judged.concurrency, judged.model, judged.budget, by_ends=True)
                 text = "".join(event.text + "\n" for event in judged.events)
                 found = explained(text, options)
                 self.assertEqual(found.verdict, judged.verdict)

@@ -84,14 +84,14 @@ class BeyondLimits(unittest.TestCase):
         report = checked(text + line("invoke", 3, "read", keys[5], "nil") + line("ok", 3, "read", keys[5], "2"), 70)
         self.assertEqual(report.verdict, f"illegal key {keys[5]} index 141")
         self.assertEqual(len(report.keys), 70)
-        self.assertEqual(report.text.splitlines()[0], "key 70000 model register budget 4096 events 2 status alive")
+        self.assertEqual(report.text.splitlines()[0], f"key 70000 model {Options().kind()} budget 4096 events 2 status alive")
 
     def test_a_key_with_too_many_events(self) -> None:
         """It is judged up to there, and never legal; what another key has done counts more."""
         small = Sizes(events=10)
         text = written(0, 9)
         report = checked(text, sizes=small)
-        self.assertEqual(report.text, "key 0 model register budget 4096 events 18 status full 10\nunknown key 0 index 10\n")
+        self.assertEqual(report.text, f"key 0 model {Options().kind()} budget 4096 events 18 status full 10\nunknown key 0 index 10\n")
         self.assertEqual(report.status, 2)
         text += line("invoke", 1, "read", 1, "nil") + line("ok", 1, "read", 1, "5")
         self.assertEqual(checked(text, sizes=small).verdict, "illegal key 1 index 19")
@@ -105,7 +105,7 @@ class BeyondLimits(unittest.TestCase):
     def test_a_key_with_too_many_operations_open(self) -> None:
         text = "".join(line("invoke", number, "read", 4, "nil") for number in range(70))
         report = checked(text + "".join(line("ok", number, "read", 4, "nil") for number in range(70)), 70)
-        self.assertEqual(report.text, "key 4 model register budget 4096 events 140 status wide 64\nunknown key 4 index 64\n")
+        self.assertEqual(report.text, f"key 4 model {Options().kind()} budget 4096 events 140 status wide 64\nunknown key 4 index 64\n")
 
     def test_illegal_before_it_is_cut(self) -> None:
         text = line("invoke", 0, "read", 0, "nil") + line("ok", 0, "read", 0, "8") + written(0, 9)

@@ -7,7 +7,7 @@ import unittest
 from typing import Dict, List, Set
 
 from jepmon import history
-from jepmon.kinds import MODELS
+from jepmon.kinds import BUDGETS, MODELS, WIDE
 from jepmon.objects import START, State, rule
 from jepmon.program import Options
 from jepmon.shrinking.units import precedes
@@ -106,12 +106,26 @@ class Fuzzed(unittest.TestCase):
     def agree(self, model: str, budget: int, seed: int) -> collections.Counter[str]:
         statuses: collections.Counter[str] = collections.Counter()
         for clients, histories in fuzz.batches(model, seed, WAYS[seed % len(WAYS):] + WAYS[:seed % len(WAYS)]):
-            lines = fuzz.checked(histories, Options(clients, model, budget))
+            lines = fuzz.checked(histories, Options(clients, model, budget, by_ends=True))
             for key, events in histories.items():
                 walked = walk(events, model, budget, work=1 << 40)
                 self.assertEqual((walked.status, walked.index), (lines[key].status, lines[key].index), text_of(events).decode())
                 statuses[walked.status] += 1
         return statuses
+
+    def test_wide_kinds_judge_the_same_objects(self) -> None:
+        """Where a walk comes to an end, the program says its status of the wide kind, if it decides it. It decides each set."""
+        for model in WIDE:
+            decided = 0
+            for clients, histories in fuzz.batches(model, 11, WAYS):
+                lines = fuzz.checked(histories, Options(clients, model, BUDGETS[-1]))
+                for key, events in histories.items():
+                    walked = walk(events, model, 1 << 20, work=1 << 40)
+                    if lines[key].status != "over" and walked.status != "over":
+                        self.assertEqual((walked.status, walked.index), (lines[key].status, lines[key].index), text_of(events).decode())
+                        decided += 1
+                    self.assertTrue(model == "register" or not lines[key].is_wide or lines[key].status != "over")
+            self.assertGreater(decided, fuzz.EACH // 2, model)
 
     def test_each_model(self) -> None:
         for model in MODELS:

@@ -87,7 +87,7 @@ class Found(unittest.TestCase):
                             self.assertEqual(found.index if found is not None else -1, lines[key].index)
 
     def test_a_part_is_illegal_at_the_event(self) -> None:
-        found = decide(operations(self.wide_history(wrong=True), 20), Options(20, "register", 4096), Clock(60, time.process_time))
+        found = decide(operations(self.wide_history(wrong=True), 20), Options(20, "register", 4096, by_ends=True), Clock(60, time.process_time))
         assert found is not None and found.part is not None
         self.assertLess(found.part.operations, 8)
         self.assertEqual(found.part.events[-1].index, found.index)
@@ -109,7 +109,7 @@ class Found(unittest.TestCase):
             path.write_text(text_of(events, 20))
             out, err = io.TextIOWrapper(io.BytesIO(), "utf-8"), io.StringIO()
             with contextlib.redirect_stdout(out), contextlib.redirect_stderr(err):
-                status = tool.main([str(path), "--concurrency", "20", "--nil-is-unknown", *more])
+                status = tool.main([str(path), "--concurrency", "20", "--nil-is-unknown", "--by-ends", *more])
             out.flush()
             assert isinstance(out.buffer, io.BytesIO)
             return status, out.buffer.getvalue().decode(), err.getvalue()

@@ -6,7 +6,7 @@ from typing import Dict, List, NamedTuple, Optional, Tuple
 from ..effort import Effort
 from ..history import Event, Operation, operations
 from ..kinds import BUDGETS
-from ..program import Options, check
+from ..program import Options, by_ends_note, check
 from ..shrinking.part import as_asked, text_of
 from ..walk import GaveUp, TooMany, Walker, walk
 from .case import Found, Mention
@@ -15,6 +15,7 @@ from .names import NOUNS, Names, client, listed
 SHOWN = 8  # steps of the growth
 TOLD = 12  # operations whose invocations are mentioned
 COUNTED = 100_000  # ends that are counted beyond the budget
+LEAN = "A lean outcome has only those open or timed-out writes that an answer needs."
 GREATEST = BUDGETS[-1]
 CERTAIN = float("inf")  # it has taken place in each outcome
 
@@ -31,6 +32,11 @@ class Over(NamedTuple):
     program: Optional[str]
     effort: Effort
 
+    @property
+    def is_wide(self) -> bool:
+        """Whether the program counted what the kind wide-register counts: lean ends."""
+        return self.options.is_wide(self.program)
+
 
 class Growth(NamedTuple):
     """How the outcomes grew to the event at which they are too many."""
@@ -41,22 +47,24 @@ class Growth(NamedTuple):
 
 def of_unknown(over: Over) -> Found:
     index, named = over.front[-1].index, over.names.object(over.model, over.key)
-    most = f"{over.options.budget:,} outcome" + ("" if over.options.budget == 1 else "s")
+    most = f"{over.options.budget:,} {'lean ' if over.is_wide else ''}outcome" + ("" if over.options.budget == 1 else "s")
     headline = (f"At event {index} more than {most} {'was' if over.options.budget == 1 else 'were'} possible for {named}, which is its "
                 "budget: from there on jepmon does not judge it.")
     made = operations(over.front, over.options.concurrency)
     pending = [operation for operation in made if may_still_take_place(operation, index)]
-    asked = with_greatest_budget(over)
+    if over.is_wide:
+        return Found(headline, [LEAN, *of_pending(over, pending, {}), advice(over, pending)], told_of(over, pending, {}))
+    asked, older = with_greatest_budget(over), note_of_program(over)
     grown = growth_of(over, pending)
     if grown is None:
-        return Found(headline, [asked, *of_pending(over, pending, {}), advice(over, pending)], told_of(over, pending, {}))
+        return Found(headline, [asked, *of_pending(over, pending, {}), advice(over, pending), older], told_of(over, pending, {}))
     factors = grown.factors
     pending = sorted((operation for operation in pending if factors.get(operation.invocation.index) != CERTAIN),
                      key=lambda operation: -factors.get(operation.invocation.index, 0.0))
     shown = ", ".join([f"{count:,} at event {event}" for event, count in grown.steps[-SHOWN:]]
                       + [f"more than {over.options.budget:,} at event {index}"])
     sentences = [asked, f"Possible outcomes just before an ok: {shown}.", *of_pending(over, pending, factors),
-                 advice(over, pending)]
+                 advice(over, pending), older]
     return Found(headline, sentences, told_of(over, pending, factors))
 
 
@@ -128,6 +136,11 @@ def advice(over: Over, pending: List[Operation]) -> str:
     """What may be done in the next test."""
     noun, timed_out = NOUNS[over.model], sum(operation.outcome == "info" for operation in pending)
     hints: List[str] = []
+    if over.is_wide:
+        hints += ["let fewer clients write to one key at once"] if len(pending) - timed_out > 4 or timed_out < 2 else []
+        hints += ["after some timeouts go on with a new key for writes, and let reads stay on the old one"] if timed_out > 1 else []
+        hints += [f"raise --budget, up to {GREATEST}"] if over.options.budget < GREATEST else []
+        return f"In the next test {'; '.join(hints)}."
     if noun == "queue":
         hints.append("let consumers keep up with the queue, and fewer clients wait on it at once, or take several queues")
     elif len(pending) - timed_out > 4 or timed_out < 2:
@@ -136,6 +149,12 @@ def advice(over: Over, pending: List[Operation]) -> str:
         rest = {"key": " for writes, and let reads stay on the old one", "set": " for adds, and let reads stay on the old one"}
         hints.append(f"after two or three timeouts go on with a new {noun}{rest.get(noun, '')}")
     return f"In the next test {'; '.join(hints)}."
+
+
+def note_of_program(over: Over) -> str:
+    """That this program is too old to count otherwise, if so."""
+    note = by_ends_note(over.options, over.program)
+    return f"{note}." if note else ""
 
 
 def with_greatest_budget(over: Over) -> str:

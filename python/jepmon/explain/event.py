@@ -14,6 +14,7 @@ class Options(NamedTuple):
 
     concurrency: int
     model: str
+    is_wide: bool = False  # whether the program has judged it as the wide kind of the model
 
 
 class Event:

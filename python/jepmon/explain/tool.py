@@ -16,7 +16,7 @@ from typing import Dict
 
 from .. import command, program
 from ..edn import integer
-from ..kinds import THREADS
+from ..kinds import THREADS, model_of
 from .event import Options
 from .refusal import many_clients
 from .said import said
@@ -43,6 +43,7 @@ def parser() -> argparse.ArgumentParser:
     made.add_argument("file", metavar="FILE", help="a recorded history, - for standard input")
     for option in OPTIONS:
         made.add_argument(option, metavar="X", help="as for jepmon check")
+    command.add_by_ends(made)
     return made
 
 
@@ -56,7 +57,8 @@ def work() -> int:
         say(str(fault))
         return command.REFUSED
     stated = {option: getattr(given, option[2:]) for option in OPTIONS if getattr(given, option[2:]) is not None}
-    options = [word for pair in stated.items() for word in pair]
+    asked = program.Options(model=stated.get("--model", "register"), by_ends=given.by_ends)
+    options = [word for pair in {**stated, "--model": asked.kind()}.items() for word in pair]
     try:
         raw = command.standard_input().read() if given.file == "-" else pathlib.Path(given.file).read_bytes()
     except OSError as fault:
@@ -68,7 +70,7 @@ def work() -> int:
         return status
     text, beside, status = program.run_check(["/dev/stdin"] + options, raw, stderr=subprocess.PIPE)
     command.write_output([text])
-    is_told = bool(text) and tell(text.splitlines()[-1], raw, stated)
+    is_told = bool(text) and tell(text.splitlines()[-1], raw, stated, asked)
     if not text and (integer(stated.get("--concurrency")) or 0) > THREADS:
         command.standard_error().write(beside.splitlines(True)[0])
         say(many_clients())
@@ -77,11 +79,11 @@ def work() -> int:
     return status
 
 
-def tell(reply: str, raw: bytes, stated: Dict[str, str]) -> bool:
+def tell(reply: str, raw: bytes, stated: Dict[str, str], asked: program.Options) -> bool:
     """Says what may be said, and whether there was something. The verdict stands, whatever comes of this."""
     is_told = False
     try:
-        for line in said(reply, raw, Options(int(stated.get("--concurrency", 2)), stated.get("--model", "register"))):
+        for line in said(reply, raw, Options(int(stated.get("--concurrency", 2)), model_of(asked.model), asked.is_wide())):
             say(line)
             is_told = True
     except Exception as fault:

@@ -24,7 +24,7 @@ def of_verdict(word: str, events: Sequence[Event], key: int, index: int, options
         crashed = sum(event.kind == "info" and event.name != "read" for event in of_key)
         yield (f"before this ok key {key} had {len(opened)} operations open and {crashed} that had crashed, "
                "each of which may have taken place or not")
-        yield from of_many_ends(of_key)
+        yield from of_many_ends(of_key, options)
     if word == "illegal":
         yield from of_sources(of_key, options, shower)
     kept = without(of_key, is_failed)
@@ -85,7 +85,7 @@ def answered(event: Event) -> List[int]:
     return [value for value in map(integer, members) if value is not None]
 
 
-def of_many_ends(of_key: Sequence[Event]) -> Iterator[str]:
+def of_many_ends(of_key: Sequence[Event], options: Options) -> Iterator[str]:
     """What may be done where the last of the key's events met more ends than the budget."""
     if any(event.name == "enqueue" for event in of_key):
         completed = [event.name for event in of_key[:-1] if event.kind == "ok"]
@@ -93,6 +93,9 @@ def of_many_ends(of_key: Sequence[Event]) -> Iterator[str]:
                "of a queue the backlog counts too:")
         yield "let the queue be shorter, let fewer consumers wait on it and fewer producers send at once, or split it into several"
         yield "keys; or raise --budget (docs/guide/BUDGETS.md has how much a queue may hold)"
+    elif options.is_wide:
+        yield "of a register the writes among them that an answer needs make its outcomes many (lean ends):"
+        yield "raise --budget, let fewer clients write to a key, or let writes go on with a new key after some timeouts, while reads stay"
     else:
         yield "raise --budget, let fewer clients use a key, or let writes go on with a new key after some timeouts, while reads stay"
 

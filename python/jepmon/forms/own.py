@@ -127,13 +127,13 @@ class _Scan:
             return False
         self._has_commands = True
         if found.group(1):
-            self._models[int(found.group(2))] = found.group(3)
+            self._models[int(found.group(2))] = kinds.model_of(found.group(3))
         elif found.group(4):
             self._budgets[int(found.group(5))] = int(found.group(6))
         elif found.group(7):
             self._account.skip(TAKEN_BACK, max(0, len(self._events) - int(found.group(8))))
             del self._events[int(found.group(8)):], self._numbers[int(found.group(8)):]
-        return found.group(3) in (None, *kinds.MODELS)
+        return found.group(3) in (None, *kinds.NAMES)
 
     def own(self, text: str, lines: int) -> Optional[Own]:
         facts = facts_of(self._events, self._numbers)

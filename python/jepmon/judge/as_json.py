@@ -78,7 +78,7 @@ def of_key(done: Results, key: Shown, source: Source) -> Object:
     part = key.cause.part if key.cause is not None else None
     return {
         "key": key.line.key, "name": typed(bad_keys.named(done.found, key.line.key)), "verdict": bad_keys.word_of(key.line),
-        "status": key.line.status, "model": key.line.model, "budget": key.line.budget, "events": key.line.events,
+        "status": key.line.status, "model": key.line.model, "kind": key.line.kind, "budget": key.line.budget, "events": key.line.events,
         "event": {"index": key.line.index, **where(event, source)},
         "cause": None if key.cause is None else {"headline": key.cause.headline, "sentences": list(key.cause.sentences),
                                                  "proviso": key.cause.proviso},

@@ -51,8 +51,7 @@ def of_key(report: Report, line: KeyLine) -> Report:
         return report
     word = word_of(line)
     verdict = f"{word} key {line.key} index {line.index}"
-    text = f"key {line.key} model {line.model} budget {line.budget} events {line.events} status {line.status} {line.index}\n{verdict}\n"
-    return Report(text, [line], verdict, word, line.key, line.index, STATUSES[word], "")
+    return Report(f"{line.text}\n{verdict}\n", [line], verdict, word, line.key, line.index, STATUSES[word], "")
 
 
 def shown(recorded: Recorded, task: Task, report: Report, lines: Sequence[KeyLine], events_of: EventsOf, with_cause: bool,
@@ -69,7 +68,7 @@ def shown(recorded: Recorded, task: Task, report: Report, lines: Sequence[KeyLin
 
 
 def line_of(key: int, options: Options) -> KeyLine:
-    return KeyLine(key, options.model, options.budget, 0, "confirmed", None)
+    return KeyLine(key, options.model, options.budget, 0, "confirmed", None, options.is_wide())
 
 
 def options_of(task: Task, line: KeyLine, decided: Optional[Decided]) -> Options:

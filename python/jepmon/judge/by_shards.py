@@ -71,7 +71,7 @@ def asked(given: Given, found: Large) -> Asked:
 @contextlib.contextmanager
 def opened(given: Given, found: Large, history: Asked) -> Iterator[shards.Session]:
     """The shards of a history, read."""
-    options = Options(history.concurrency or 2, given.model or "register", given.budget)
+    options = Options(history.concurrency or 2, given.model or "register", given.budget, by_ends=given.by_ends)
     with shards.opened(history.history, options, given.jobs, temporary=given.temporary, progress=shards.Progress(sys.stderr),
                        finds_threads=history.concurrency is None, sizes=OF_TRANSLATIONS if found.made is not None else Sizes()) as session:
         session.read()

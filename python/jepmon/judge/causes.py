@@ -97,9 +97,11 @@ def page_of(name: str, found: Recorded, task: Task, key: Shown) -> page.PageInpu
     return given(found, key)._replace(report=line, file=name, walked=walked(found, key), again=task.again("history.edn"))
 
 
-def walked(found: Recorded, key: Shown) -> page.Walked:
-    """What is known of how the key may have gone."""
+def walked(found: Recorded, key: Shown) -> Optional[page.Walked]:
+    """What is known of how the key may have gone; None of an unknown wide register, of which no walk counts what the program counts."""
     if key.decided is not None and key.report.word != "unknown":
         return page.ordered(key.events, key.options.model, key.options.concurrency, key.decided.order, key.decided.index,
                             found.value_names)
-    return page.walked(walk.walk(key.events, key.options.model, key.options.budget), found.value_names)
+    if key.report.word == "unknown" and key.options.is_wide():
+        return None
+    return page.walked(walk.follow(key.events, key.options), found.value_names)

@@ -28,7 +28,7 @@ class Task(NamedTuple):
     @property
     def commands(self) -> List[str]:
         """The lines that say what the keys are, where they are not all alike."""
-        models = [] if self.choice.common else [f"[:model {key} :{model}]" for key, model in self.choice.models.items()]
+        models = [] if self.choice.common else [f"[:model {key} :{self.options.kind(model=model)}]" for key, model in self.choice.models.items()]
         return models + [f"[:budget {key} {budget}]" for key, budget in self.budgets.items()]
 
     @property
@@ -45,6 +45,7 @@ class Task(NamedTuple):
         if self.by_judge:
             words = [f"--concurrency {self.options.concurrency}", f"--budget {self.options.budget}"]
             words += [f"--model {self.choice.common}"] if self.choice.common else []
+            words += ["--by-ends"] if self.options.by_ends else []
             words += [f"--wide-seconds {self.wide_seconds}"] if self.wide_seconds is not None else []
             words += [f"--least {self.least}"] if self.least != 1 else []
             jobs = f" --jobs {os.cpu_count() or 1}" if self.in_shards else ""
@@ -89,7 +90,8 @@ def _bad_key(task: Task, report: Report) -> List[KeyLine]:
         return []
     status = "dead" if report.word == "illegal" else "over"
     budget = task.budgets.get(report.key, task.options.budget)
-    return [KeyLine(report.key, task.choice.of(report.key), budget, 0, status, report.index)]
+    model = task.choice.of(report.key)
+    return [KeyLine(report.key, model, budget, 0, status, report.index, task.options._replace(model=model).is_wide())]
 
 
 def _key_lines(task: Task, raw: bytes) -> List[str]:

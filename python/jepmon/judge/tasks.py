@@ -20,7 +20,7 @@ def of(found: Recorded, given: Given) -> Task:
     concurrency = given.concurrency or models.concurrency_of(found.facts)
     if concurrency is None:
         raise Refused("its processes fit no concurrency from 1 to 64")
-    options = Options(concurrency, choice.common or "register", given.budget, given.workers)
+    options = Options(concurrency, choice.common or "register", given.budget, given.workers, given.by_ends)
     return Task(found.text, choice, dict(found.budgets), options)
 
 

@@ -7,6 +7,7 @@ from typing import Callable, Dict, Iterable, Iterator, List, NamedTuple, Optiona
 from .. import command
 from ..history import Event, operations
 from ..program import STATUSES, KeyLine, Options, Report
+from ..program import key_line as key_line_of
 from ..wide import Clock, Decided, decide
 from .hints import counted
 from .words import NAME
@@ -43,10 +44,7 @@ Decisions = Dict[int, Decided]
 
 def key_line(line: str) -> Optional[KeyLine]:
     match = KEY_LINE.fullmatch(line)
-    if match is None:
-        return None
-    key, model, budget, events, status, index = match.groups()
-    return KeyLine(int(key), model, int(budget), int(events), status, None if index is None else int(index))
+    return None if match is None else key_line_of(match)
 
 
 # --- Deciding ---
@@ -144,8 +142,7 @@ class Marking:
             self._open = min(self._open or place, place)
         if (status, index) == (line.status, line.index):
             return text
-        return f"key {line.key} model {line.model} budget {line.budget} events {line.events} status {status}" \
-               + ("" if index is None else f" {index}")
+        return line._replace(status=status, index=index).text
 
     def status_of(self, line: KeyLine) -> Tuple[str, Optional[int]]:
         decided = self._found.get(line.key) if line.status == "over" else None

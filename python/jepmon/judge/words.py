@@ -51,6 +51,7 @@ class Given(NamedTuple):
     initial: Optional[str] = None
     mapping: Mapping = Mapping()  # what is said of the fields of rows
     nil_is_unknown: bool = False
+    by_ends: bool = False
 
     @property
     def said(self) -> Said:
@@ -82,12 +83,13 @@ def given(words: Optional[List[str]]) -> Given:
     parser = Words(prog=called, description=DESCRIPTION.format(tool=called), formatter_class=argparse.RawDescriptionHelpFormatter)
     parser.add_argument("history", nargs="*", metavar="HISTORY", help="a file or a folder; - or nothing is standard input; several files, such as "
                         "those of several clients, are one history in the order of their times")
-    parser.add_argument("--model", metavar="NAME", choices=tuple(kinds.MODELS),
+    parser.add_argument("--model", metavar="NAME", type=kinds.model_of, choices=tuple(kinds.MODELS),
                         help="the object that each key is, instead of the one found: " + ", ".join(kinds.MODELS))
     parser.add_argument("--concurrency", metavar="N", type=number("a number of threads", range(1, kinds.PROCESSES.stop)),
                         help="the threads of the clients, instead of the number found; more than 64 are judged in shards")
     parser.add_argument("--budget", metavar="N", type=number("a number of ends", kinds.BUDGETS), default=4096,
                         help="the greatest number of ends (possible outcomes) of a key (4096)")
+    command.add_by_ends(parser)
     parser.add_argument("--workers", metavar="N", type=number("a number of threads", range(1, kinds.THREADS + 1)),
                         help="threads that judge keys side by side")
     parser.add_argument("--jobs", metavar="N", type=number("a number of processes", range(1, MOST_JOBS + 1)),
@@ -128,4 +130,5 @@ def given(words: Optional[List[str]]) -> Given:
     seconds = parsed.wide_seconds if parsed.wide_seconds is not None else LONG if parsed.wide else SHORT
     return Given(parsed.history or ["-"], parsed.model, parsed.concurrency, parsed.budget, parsed.workers, key, parsed.nil_is_absent,
                  parsed.html, parsed.out, parsed.cause, parsed.jobs, parsed.dask, parsed.temporary, seconds, parsed.strict_input,
-                 parsed.json, parsed.least, parsed.values, tuple(parsed.absent), parsed.initial, mapping, parsed.nil_is_unknown)
+                 parsed.json, parsed.least, parsed.values, tuple(parsed.absent), parsed.initial, mapping, parsed.nil_is_unknown,
+                 parsed.by_ends)

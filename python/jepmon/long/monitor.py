@@ -35,7 +35,7 @@ from typing import Callable, Counter, Dict, Iterator, NoReturn, Optional, Type, 
 from ..clients import run_clients
 from ..conclusion import say_if_idle
 from ..endings import Exceptions, endings
-from ..kinds import MODELS
+from ..kinds import MODELS, model_of
 from ..notes import BEGIN, END, NOTE, folded
 from ..owner import not_sent
 from ..telling import test_unknown
@@ -89,13 +89,16 @@ class LongMonitor:
         page: bool = True,
         initial: Optional[int] = None,
         absent: object = NONE,
+        by_ends: bool = False,
     ) -> None:
         test_unknown(unknown)
         if keep is not None and keep < 0:
             raise ValueError(f"keep is a number of parts, not {keep}")
         begun, clock = datetime.datetime.now().astimezone(), time.monotonic_ns()
         names = f"{uuid.uuid4().hex[:12]}-" if names is None else names
-        settings = Settings(program, model, budget, timeout, endings(expected, failed), begun, clock, names, {}, missing(initial, absent))
+        model = model_of(model)
+        settings = Settings(program, model, budget, timeout, endings(expected, failed), begun, clock, names, {}, missing(initial, absent),
+                            by_ends)
         folder = LongFolder(out, begun, keep, page) if out is not None else None
         self._model, self._folder, self._unknown = model, folder, unknown
         self._parts = Parts(settings, limits(events, keys, concurrency), folder, forget)
@@ -103,7 +106,7 @@ class LongMonitor:
     def fresh(self, model: Optional[str] = None, changes: Optional[int] = None) -> Handle:
         """Gives a new object, as a handle. Its operations are blocks, like those of Monitor. A lock is released by op.object.release(), and op
         is its acquire. After `changes` changes the object is replaced; use it for sets, since each read gives the whole set."""
-        model = self._model if model is None else model
+        model = self._model if model is None else model_of(model)
         if model not in MODELS:
             raise ValueError(f"a model is one of {', '.join(MODELS)}, not {model!r}")
         return Handle(self._parts, model, room(model, changes))

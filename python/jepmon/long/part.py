@@ -23,8 +23,8 @@ class Part:
 
     def __init__(self, number: int, settings: Settings, limits: Limits, folders: Optional[LongFolder]) -> None:
         self.number, self.limits, self.model = number, limits, settings.model
-        options = Options(limits.threads, settings.model, settings.budget)
-        exchange = Exchange(options.words(), settings.timeout, settings.program)
+        options = Options(limits.threads, settings.model, settings.budget, by_ends=settings.by_ends)
+        exchange = Exchange(options, settings.timeout, settings.program)
         try:
             self.folder = folders.part(self.name, options, exchange.program) if folders is not None else None
         except BaseException:

@@ -22,3 +22,4 @@ class Settings(NamedTuple):
     names: str  # what the names of objects begin with
     homes: Dict[int, int]  # the number of the client of each thread of Python
     missing: Missing
+    by_ends: bool = False

@@ -66,7 +66,7 @@ def page_of(given: PageInput) -> Page:
     """What the page is about."""
     fatal = fatal_of(given.verdict)
     smallest = smallest_of(given)
-    part_walked = walked(walk.walk(smallest, given.model, given.budget, PART_WORK), given.names) if smallest else None
+    part_walked = walked(walk.walk(smallest, given.model, walk.GREATEST, PART_WORK), given.names) if smallest else None
     if part_walked is not None and (part_walked.ended, part_walked.at) != ("dead", fatal):
         part_walked = None
     choice = choose(given.events, given.concurrency, fatal, {event.index for event in smallest})

@@ -9,6 +9,7 @@ import tempfile
 from typing import BinaryIO, Iterator, Optional
 
 from ..program import KeyLine, Options, Report, find_program
+from ..program import key_line as key_line_of
 from .doubt import ShardsError
 from .progress import Progress
 from .report import KEY_LINE
@@ -79,8 +80,7 @@ def jobs_of(jobs: Optional[int]) -> int:
 def key_line(line: str) -> KeyLine:
     match = KEY_LINE.fullmatch(line)
     assert match is not None
-    key, model, budget, events, status, index = match.groups()
-    return KeyLine(int(key), model, int(budget), int(events), status, None if index is None else int(index))
+    return key_line_of(match)
 
 
 @contextlib.contextmanager

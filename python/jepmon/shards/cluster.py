@@ -83,7 +83,7 @@ class Tasks:
     def _send(self, shard: Written) -> None:
         with open(os.path.join(self._folder, shard.name + TEXT), "rb") as file:
             text = file.read()
-        words = self._options._replace(model=shard.model).words()
+        words = self._options._replace(model=shard.model).words(self._program)
         future = self._client.submit(self._check, text, words, self._program, pure=False, retries=RETRIES)
         self._running[future] = shard
 

@@ -16,6 +16,7 @@ import sys
 from typing import Any, Dict, List, NamedTuple, Optional, Sequence, Tuple
 
 from ..command import write_file
+from ..kinds import model_of
 from ..program import Options
 from .batches import Batch, KeyMap
 from .doubt import ShardsError
@@ -24,7 +25,7 @@ from .source import File
 
 MANIFEST, TEXT, MAP, OUT = "shards.json", ".edn", ".map", ".out"
 VERSION = 1
-FIRST = re.compile(rb"; a shard of jepmon: --concurrency ([0-9]+) --model ([a-z-]+) --budget ([0-9]+)\n")
+FIRST = re.compile(rb"; a shard of jepmon: --concurrency ([0-9]+) --model ([a-z-]+) --budget ([0-9]+)( --by-ends)?\n")
 CHECKSUM = "; of the shard "
 
 
@@ -45,7 +46,8 @@ class Manifest(NamedTuple):
 
 
 def first_line(options: Options, threads: int) -> bytes:
-    return b"; a shard of jepmon: --concurrency %d --model %b --budget %d\n" % (threads, options.model.encode(), options.budget)
+    by_ends = b" --by-ends" if options.by_ends else b""
+    return b"; a shard of jepmon: --concurrency %d --model %b --budget %d%b\n" % (threads, options.model.encode(), options.budget, by_ends)
 
 
 def checksum_of(text: bytes) -> str:
@@ -77,7 +79,7 @@ def read_shard(path: str) -> Tuple[bytes, Options]:
     match = FIRST.match(text)
     if match is None:
         raise ShardsError(f"{path}: this is no shard, as jepmon-shards split writes them")
-    return text, Options(int(match.group(1)), match.group(2).decode(), int(match.group(3)))
+    return text, Options(int(match.group(1)), model_of(match.group(2).decode()), int(match.group(3)), by_ends=match.group(4) is not None)
 
 
 def read_map(folder: str, name: str) -> Tuple[List[KeyMap], Sequence[int]]:

@@ -6,6 +6,7 @@ import re
 import subprocess
 from typing import List, NamedTuple, Optional, Sequence, Tuple
 
+from ..kinds import model_of
 from ..program import Options, run_check
 from .batches import NOWHERE, Batch, KeyMap, batches_of
 from .by_key import events_of
@@ -15,7 +16,7 @@ from .routing import Source
 from .sizes import Sizes
 
 REFUSED = re.compile(r"refused [0-9]+ [A-Za-z]+ (?:event )?[0-9]+")  # of what stands in a file
-STATUS = re.compile(r"status (alive|dead|over)(?: ([0-9]+))?")
+LINE = re.compile(r"key ([0-9]+) model ([a-z-]+) budget ([0-9]+) events ([0-9]+) status (alive|dead|over)(?: ([0-9]+))?")
 
 Found = Tuple[int, int]  # the index of an event, and the key
 
@@ -28,11 +29,11 @@ class Status(NamedTuple):
     events: int
     status: str  # "alive", "dead", "over"; or "full", "wide": alive up to there, where the program's limits are met
     place: Optional[int]
-    model: str
+    kind: str  # as the program names the model
 
     def line(self, budget: int) -> str:
         found = "" if self.place is None else f" {self.place}"
-        return f"key {self.key} model {self.model} budget {budget} events {self.events} status {self.status}{found}"
+        return f"key {self.key} model {self.kind} budget {budget} events {self.events} status {self.status}{found}"
 
 
 class ShardTask(NamedTuple):
@@ -63,7 +64,7 @@ def judge_shard(task: ShardTask) -> Judged:
     for model, of_model in by_model(keys, task.options.model):
         options = task.options._replace(model=model)
         for batch in batches_of(of_model, rests, task.sizes):
-            report = checked(batch.text, words(options, task.sizes), task.program)
+            report = checked(batch.text, words(options, task), task.program)
             statuses += statuses_of(report, batch.keys, batch.places, options)
     return write_result(os.path.join(task.folder, task.name + ".result"), statuses, task.options)
 
@@ -73,9 +74,9 @@ def checked(text: bytes, words: List[str], program: str) -> str:
     return run_check(["/dev/stdin", *words], text, program, stderr=subprocess.DEVNULL)[0]
 
 
-def words(options: Options, sizes: Sizes) -> List[str]:
+def words(options: Options, task: ShardTask) -> List[str]:
     """The words by which a batch is checked."""
-    return options._replace(concurrency=sizes.threads, workers=None).words()
+    return options._replace(concurrency=task.sizes.threads, workers=None).words(task.program)
 
 
 def statuses_of(report: str, keys: Sequence[KeyMap], places: Sequence[int], options: Options) -> List[Status]:
@@ -91,21 +92,22 @@ def statuses_of(report: str, keys: Sequence[KeyMap], places: Sequence[int], opti
     at = 0
     for number, (line, key) in enumerate(zip(lines, keys)):
         begin = f"key {number} model {options.model} budget {options.budget} events {key.judged} "
-        match = STATUS.fullmatch(line, len(begin))
-        if not line.startswith(begin) or match is None:
+        match = LINE.fullmatch(line)
+        kind = match.group(2) if match is not None else ""
+        if match is None or f"key {match.group(1)} model {model_of(kind)} budget {match.group(3)} events {match.group(4)} " != begin:
             raise Doubt(f"jepmon's report on a shard has {line!r} in place of {begin!r}")
-        found.append(status_of(key, match.group(1), match.group(2), places[at], places, options.model))
+        found.append(status_of(key, match.group(5), match.group(6), places[at], places, kind))
         at += key.judged
     return found
 
 
-def status_of(key: KeyMap, status: str, index: Optional[str], first: int, places: Sequence[int], model: str) -> Status:
+def status_of(key: KeyMap, status: str, index: Optional[str], first: int, places: Sequence[int], kind: str) -> Status:
     if status == "alive":
-        return Status(first, key.key, key.events, key.cut or "alive", key.cut_place if key.cut else None, model)
+        return Status(first, key.key, key.events, key.cut or "alive", key.cut_place if key.cut else None, kind)
     place = places[int(index)] if index is not None and int(index) < len(places) else NOWHERE
     if place == NOWHERE:
         raise Doubt(f"jepmon's report on a shard says {status} {index}, which is no event of the history")
-    return Status(first, key.key, key.events, status, place, model)
+    return Status(first, key.key, key.events, status, place, kind)
 
 
 def write_result(path: str, statuses: List[Status], options: Options) -> Judged:

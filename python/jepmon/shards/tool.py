@@ -56,9 +56,10 @@ def words() -> argparse.Namespace:
     of_split.add_argument("history", metavar="HISTORY", help="a file or a folder; - is standard input")
     of_split.add_argument("folder", metavar="DIR", help="a new folder, or an empty one")
     of_split.add_argument("--concurrency", type=int, metavar="N", help="the threads of the clients, instead of the number found")
-    of_split.add_argument("--model", choices=tuple(kinds.MODELS), metavar="NAME",
+    of_split.add_argument("--model", type=kinds.model_of, choices=tuple(kinds.MODELS), metavar="NAME",
                           help="the object that each key is, instead of the one found")
     of_split.add_argument("--budget", type=int, default=4096, metavar="N", help="the greatest number of ends (possible outcomes) of a key (4096)")
+    command.add_by_ends(of_split)
     of_split.add_argument("--jobs", type=int, metavar="N", help="processes that read the history side by side")
     of_split.add_argument("--temporary", metavar="DIR", help="the folder for temporary files")
     of_judge = tools.add_parser("judge", help="have shards judged")
@@ -89,6 +90,7 @@ def splits(given: argparse.Namespace) -> int:
 
     more = [word for name in ("concurrency", "model", "budget", "jobs", "temporary") for value in [getattr(given, name)]
             if value is not None for word in (f"--{name}", str(value))]
+    more += ["--by-ends"] if given.by_ends else []
     asked = judge_words.given([given.history, *more])
     source = files.several(asked.histories)
     for note in source.notes:

@@ -20,7 +20,7 @@ if TYPE_CHECKING:
 NAME = "test"
 PATIENCE = 20.0  # seconds for a server to say its version
 NAMES = {"model": "object"}  # of options that are called otherwise
-LEFT_OUT = ("server", "out", "plant", "keep", "patience", "stages", "reserved", "times")  # the last three stand in the command line
+LEFT_OUT = ("server", "out", "plant", "keep", "patience", "stages", "reserved", "times", "by_ends")  # the last four stand in the command line
 
 
 def facts_of(given: Given, network: str, kinds: Sequence[str]) -> Dict[str, str]:

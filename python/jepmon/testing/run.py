@@ -62,6 +62,7 @@ class Given(NamedTuple):
     stages: Tuple[Stage, ...] = ()  # of --phases
     reserved: Tuple[float, ...] = ()  # of --reserve
     times: int = 1  # how many tests, with one seed after the other
+    by_ends: bool = False  # whether registers and sets are judged by all their ends
 
 
 class Outcome(NamedTuple):
@@ -112,7 +113,7 @@ class Test:
         client, kind = self.client, works_of(given.server)[given.model]
         unsure = (*client.unsure, Crashed) if self.plan.needs(NEEDS_CREW) else client.unsure
         monitor = LongMonitor(model=kind.model or given.model, budget=BUDGETS[-1], expected=unsure, failed=client.certain, out=given.out,
-                              keep=given.keep, events=EVENTS, names="", page=False)
+                              keep=given.keep, events=EVENTS, names="", page=False, by_ends=given.by_ends)
         assert monitor.folder is not None
         leave_facts(monitor.folder, facts_of(given, self.network, self.plan.names))
         work = kind(monitor, given.clients, given.keys)

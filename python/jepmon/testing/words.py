@@ -55,7 +55,7 @@ def given(words: Optional[List[str]]) -> Optional[Given]:
     plant = server.plants.get(parsed.plant) if parsed.plant else None
     if parsed.plant and plant is None:
         raise ServerError(f"--plant {parsed.plant}: {parsed.server} has {_listed(server.plants) or 'none'}")
-    model = parsed.object or (plant.model if plant else next(iter(server.objects)))
+    model = kinds.model_of(parsed.object or "") or (plant.model if plant else next(iter(server.objects)))
     if model not in server.objects or plant and plant.model != model:
         raise ServerError(f"--object {model}: {parsed.server} has {_listed(server.objects)}" if not plant else
                           f"--object {model}: the plant {parsed.plant} is one of a {plant.model}")
@@ -70,7 +70,7 @@ def given(words: Optional[List[str]]) -> Optional[Given]:
     seconds = stages[-1].end if stages else parsed.time
     given = Given(server, model, parsed.plant or "", seconds, parsed.clients, parsed.keys, parsed.seed, nemesis, parsed.rate, nodes,
                   parsed.network, parsed.least, parsed.patience, parsed.out, parsed.keep, parsed.durability or "", parsed.keep_nodes, stages, reserved,
-                  parsed.test_count)
+                  parsed.test_count, parsed.by_ends)
     planned(given)  # rejects what is impossible before anything starts
     return given
 
@@ -80,6 +80,7 @@ def _parser() -> Words:
     parser = Words(prog=called, description=DESCRIPTION.format(tool=called), formatter_class=argparse.RawDescriptionHelpFormatter)
     parser.add_argument("server", metavar="SERVER", help=f"{', '.join(SERVERS)}, or a Python file that has a Server; {TEMPLATE} prints one")
     parser.add_argument("--object", metavar="MODEL", help="the object that each key is: " + ", ".join(kinds.MODELS))
+    command.add_by_ends(parser)
     parser.add_argument("--plant", metavar="NAME", help="a known fault of the server, by its name")
     parser.add_argument("--durability", metavar="NAME", help="the server's setting for acknowledged data (the safest that it has)")
     parser.add_argument("--time", metavar="SECONDS", type=_positive("seconds"), default=20.0, help="the time for which clients work (20)")
