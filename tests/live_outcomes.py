@@ -83,7 +83,7 @@ def too_many_at_once() -> None:
 
 def a_key_over_its_budget() -> None:
     def two_at_once() -> None:
-        with Monitor(PROGRAM, budget=1) as monitor:
+        with Monitor(PROGRAM, by_ends=True, budget=1) as monitor:
             with monitor.write(0, 1), monitor.write(0, 2):
                 pass
 
@@ -101,7 +101,7 @@ def a_key_that_is_dropped() -> None:
             pass
         return first.told, second.told
 
-    with Monitor(PROGRAM, budget=3, unknown="drop", log=log) as monitor:
+    with Monitor(PROGRAM, by_ends=True, budget=3, unknown="drop", log=log) as monitor:
         assert write_two_at_once(0) == (True, True) and list(monitor.dropped) == [0]
         assert monitor.dropped[0].reply == "unknown key 0 index 4" and monitor.dropped[0].index == 4
         length = monitor.length
@@ -127,11 +127,11 @@ def a_key_that_is_dropped() -> None:
         with monitor.read(1) as op:
             op.value = 1
 
-    monitor = Monitor(PROGRAM, budget=3, unknown="drop")
+    monitor = Monitor(PROGRAM, by_ends=True, budget=3, unknown="drop")
     write_two_at_once(0)
     error = raised(Illegal, lose_a_write)
     assert monitor.close() == str(error).splitlines()[0] and error.args[1] == 1
-    with Monitor(PROGRAM, budget=1, unknown="drop") as monitor:
+    with Monitor(PROGRAM, by_ends=True, budget=1, unknown="drop") as monitor:
         assert write_two_at_once(5) == (False, False) and 5 in monitor.dropped  # by the write that begins it
     raised(ValueError, lambda: Monitor(PROGRAM, unknown="ignore"))
 

@@ -95,7 +95,7 @@ other keys: 2 not linearizable
     def test_keys_that_are_not_judged_to_their_end(self) -> None:
         text = own({1: False}) + "".join(f"{{:type :invoke, :process {client}, :f :write, :value [2 {client}]}}\n" for client in range(1, 6)) \
             + "{:type :ok, :process 1, :f :write, :value [2 1]}\n"
-        ran = self.judged(text, "--budget", "3", "--wide-seconds", "0", name="history.edn")
+        ran = self.judged(text, "--budget", "3", "--by-ends", "--wide-seconds", "0", name="history.edn")
         self.assertIn("other keys: 1 not judged to the end\n  key 2, event 11, line 12: At event 11 more than 3 outcomes were possible", ran.err)
 
     def test_of_many_the_first_are_shown(self) -> None:
@@ -222,7 +222,7 @@ class AsJson(Judged):
         self.assertEqual((found["verdict"], found["status"], found["bad_keys"]), ("legal", 0, []))
         text = "".join(f"{{:type :invoke, :process {client}, :f :write, :value [2 {client}]}}\n" for client in range(5)) \
             + "{:type :ok, :process 1, :f :write, :value [2 1]}\n"
-        found = self.as_json(text, "--budget", "3", "--wide-seconds", "0", name="history.edn")
+        found = self.as_json(text, "--budget", "3", "--by-ends", "--wide-seconds", "0", name="history.edn")
         self.assertEqual((found["verdict"], found["status"], found["keys"]["unknown"]), ("unknown", 2, 1))
         self.assertEqual((found["bad_keys"][0]["verdict"], found["bad_keys"][0]["status"], found["bad_keys"][0]["budget"]), ("unknown", "over", 3))
 

@@ -176,7 +176,7 @@ class Long(Monitored):
 
     def test_objects_over_their_budget(self) -> None:
         """Each is left and counted, and the verdict is unknown."""
-        monitor = LongMonitor(self.program, budget=3, events=400, out=self.room)
+        monitor = LongMonitor(self.program, budget=3, events=400, by_ends=True, out=self.room)
         with self.assertRaises(Unknown) as caught, monitor:
             registers = [monitor.fresh() for _ in range(3)]
             for register in registers:

@@ -83,7 +83,7 @@ class Faults(Monitored):
     def test_closed_by_several_threads(self) -> None:
         """None of them has a verdict before each program has given its own."""
         for _ in range(5):
-            monitor = LongMonitor(self.program, concurrency=1, budget=3)
+            monitor = LongMonitor(self.program, concurrency=1, budget=3, by_ends=True)
             register = monitor.fresh()
             operations = [register.write(value).__enter__() for value in range(4)]
             for operation in operations:
@@ -198,7 +198,7 @@ class Memory(Monitored):
         gc.disable()
         self.addCleanup(gc.enable)
         tellings: "List[weakref.ref[Telling]]" = []
-        with LongMonitor(self.program, events=40, budget=3, expected=(TimeoutError,), unknown="drop") as monitor:
+        with LongMonitor(self.program, events=40, budget=3, by_ends=True, expected=(TimeoutError,), unknown="drop") as monitor:
             register, lock = monitor.fresh(), monitor.fresh("mutex")
             with lock.acquire() as held:
                 pass
@@ -220,7 +220,7 @@ class Memory(Monitored):
         """Over hundreds of programs, with objects that are dropped and operations that time out."""
         store: Dict[str, int] = {}
         taken: List[int] = []
-        with LongMonitor(self.program, events=2000, budget=7, expected=(TimeoutError,), unknown="drop",
+        with LongMonitor(self.program, events=2000, budget=7, by_ends=True, expected=(TimeoutError,), unknown="drop",
                          forget=lambda name: store.pop(name, None)) as monitor:
             registers, value = [monitor.fresh() for _ in range(10)], 0
             while monitor.length < EVENTS:

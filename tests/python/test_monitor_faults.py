@@ -135,7 +135,7 @@ class Memory(Monitored):
         self.addCleanup(gc.enable)
 
     def dropped(self) -> "weakref.ref[Telling]":
-        with Monitor(self.program, budget=3, unknown="drop") as monitor:
+        with Monitor(self.program, budget=3, by_ends=True, unknown="drop") as monitor:
             with monitor.write(0, 1), monitor.write(0, 2):
                 pass
         assert monitor.dropped[0].__traceback__ is None and monitor.dropped[0].__context__ is None

@@ -10,6 +10,7 @@ from typing import List
 
 from jepmon import Failed, Illegal, Monitor, NotLegal, Refused, Unknown, aftermath
 from jepmon.history import read_history
+from jepmon.program import Options
 from tests.python.monitored import Monitored
 
 TOP = pathlib.Path(__file__).resolve().parents[2]
@@ -52,7 +53,7 @@ class Folders(Monitored):
         self.assertEqual(self.lines(monitor, "verdict.txt"), ["legal"])
         self.assertEqual(self.lines(monitor, "counts.txt"), ["events: 4", "write: 1 ok, 0 fail, 0 info"])
         self.assertEqual(self.lines(monitor, "judge-again")[-1],
-                         'exec "${JEPMON:-jepmon}" check history.edn --concurrency 3 --model register --budget 4096')
+                         f'exec "${{JEPMON:-jepmon}}" check history.edn --concurrency 3 --model {Options().kind(self.program)} --budget 4096')
         self.assertEqual(self.verdict_by(monitor.folder), "legal")
         self.assertEqual((self.room / "runs" / "latest").resolve(), monitor.folder.resolve())
 
@@ -92,7 +93,7 @@ class Folders(Monitored):
 
     def test_a_key_over_its_budget(self) -> None:
         with self.assertRaises(Unknown) as caught:
-            with Monitor(self.program, budget=1, out=self.room) as monitor:
+            with Monitor(self.program, budget=1, by_ends=True, out=self.room) as monitor:
                 with monitor.write(0, 1), monitor.write(0, 2):
                     pass
         self.assertEqual(str(caught.exception).splitlines()[0], f"{caught.exception.reply} ({monitor.folder})")
@@ -103,7 +104,7 @@ class Folders(Monitored):
 
     def test_a_key_that_is_dropped(self) -> None:
         """The history has what happened, so that a check says `unknown` of it as the run does; and its processes go on."""
-        with Monitor(self.program, budget=3, unknown="drop", concurrency=4, out=self.room) as monitor:
+        with Monitor(self.program, budget=3, by_ends=True, unknown="drop", concurrency=4, out=self.room) as monitor:
             with monitor.write(0, 1), monitor.write(0, 2):
                 pass
             for value in range(3):
@@ -128,7 +129,7 @@ class Folders(Monitored):
 
     def test_illegal_after_a_key_was_dropped(self) -> None:
         with self.assertRaises(Illegal) as caught:
-            with Monitor(self.program, budget=3, unknown="drop", out=self.room) as monitor:
+            with Monitor(self.program, budget=3, by_ends=True, unknown="drop", out=self.room) as monitor:
                 with monitor.write(0, 1), monitor.write(0, 2):
                     pass
                 self.stale_read(monitor)
@@ -148,7 +149,7 @@ class Folders(Monitored):
                     pass
         self.assertEqual(caught.exception.reply, "illegal key 4 index 3")
         self.assertEqual(self.lines(monitor, "judge-again")[-1],
-                         'exec "${JEPMON:-jepmon}" script --concurrency 64 --model register --budget 4096 < history.edn')
+                         f'exec "${{JEPMON:-jepmon}}" script --concurrency 64 --model {Options().kind(self.program)} --budget 4096 < history.edn')
         self.assertIn("lock 4", self.lines(monitor, "cause.txt")[0])
         assert monitor.folder is not None
         self.assertEqual(self.verdict_by(monitor.folder), "illegal key 4 index 3")

@@ -128,7 +128,7 @@ class Together(Monitored):
     def test_a_key_that_is_dropped_among_others(self) -> None:
         """The ok that is too much is taken back with all behind it, and what is not of its key is told again as it was."""
         log = io.StringIO()
-        with Monitor(self.program, budget=3, unknown="drop", log=log, out=self.room) as monitor:
+        with Monitor(self.program, budget=3, by_ends=True, unknown="drop", log=log, out=self.room) as monitor:
             for key in (0, 1, 2):
                 monitor.begin(key)
             first, second, third = monitor.write(0, 1).__enter__(), monitor.write(0, 2).__enter__(), monitor.write(1, 7).__enter__()
@@ -160,7 +160,7 @@ class Together(Monitored):
     def test_illegal_behind_unknown(self) -> None:
         """What is sent together has one verdict, which is that of a check of all of it."""
         with self.assertRaises(Illegal) as caught:
-            with Monitor(self.program, budget=3, out=self.room) as monitor:
+            with Monitor(self.program, budget=3, by_ends=True, out=self.room) as monitor:
                 for key in (0, 1, 2):
                     monitor.begin(key)
                 first, _ = monitor.write(0, 1).__enter__(), monitor.write(0, 2).__enter__()
