@@ -1,7 +1,6 @@
 """Writes down what a live test tells, with the time of each event: to a log, and to the folder of the run."""
 from __future__ import annotations
 
-import datetime
 import time
 from typing import Optional, TextIO
 

@@ -1,7 +1,7 @@
 """What a row says: it is an event, or an operation with the times of its call and its return."""
 from __future__ import annotations
 
-from typing import Any, Dict, List, NamedTuple, Optional, Sequence, Tuple
+from typing import Any, Dict, List, NamedTuple, Optional, Tuple
 
 from . import Refused
 from .account import Account

@@ -165,7 +165,7 @@ class Collector:
             self.beside = None
         self.count += 1
 
-    def take_fault(self, line: int, name: str, value: Value, time: int) -> None:
+    def take_fault(self, name: str, value: Value, time: int) -> None:
         """Takes an event of a nemesis that was told by something else than EDN."""
         self.keep_rows()
         fields: Dict[str, Value] = {":process": ":nemesis", ":type": ":info", ":f": f":{name}", ":value": value, ":time": str(time)}

@@ -9,7 +9,6 @@ import sys
 from typing import Dict, Iterable, Iterator, List, NamedTuple, Optional, Sequence, Tuple
 
 from .. import command, kinds, shards
-from ..errors import ProgramError
 from ..explain.event import Options as Explained
 from ..explain.said import said as explained
 from ..forms import Refused, door, faults
@@ -19,7 +18,7 @@ from ..forms.own import Facts
 from ..forms.recorded import Recorded
 from ..from_jepsen import Turned
 from ..history import Event
-from ..program import KeyLine, Options, Report, check
+from ..program import KeyLine, Options, Report
 from ..shards.cluster import judged_on
 from ..shards.judging import Judged
 from ..shards.models import EACH
@@ -28,7 +27,6 @@ from ..shards.sizes import Sizes
 from ..shards.source import History
 from ..shards.splitting import judged_elsewhere
 from ..shards.tally import Tally
-from ..shrinking.part import as_asked, text_of
 from . import as_json, bad_keys, causes, doubts, large_key, least, rates, readings, results, terminal, turned, wide
 from .hints import MOST_EVENTS, counted, of_nil_reads, of_order, outcomes
 from .judging import Task

@@ -1,7 +1,7 @@
 """What each key of a history is, by the operations and answers that were seen; and how many threads its processes have."""
 from __future__ import annotations
 
-from typing import Dict, List, Mapping, NamedTuple, Optional, Sequence
+from typing import Dict, Mapping, NamedTuple, Optional, Sequence
 
 from .. import kinds
 from ..forms import Refused

@@ -64,7 +64,7 @@ def data(page: Page) -> Dict[str, Any]:
         "key": given.key,
         "holds": "could be" if given.model == "mutex" else "could hold",
         "fields": names,
-        "events": [event_row(event, names, given.key, max(LEAST_TEXT, min(TEXT, TEXTS // len(events)))) for event in events],
+        "events": [event_row(event, names, max(LEAST_TEXT, min(TEXT, TEXTS // len(events)))) for event in events],
         "operations": [operation_row(each, numbers, page.labels) for each in operations],
         "part": [of_invocation[each.invocation.index] for each in page.part],
         "views": [view_row(each, found, numbers, of_invocation) for each, found in views],
@@ -85,7 +85,7 @@ def field_names(events: Sequence[Event]) -> List[str]:
     return list({name: None for event in events for name in event.fields})
 
 
-def event_row(event: Event, names: Sequence[str], key: int, most: int) -> List[Any]:
+def event_row(event: Event, names: Sequence[str], most: int) -> List[Any]:
     """Index, line, text (0 where it is the one that the script puts together by itself), and the further fields, nulls at the
     end left out."""
     fields = [field_text(event.fields[name]) if name in event.fields else None for name in names]

@@ -1,7 +1,7 @@
 """From a walk through a key's events (jepmon.walk) to what a page shows of it, in words."""
 from __future__ import annotations
 
-from typing import Dict, Iterable, List, Mapping, Optional, Sequence, Tuple
+from typing import Dict, Iterable, List, Mapping, Sequence, Tuple
 
 from .. import walk
 from ..history import Event

@@ -5,7 +5,7 @@ import re
 from typing import Dict, NamedTuple, Optional
 
 from .. import kinds
-from .reading import INTEGERS, Element
+from .reading import Element
 
 KEYS = range(1 << 63)  # of a history that is judged in shards
 KINDS = tuple(kind.encode() for kind in kinds.EVENT_TYPES)

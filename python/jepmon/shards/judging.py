@@ -7,7 +7,7 @@ import subprocess
 from typing import List, NamedTuple, Optional, Sequence, Tuple
 
 from ..program import Options, run_check
-from .batches import NOWHERE, Batch, KeyMap, batches_of
+from .batches import NOWHERE, KeyMap, batches_of
 from .by_key import events_of
 from .doubt import Doubt, ShardsError
 from .models import by_model
