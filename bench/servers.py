@@ -26,8 +26,8 @@ import tempfile
 TOP = pathlib.Path(__file__).resolve().parent.parent
 sys.path.insert(0, str(TOP / "python"))
 
+from jepmon.testing.cli_options import SERVERS  # noqa: E402
 from jepmon.testing.strikes.known import STRIKES  # noqa: E402
-from jepmon.testing.words import SERVERS  # noqa: E402
 
 TIME = re.compile(r":time ([0-9]+)\}?$")
 RATE = re.compile(r"^([0-9,]+) operations a second were ok, ([0-9.]+) %", re.M)

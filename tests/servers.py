@@ -20,7 +20,7 @@ TOP = pathlib.Path(__file__).resolve().parent.parent
 sys.path.insert(0, str(TOP / "python"))
 
 from jepmon.testing import Server, ServerError, clocks, disks, places  # noqa: E402
-from jepmon.testing.words import SERVERS  # noqa: E402
+from jepmon.testing.cli_options import SERVERS  # noqa: E402
 from program import PROGRAM  # noqa: E402
 
 SECONDS, UNTIL_FOUND = 20, 120

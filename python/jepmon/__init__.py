@@ -15,19 +15,19 @@ if sys.version_info < (3, 9):  # so this file and __main__.py have no word that 
     raise ImportError(_SAID)
 
 if TYPE_CHECKING:
-    from .keys import Keys
-    from .kinds import ABSENT
+    from .live.keys import Keys
+    from .history.kinds import ABSENT
     from .long import LongMonitor
-    from .monitor import Monitor
-    from .operation import Operation
-    from .verdicts import Failed, Illegal, NotLegal, Refused, Unknown
+    from .live.monitor import Monitor
+    from .live.operation import Operation
+    from .live.verdicts import Failed, Illegal, NotLegal, Refused, Unknown
 
 __version__ = "1.4.0"
 __all__ = ["ABSENT", "Failed", "Illegal", "Keys", "LongMonitor", "Monitor", "NotLegal", "Operation", "Refused", "Unknown"]
 
 # Where each name is; its module is loaded at first use, so that the tools begin fast.
-_MODULES = {"ABSENT": "kinds", "Keys": "keys", "LongMonitor": "long", "Monitor": "monitor", "Operation": "operation", "Failed": "verdicts",
-            "Illegal": "verdicts", "NotLegal": "verdicts", "Refused": "verdicts", "Unknown": "verdicts"}
+_MODULES = {"ABSENT": "history.kinds", "Keys": "live.keys", "LongMonitor": "long", "Monitor": "live.monitor", "Operation": "live.operation", "Failed": "live.verdicts",
+            "Illegal": "live.verdicts", "NotLegal": "live.verdicts", "Refused": "live.verdicts", "Unknown": "live.verdicts"}
 
 
 def __getattr__(name: str) -> object:

@@ -11,7 +11,7 @@ from __future__ import annotations
 
 from typing import Collection, FrozenSet, List, NamedTuple, Optional, Sequence, Set
 
-from .effort import Effort
+from .causes.effort import Effort
 from .history import Event, Operation, of_key, operations
 from .program import Options, Report, check
 from .shrinking import ways

@@ -7,7 +7,8 @@ import tempfile
 import unittest
 from unittest import mock
 
-from jepmon import __version__, command
+from jepmon import __version__
+from jepmon.tools import command
 from tests.python import TOP
 
 

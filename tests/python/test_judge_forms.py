@@ -7,11 +7,11 @@ import unittest
 from typing import Any, Dict
 
 from jepmon.forms import Refused, detect
+from jepmon.forms.files import of_text
 from jepmon.forms.own import read
 from jepmon.forms.recorded import Options, recorded
-from jepmon.forms.files import of_text
 from jepmon.history import of_key, read_history
-from jepmon.walk import walk
+from jepmon.objects.configurations import walk
 
 from .translated import events, made
 

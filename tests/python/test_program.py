@@ -5,6 +5,7 @@ import unittest
 from unittest import mock
 
 from jepmon import program
+from jepmon.program import finding
 
 
 class Reports(unittest.TestCase):
@@ -34,7 +35,7 @@ class Finding(unittest.TestCase):
                 file.write("#!/bin/sh\n")
             os.chmod(path, 0o755)
             with mock.patch.dict(os.environ, {"PATH": folder}), mock.patch("sys.prefix", folder), \
-                    mock.patch.object(program, "__file__", "/nowhere/python/jepmon/program.py"):
+                    mock.patch.object(finding, "__file__", "/nowhere/python/jepmon/program/finding.py"):
                 os.environ.pop("JEPMON", None)
                 with self.assertRaises(program.ProgramError):
                     program.find_program()

@@ -8,7 +8,7 @@ import unittest
 from typing import List
 
 from jepmon import rates
-from jepmon.fault_texts import kind_of, nodes_of, plain
+from jepmon.history.fault_texts import kind_of, nodes_of, plain
 from jepmon.rates.charts import nice, ticks
 from jepmon.rates.gathered import COLUMNS, Gathered
 from jepmon.rates.history import Fault, joined

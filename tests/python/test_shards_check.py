@@ -14,7 +14,7 @@ from unittest import mock
 
 from jepmon import program, shards
 from jepmon.forms import own
-from jepmon.lives import Lives
+from jepmon.history.process_lives import Lives
 from jepmon.program import Options
 from jepmon.shards.checking import opened
 from jepmon.shards.lines import rows_of

@@ -7,10 +7,10 @@ import tempfile
 import unittest
 from typing import Any, Dict, List, Sequence, Tuple
 
-from jepmon.fault_times import since, until
 from jepmon.history import Event
-from jepmon.kinds import ABSENT
-from jepmon.notes import OVER, Fault
+from jepmon.history.fault_notes import OVER, Fault
+from jepmon.history.fault_times import since, until
+from jepmon.history.kinds import ABSENT
 from jepmon.testing import ServerError
 from jepmon.testing.after import Reading, listed, lost_members, lost_messages, verdict_on, verdict_on_queue
 from jepmon.testing.crashes import LogWatch, finding

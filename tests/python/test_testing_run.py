@@ -13,7 +13,7 @@ import unittest
 from typing import List, Optional
 
 from jepmon.testing import ServerError, mounts, template
-from jepmon.testing.words import given
+from jepmon.testing.cli_options import given
 from tests.python import TOP
 from tests.python.monitored import Monitored
 

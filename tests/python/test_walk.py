@@ -7,11 +7,11 @@ import unittest
 from typing import Dict, List, Set
 
 from jepmon import history
-from jepmon.kinds import MODELS
+from jepmon.history.kinds import MODELS
 from jepmon.objects import START, State, rule
+from jepmon.objects.configurations import End, Walk, walk
 from jepmon.program import Options
 from jepmon.shrinking.units import precedes
-from jepmon.walk import End, Walk, walk
 
 from . import fuzz, recorded
 from .histories import Clients, Way, text_of

@@ -3,10 +3,10 @@ from __future__ import annotations
 
 from typing import Iterator, Sequence
 
-from ..command import tool
 from ..edn import spelling
-from ..event_faults import fault_of
-from ..kinds import THREADS
+from ..history.event_faults import fault_of
+from ..history.kinds import THREADS
+from ..tools.command import tool
 from .event import Event, Options, Shower, open_at
 
 def many_clients() -> str:

@@ -5,7 +5,7 @@ import collections
 from typing import Callable, Counter, Dict, Iterator, List, Optional, Sequence, Tuple
 
 from ..edn import Many, Value, integer
-from ..kinds import MODELS, REGISTERS
+from ..history.kinds import MODELS, REGISTERS
 from .event import Event, Options, Shower, is_set, open_at
 
 SHOWN = 14  # events of a key

@@ -5,10 +5,11 @@ import itertools
 import re
 from typing import Any, Dict, Iterable, List, Optional, Tuple
 
-from .. import edn, faults
+from .. import edn
 from ..edn import Many, Value, canonical, integer, shown, spelling
 from ..forms.account import Account
 from ..forms.order import Blocks
+from ..history import nemesis_faults as faults
 from . import drains
 from .apart import Apart, fields_of
 from .asked import GAP, Asked, Counted, Pair

@@ -5,8 +5,8 @@ import itertools
 from typing import Any, Dict, Iterator, NamedTuple, Optional, Sequence, Tuple
 
 from ..edn import Many, Value, integer
-from ..kinds import KEYS, REGISTERS, THREADS, VALUES
-from ..names import ABSENT, Names
+from ..history.kinds import KEYS, REGISTERS, THREADS, VALUES
+from ..history.names import ABSENT, Names
 from .events import Event, History
 from .models import Models
 from .numbering import Numbering

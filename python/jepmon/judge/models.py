@@ -3,10 +3,10 @@ from __future__ import annotations
 
 from typing import Dict, Mapping, NamedTuple, Optional, Sequence
 
-from .. import kinds
 from ..forms import Refused
 from ..forms.account import MODEL, Account
 from ..forms.own import Facts, KeyFacts, concurrency_of, possible
+from ..history import kinds
 
 __all__ = ["ALIKE", "Choice", "account_for", "answered", "by_operations", "chosen", "clients_of", "concurrency_of", "possible"]
 ALIKE = {"fifo-queue": "unordered-queue"}  # a stricter model, and the one with the same operations

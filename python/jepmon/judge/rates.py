@@ -5,16 +5,16 @@ import pathlib
 import re
 from typing import Callable, Iterable, Iterator, List, Mapping, NamedTuple, Optional, Tuple
 
-from .. import command
 from ..forms import Refused
 from ..forms.recorded import Recorded
 from ..program import KeyLine, Report
 from ..rates import Fault, Gathered, KeyRow, RatesPage, render
 from ..rates.history import Reader
+from ..tools import command
 from .judging import Task
 from .outputs import Folder, Page, remove
-from .words import NAME
 from .words import Given as Words
+from .words import NAME
 
 RATES = "rates.html"
 EVENT = re.compile(r"\{:type :([a-z]+), :process ([0-9]+), :f :([a-z]+), :value \[([0-9]+) (.*?)\](?:, |\})")

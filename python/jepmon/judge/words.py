@@ -5,10 +5,11 @@ import argparse
 import sys
 from typing import List, NamedTuple, Optional, Sequence
 
-from .. import command, kinds
 from ..forms import Refused, mapping_words, meant_words
 from ..forms.door import Options as Said
 from ..forms.mapping import Mapping
+from ..history import kinds
+from ..tools import command
 
 NAME = "judge"
 MOST_JOBS = 1024

@@ -32,15 +32,15 @@ import uuid
 from types import TracebackType
 from typing import Callable, Counter, Dict, Iterator, NoReturn, Optional, Type, Union
 
-from ..clients import run_clients
-from ..conclusion import say_if_idle
-from ..endings import Exceptions, endings
-from ..kinds import MODELS
-from ..notes import BEGIN, END, NOTE, folded
-from ..owner import not_sent
-from ..telling import test_unknown
-from ..values import NONE, missing
-from ..verdicts import NotLegal, Unknown
+from ..history.fault_notes import BEGIN, END, NOTE, folded
+from ..history.kinds import MODELS
+from ..live.clients import run_clients
+from ..live.conclusion import say_if_idle
+from ..live.outcome_rules import Exceptions, endings
+from ..live.owner import not_sent
+from ..live.sender import test_unknown
+from ..live.values import NONE, missing
+from ..live.verdicts import NotLegal, Unknown
 from .folder import LongFolder
 from .handle import Handle
 from .limits import limits, room

@@ -4,9 +4,9 @@ from __future__ import annotations
 from types import TracebackType
 from typing import TYPE_CHECKING, Optional, Type, Union
 
-from ..kinds import REGISTERS
-from ..operation import Block, Operation
-from ..verdicts import NotLegal
+from ..history.kinds import REGISTERS
+from ..live.operation import Block, Operation
+from ..live.verdicts import NotLegal
 
 if TYPE_CHECKING:
     from .handle import Handle

@@ -6,10 +6,10 @@ from typing import Dict, List, NamedTuple, Optional, Sequence, Tuple
 
 from ..history import Event, Operation, operations
 from . import layout
+from .captions import fatal_of
 from .given import PageInput, smallest_of
 from .labels import MARKS, Labels, cut
 from .view import letters
-from .words import fatal_of
 
 WIDTH = 100
 LINES = 20  # at most, with the line of indices and the one of the fatal event

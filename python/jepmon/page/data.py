@@ -6,7 +6,7 @@ import json
 from typing import Any, Dict, List, Mapping, NamedTuple, Optional, Sequence, Tuple
 
 from ..history import Event, Operation
-from ..kinds import OPERATIONS
+from ..history.kinds import OPERATIONS
 from .choice import Choice
 from .given import PageInput, Walked
 from .labels import Labels, cut, printable

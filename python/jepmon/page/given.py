@@ -3,8 +3,8 @@ from __future__ import annotations
 
 from typing import List, Mapping, NamedTuple, Optional, Sequence, Tuple, Union
 
-from .. import notes
 from ..history import Event
+from ..history import fault_notes as notes
 
 
 class Fault(NamedTuple):

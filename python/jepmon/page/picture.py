@@ -11,8 +11,8 @@ import re
 import sys
 from typing import Dict, Iterator, List, Optional, Sequence, Tuple
 
-from .. import walk
 from ..history import Event, of_key, operations, read_history
+from ..objects import configurations as walk
 from . import layout
 from .from_walk import walked
 from .given import Walked

@@ -4,8 +4,8 @@ from __future__ import annotations
 import re
 from typing import Dict, Iterable, List, NamedTuple
 
-from ..kinds import ABSENT
-from ..notes import BEGIN, END, note_of
+from ..history.fault_notes import BEGIN, END, note_of
+from ..history.kinds import ABSENT
 from .gathered import Gathered
 
 SLACK = 1_000_000  # nanoseconds between the notes of one fault in two parts

@@ -4,7 +4,7 @@ from __future__ import annotations
 import re
 from typing import Dict, NamedTuple, Optional
 
-from .. import kinds
+from ..history import kinds
 from .reading import Element
 
 KEYS = range(1 << 63)  # of a history that is judged in shards

@@ -11,6 +11,7 @@ from typing import Any, BinaryIO, Iterable, Iterator, List, NamedTuple, Optional
 from ..forms.account import Account
 from ..forms.own import GAP
 from ..program import Options
+from ..program.report import Verdict
 from .batches import batches_of
 from .by_key import FIELDS, events_of
 from .doubt import Doubt, ShardsError
@@ -19,7 +20,7 @@ from .lines import of_code
 from .nils import NilsTask, nils_of
 from .progress import Progress
 from .refusal import first_refusal
-from .report import Verdict, merged, verdict_of, write_report
+from .report import merged, verdict_on, write_report
 from .shard import Shard, shards_of
 from .sizes import Sizes
 from .source import File, file_of
@@ -100,7 +101,7 @@ class Session:
 
     def report(self, judged: Sequence[Judged], out: BinaryIO) -> Verdict:
         """Writes the report, and gives the verdict."""
-        verdict = verdict_of(judged)
+        verdict = verdict_on(judged)
         write_report(merged([result.path for result in judged], self.tools.folder, self.tools.sizes), verdict.line, out)
         return verdict
 

@@ -11,10 +11,11 @@ import threading
 from types import FrameType
 from typing import TYPE_CHECKING, Callable, Dict, Iterator, Optional
 
-from .. import command, kinds
-from ..errors import ProgramError
 from ..forms import Refused as NoHistory
+from ..history import kinds
 from ..program import find_program
+from ..tools import command
+from ..tools.errors import ProgramError
 from .checking import file_error
 from .doubt import ShardsError
 from .models import EACH

@@ -5,7 +5,7 @@ import heapq
 from typing import AbstractSet, Any, Dict, Iterable, List, Sequence
 
 from ..history import Event, Operation
-from ..kinds import KEYS, THREADS
+from ..history.kinds import KEYS, THREADS
 from ..program import Options
 
 

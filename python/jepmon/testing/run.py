@@ -8,17 +8,17 @@ import sys
 import time
 from typing import TYPE_CHECKING, Any, Callable, Counter, Dict, Iterator, List, NamedTuple, Optional, Tuple, Type
 
-from .. import command
-from ..errors import OutputError
-from ..kinds import BUDGETS
-from ..notes import OVER
-from ..run_folder import VERDICT
-from ..verdicts import NotLegal, Refused
+from ..history.fault_notes import OVER
+from ..history.kinds import BUDGETS
+from ..live.run_folder import VERDICT
+from ..live.verdicts import NotLegal, Refused
+from ..tools import command
+from ..tools.errors import OutputError
 from . import client_log, losses
 from .after import FINDING, after_a_finding
 from .cluster import Cluster
-from .crashes import finding
 from .course import Course, Stage
+from .crashes import finding
 from .crew import Mortal
 from .errors import Crashed, Died, ServerError, where
 from .facts import facts_of, leave_facts, leave_pages

@@ -5,7 +5,7 @@ import shutil
 import time
 from typing import Callable, List, Mapping, NamedTuple, Optional, Sequence, Tuple, Type
 
-from ..endings import Exceptions
+from ..live.outcome_rules import Exceptions
 from .errors import ServerError
 from .node import Node
 from .strikes.kind import Strike

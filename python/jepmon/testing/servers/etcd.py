@@ -12,7 +12,7 @@ import json
 import uuid
 from typing import Any, Dict, List, Optional, Sequence, Set, Type, Union
 
-from ...endings import Exceptions
+from ...live.outcome_rules import Exceptions
 from ..node import At, Node
 from ..server import Client, Leases, Plant, Server
 from . import etcd_members

@@ -9,7 +9,7 @@ from __future__ import annotations
 import uuid
 from typing import Dict, List, Optional, Sequence, Type
 
-from ...endings import Exceptions
+from ...live.outcome_rules import Exceptions
 from ..node import At, Node
 from ..server import ALL_STRIKES, Client, Leases, Plant, Server
 from ..wire.resp import Redis as Connection

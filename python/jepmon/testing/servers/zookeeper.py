@@ -12,7 +12,7 @@ import pathlib
 import socket
 from typing import Dict, List, Optional, Type
 
-from ...endings import Exceptions
+from ...live.outcome_rules import Exceptions
 from ..errors import ServerError
 from ..node import At, Node
 from ..server import ALL_STRIKES, Client, Plant, Server

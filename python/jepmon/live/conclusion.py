@@ -44,7 +44,7 @@ def leave_cause(folder: RunFolder, conclusion: Conclusion) -> None:
 def leave_page(folder: RunFolder) -> None:
     """The page of the whole run, legal or not; of a part the run has it."""
     if not folder.is_part:
-        from .rates.run import leave  # here, since a test without a folder needs no page
+        from ..rates.run import leave  # here, since a test without a folder needs no page
 
         leave(folder.path, folder.lost is not None)
 

@@ -4,8 +4,8 @@ from __future__ import annotations
 import re
 from typing import List, Optional, Sequence
 
+from .fault_notes import OVER, Fault
 from .fault_texts import kind_of, plain
-from .notes import OVER, Fault
 
 SECOND = 1_000_000_000
 HARD = re.compile(r"kill|power|crash|down\b|restart|torn", re.I)  # in the text of a fault that ends a process

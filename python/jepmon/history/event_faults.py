@@ -3,9 +3,9 @@ from __future__ import annotations
 
 from typing import Dict, Optional
 
+from ..edn import Many, Value, fields_of, integer, keyword, spelling
+from ..tools.command import tool
 from . import kinds
-from .command import tool
-from .edn import Many, Value, fields_of, integer, keyword, spelling
 
 WANTED = (":type", ":process", ":f", ":value")
 DRAIN = "takes several messages out of a queue; {} takes it apart into dequeues"

@@ -4,7 +4,7 @@
     print("\n".join(lines(cause)))
 
 The verdict is the program's, and so is what is said of another answer: each is asked of it. What else the sentences say was found
-by the walk (walk.py), and is not proved. Where the walk gave up, or says another event than the program, only what the program
+by the walk (objects/configurations.py), and is not proved. Where the walk gave up, or says another event than the program, only what the program
 said is told, or what is true of the smallest illegal part.
 """
 from __future__ import annotations
@@ -12,23 +12,23 @@ from __future__ import annotations
 import textwrap
 from typing import Callable, Dict, List, Mapping, NamedTuple, Optional, Protocol, Sequence
 
-from . import names as spelling
-from .causes.beside import of_event
-from .causes.case import Case, Found, Mention, mentions
-from .causes.failures import of_another_model, of_failure
-from .causes.locks import of_mutex
-from .causes.names import Names, capital, client, ordinal_times
-from .causes.queues import of_queue
-from .causes.registers import of_register
-from .causes.sets import of_set
-from .causes.unknown import Over, of_unknown
+from ..history import Event, of_key, operations
+from ..history import names as spelling
+from ..history.fault_notes import Fault
+from ..history.kinds import MODELS
+from ..objects.configurations import walk
+from ..program import Options, Report
+from ..shrink import Part, smallest
+from .beside import of_event
+from .case import Case, Found, Mention, mentions
 from .effort import Effort
-from .history import Event, of_key, operations
-from .kinds import MODELS
-from .notes import Fault
-from .program import Options, Report
-from .shrink import Part, smallest
-from .walk import walk
+from .failures import of_another_model, of_failure
+from .locks import of_mutex
+from .names import Names, capital, client, ordinal_times
+from .queues import of_queue
+from .registers import of_register
+from .sets import of_set
+from .unknown import Over, of_unknown
 
 NOT_PROVED = "Proved are the verdict, and what jepmon was asked. The other sentences are not."
 BY_MODEL: Dict[str, Callable[[Case], Found]] = {
@@ -56,7 +56,7 @@ class Cause(NamedTuple):
 
 
 class Named(Protocol):
-    """What numbered keys and values stand for, by number: as jepmon.names.Names has it, or causes.names.Names."""
+    """What numbered keys and values stand for, by number: as history.names.Names has it, or causes.names.Names."""
 
     @property
     def keys(self) -> Mapping[int, str]: ...

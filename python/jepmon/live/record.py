@@ -4,7 +4,7 @@ from __future__ import annotations
 import time
 from typing import Optional, TextIO
 
-from .notes import note_line
+from ..history.fault_notes import note_line
 from .run_folder import RunFolder
 
 

@@ -4,8 +4,8 @@ from __future__ import annotations
 from types import TracebackType
 from typing import Any, Optional, Protocol, Type
 
-from .endings import Endings, outcome_of
-from .kinds import ANSWERED
+from ..history.kinds import ANSWERED
+from .outcome_rules import Endings, outcome_of
 from .values import Missing, Value, integer, key_of, members, told
 from .verdicts import NotLegal
 

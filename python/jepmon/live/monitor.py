@@ -36,20 +36,20 @@ import time
 from types import TracebackType
 from typing import Callable, Counter, Dict, Hashable, Iterator, NoReturn, Optional, TextIO, Type, Union
 
+from ..history.fault_notes import BEGIN, END, NOTE, folded
+from ..history.kinds import ABSENT
+from ..program import Options
 from .clients import run_clients
 from .conclusion import say_if_idle
-from .endings import Exceptions, endings
 from .exchange import Exchange
 from .keys import Keys
-from .kinds import ABSENT
-from .notes import BEGIN, END, NOTE, folded
 from .numbered import Numbers
 from .operation import Operation
+from .outcome_rules import Exceptions, endings
 from .owner import not_sent
-from .program import Options
 from .record import Record
 from .run_folder import RunFolder, new_folder
-from .telling import Telling, test_unknown
+from .sender import Telling, test_unknown
 from .values import NONE, integer, key_of, missing, told
 from .verdicts import NotLegal, Unknown
 

@@ -5,7 +5,7 @@ import collections
 import re
 from typing import Counter, Dict, Tuple
 
-from .kinds import ABSENT
+from ..history.kinds import ABSENT
 
 MOST_HINTS = 16
 VERBS = {"write": "written", "cas": "set", "add": "added", "enqueue": "enqueued"}

@@ -3,7 +3,7 @@ from __future__ import annotations
 
 from typing import AbstractSet, Callable
 
-from .kinds import MODELS
+from ..history.kinds import MODELS
 
 HINTS = {  # beside a refusal, by its name
     "HistoryFull": "a history has 1048576 events at most; a LongMonitor goes on with one after another",

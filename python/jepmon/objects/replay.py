@@ -5,7 +5,7 @@ from __future__ import annotations
 import collections
 from typing import Callable, Counter, Deque, Dict, Optional, Set, Tuple, cast
 
-from .objects import Found, Part, State
+from . import Found, Part, State
 
 Wanted = Optional[Tuple[Found]]  # the answer that a read or a dequeue has to find; None: any one
 Taken = Optional[Tuple[Found]]  # what was found; None where the operation can't take place so

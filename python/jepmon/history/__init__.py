@@ -3,7 +3,8 @@ from __future__ import annotations
 
 from typing import Any, Dict, FrozenSet, Iterable, List, Mapping, NamedTuple, Optional, Tuple, Union
 
-from . import edn, faults, kinds
+from .. import edn
+from . import nemesis_faults as faults, kinds
 from .event_faults import fault_of
 
 Value = Union[None, int, Tuple[int, int], FrozenSet[int]]

@@ -33,5 +33,6 @@ INDICES = range(0, 1 << 32)
 THREADS = 64  # the greatest concurrency
 EVENTS = 1 << 20  # of a history at most
 BUDGETS = range(1, (1 << 16) + 1)
+BUDGET = 4096  # if none is given
 
 ABSENT = -(1 << 63)  # the value by which a Monitor tells that a register's key is missing

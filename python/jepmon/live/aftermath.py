@@ -6,9 +6,10 @@ import re
 import sys
 from typing import List, NamedTuple, Tuple
 
-from .history import Event, read_history
-from .notes import Fault, faults_of
-from .program import STATUSES, KeyLine, ProgramError, Report
+from ..history import Event, read_history
+from ..history.fault_notes import Fault, faults_of
+from ..program import ProgramError, Report
+from ..program.report import KeyLine, Verdict, report_on
 from .run_folder import AFTER, HISTORY, RunFolder
 
 PLAIN = re.compile(r"\{:type :([a-z]+), :process ([0-9]+), :f :([a-z]+), :value \[([0-9]+) (nil|-?[0-9]+)\], :time ([0-9]+)\}")
@@ -43,7 +44,9 @@ def told(folder: RunFolder, bad: Bad) -> Told:
 
 
 def _told(folder: RunFolder, bad: Bad) -> Told:
-    from . import cause, page, walk  # here, since no test that is legal needs them
+    from ..causes import cause  # here, since no test that is legal needs them
+    from .. import page  # here, since no test that is legal needs them
+    from ..objects import configurations as walk  # here, since no test that is legal needs them
 
     events, faults = read(folder.path / HISTORY, bad.key)
     report = report_of(bad, len(events))
@@ -92,10 +95,8 @@ def event_of(line: str, index: int, number: int) -> Event:
 
 def report_of(bad: Bad, events: int) -> Report:
     """What `jepmon check` says of this key, as far as the reply has it."""
-    word = bad.reply.split(" ")[0]
-    line = KeyLine(bad.key, bad.model, bad.budget, events, "dead" if word == "illegal" else "over", bad.at)
-    text = f"key {line.key} model {line.model} budget {line.budget} events {line.events} status {line.status} {line.index}"
-    return Report(f"{text}\n{bad.reply}\n", [line], bad.reply, word, bad.key, bad.at, STATUSES[word], "")
+    verdict = Verdict(bad.reply.split(" ")[0], (bad.at, bad.key))
+    return report_on([KeyLine(bad.key, bad.model, bad.budget, events, "dead" if verdict.word == "illegal" else "over", bad.at)], verdict)
 
 
 def say(text: str) -> None:

@@ -3,7 +3,7 @@ from __future__ import annotations
 
 from typing import Any, Iterable, NamedTuple, Tuple, Union
 
-from .kinds import ABSENT, KEYS, VALUES
+from ..history.kinds import ABSENT, KEYS, VALUES
 
 Value = Union[None, int, Iterable[int]]
 

@@ -4,7 +4,7 @@ from __future__ import annotations
 
 from typing import List
 
-from .walk import WORK, Walk
+from ..objects.configurations import WORK, Walk
 
 WHOLE = 10_000_000  # for one key: about as many microseconds on a machine that does nothing else
 ASKING = 3_000  # for the start of the program

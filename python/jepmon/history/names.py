@@ -8,6 +8,7 @@ from __future__ import annotations
 import re
 from typing import Dict, Iterator, Mapping, Optional
 
+from ..tools.command import printable
 from . import kinds
 
 COMMENT = r"^; (key|value) ([+-]?[0-9]{1,20}) is ([^\n\r]*)"
@@ -52,10 +53,3 @@ class Names:
     def part(self, text: str) -> str:
         """A text with the integers in it as values."""
         return re.sub(NUMBER, lambda found: self.value(int(found[0])), text)
-
-
-def printable(text: str) -> str:
-    """The text so that a terminal shows it and obeys nothing in it."""
-    if text.isprintable():
-        return text
-    return "".join(c if c.isprintable() or c == "\t" else c.encode("unicode_escape").decode() for c in text)

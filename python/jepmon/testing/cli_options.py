@@ -8,7 +8,8 @@ import pathlib
 import sys
 from typing import Dict, Iterable, Iterator, List, Optional, Type
 
-from .. import command, kinds
+from ..history import kinds
+from ..tools import command
 from .after import ALWAYS, FINDING, NEVER
 from .course import reserved_of, stages_of
 from .errors import ServerError, where

@@ -13,11 +13,10 @@ import os
 import sys
 from typing import Any, BinaryIO, Callable, Iterable, Iterator, NoReturn, Optional, TextIO, Type, Union
 
-from . import __version__
+from .. import __version__
 from .errors import OutputError, ProgramError
-from .names import printable
 
-__all__ = ["INTERRUPTED", "OutputError", "REFUSED", "Words", "collect_seldom", "copy_file", "run", "say", "standard_error", "standard_input",
+__all__ = ["INTERRUPTED", "OutputError", "REFUSED", "Words", "collect_seldom", "copy_file", "printable", "run", "say", "standard_error", "standard_input",
            "temporary_files", "tool", "write_error", "write_file", "write_output"]
 
 REFUSED = 3  # the status of whatever is no verdict
@@ -43,6 +42,13 @@ def temporary_files(folder: Optional[str]) -> Iterator[None]:
         yield
     finally:
         tempfile.tempdir = before
+
+
+def printable(text: str) -> str:
+    """The text so that a terminal shows it and obeys nothing in it."""
+    if text.isprintable():
+        return text
+    return "".join(c if c.isprintable() or c == "\t" else c.encode("unicode_escape").decode() for c in text)
 
 
 def tool(name: str) -> str:

@@ -5,8 +5,8 @@ import os
 import threading
 from typing import List, Optional, Union
 
+from ..program import ProgramError, Script, find_program
 from .hints import hint_of_refusal
-from .program import ProgramError, Script, find_program
 from .verdicts import Refused
 
 PATIENCE = 10.0  # seconds for what is not worth more, as another model that is tried

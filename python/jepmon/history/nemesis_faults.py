@@ -3,7 +3,7 @@ from __future__ import annotations
 
 from typing import Dict, Optional
 
-from .edn import Many, Value, integer
+from ..edn import Many, Value, integer
 
 REPLICAS = range(7)
 LOST = range(1 << 16)  # replies

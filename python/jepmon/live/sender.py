@@ -2,26 +2,25 @@
 from __future__ import annotations
 
 import copy
-import re
 from typing import Dict, List, Optional, Set, Tuple
 
+from ..history.fault_notes import BEGIN
+from ..history.kinds import REGISTERS
+from ..program import Options
+from ..program.report import verdict_in
 from .conclusion import Conclusion, leave_cause, leave_page, leave_verdict
-from .endings import Endings
 from .exchange import Exchange
 from .hints import hint_of_model, hint_of_refusal, hint_of_unknown
-from .kinds import REGISTERS
+from .key_events import Told
 from .lines import End, Line, LineQueue
-from .notes import BEGIN
+from .outcome_rules import Endings
 from .owner import OwnedLock
 from .processes import Processes
-from .program import Options
 from .record import Record
-from .told import Told
 from .values import Missing
 from .verdicts import Illegal, NotLegal, Refused, Unknown
 
 BROKEN_OFF = "the exchange with jepmon was broken off"
-VERDICT = re.compile(r"(illegal|unknown) key ([0-9]+) index ([0-9]+)")
 
 
 def test_unknown(unknown: str) -> None:
@@ -256,14 +255,14 @@ class Telling:
         """The first of these replies is not legal. Gives what is to be told now, where it is of a key that is dropped; else the test
         ends."""
         line, reply = lines[0], replies[0]
-        verdict = VERDICT.fullmatch(reply)
-        if verdict is None:
+        verdict = verdict_in(reply)
+        if verdict is None or verdict.found is None:
             events = self.told.last_events(line.key, line.index)
             self._fail(Refused(f"{reply}: {line.text[:200]}", line.key, None, events, hint_of_refusal(reply)))
             return []
-        key, index = int(verdict.group(2)), int(verdict.group(3))
+        index, key = verdict.found
         events = self.told.last_events(key, index)
-        if verdict.group(1) == "illegal":
+        if verdict.word == "illegal":
             self.failure = Illegal(reply, key, index, events, folder=self._record.name)
             self._fail(Illegal(reply, key, index, events, self._hint_of_illegal(key, index, line.text)))
             return []

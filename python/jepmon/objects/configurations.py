@@ -20,9 +20,9 @@ from __future__ import annotations
 import dataclasses
 from typing import Any, Callable, Dict, FrozenSet, Iterable, List, Mapping, NamedTuple, Optional, Set, Tuple
 
-from .history import Event
-from .kinds import REGISTERS
-from .objects import START, Found, Outcome, Part, Rule, State, rule
+from ..history import Event
+from ..history.kinds import REGISTERS
+from . import START, Found, Outcome, Part, Rule, State, rule
 
 WORK = 4_000_000  # outcomes that a walk tries at most before it gives up: some seconds
 MEMBERS = 32  # of a state, as a set or a queue, that cost as much as one outcome

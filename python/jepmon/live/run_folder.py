@@ -11,7 +11,7 @@
     runs/latest                            a link to the newest
 
 `jepmon check` on the history, with these options, gives the verdict of the run. Notes of faults stand in it where they were taken
-(notes.py), and check passes over them. Only where a key was given another model or budget the history has lines that are commands,
+(history/fault_notes.py), and check passes over them. Only where a key was given another model or budget the history has lines that are commands,
 and is judged by `jepmon script`; then judge-again does that.
 """
 from __future__ import annotations
@@ -25,7 +25,7 @@ import shutil
 import sys
 from typing import Iterator, Optional, Union
 
-from .program import Options
+from ..program import Options
 
 HISTORY, AGAIN, VERDICT, COUNTS, NAMES = "history.edn", "judge-again", "verdict.txt", "counts.txt", "names.txt"
 CAUSE, PAGE, LATEST = "cause.txt", "page.html", "latest"

@@ -5,7 +5,7 @@ import random
 import threading
 from typing import TYPE_CHECKING, List, Optional
 
-from .kinds import KEYS
+from ..history.kinds import KEYS
 from .values import key_of
 
 if TYPE_CHECKING:
