@@ -90,7 +90,7 @@ def event_of(index: int, element: edn.Element) -> Event:
     if ":index" in fields and stated != index:
         raise HistoryError(element.line, f"it states :index {stated}, and {index} events came before it: leave the indices out")
     if index >= kinds.EVENTS:
-        raise HistoryError(element.line, "a history has 1,048,576 events at most")
+        raise HistoryError(element.line, f"a history has {kinds.EVENTS:,} events at most")
     return made
 
 

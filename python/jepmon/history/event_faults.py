@@ -49,7 +49,7 @@ def of_operation(fields: Dict[str, Value]) -> str:
         return f"its :value is no [key part]; where the history has no keys, {tool('from-jepsen')} --key 0 makes each value one"
     key = integer(value.members[0])
     if key is None or key not in kinds.KEYS:
-        return f"its key is no integer from 0 to 65535: {tool('from-jepsen')} numbers keys; --key 0 only where :value is no pair"
+        return f"its key is no integer from 0 to {kinds.KEYS.stop - 1}: {tool('from-jepsen')} numbers keys; --key 0 only where :value is no pair"
     index = integer(fields.get(":index", "0"))
     if index is None or index not in kinds.INDICES:
         return f"its :index is {spelling(fields[':index'])}, and no integer from 0 on"

@@ -87,8 +87,8 @@ def given(words: Optional[List[str]]) -> Given:
                         help="the object that each key is, instead of the one found: " + ", ".join(kinds.MODELS))
     parser.add_argument("--concurrency", metavar="N", type=number("a number of threads", range(1, kinds.PROCESSES.stop)),
                         help="the threads of the clients, instead of the number found; more than 64 are judged in shards")
-    parser.add_argument("--budget", metavar="N", type=number("a number of ends", kinds.BUDGETS), default=4096,
-                        help="the greatest number of ends (possible outcomes) of a key (4096)")
+    parser.add_argument("--budget", metavar="N", type=number("a number of ends", kinds.BUDGETS), default=kinds.BUDGET,
+                        help=f"the greatest number of ends (possible outcomes) of a key ({kinds.BUDGET})")
     parser.add_argument("--workers", metavar="N", type=number("a number of threads", range(1, kinds.THREADS + 1)),
                         help="threads that judge keys side by side")
     parser.add_argument("--jobs", metavar="N", type=number("a number of processes", range(1, MOST_JOBS + 1)),

@@ -2,17 +2,16 @@
 from __future__ import annotations
 
 import pathlib
-import re
 import sys
 from typing import List, NamedTuple, Tuple
 
 from ..history import Event, read_history
 from ..history.fault_notes import Fault, faults_of
+from ..history.line import LINE, TIME, part_of_text
 from ..program import ProgramError, Report
 from ..program.report import KeyLine, Verdict, report_on
 from .run_folder import AFTER, HISTORY, RunFolder
 
-PLAIN = re.compile(r"\{:type :([a-z]+), :process ([0-9]+), :f :([a-z]+), :value \[([0-9]+) (nil|-?[0-9]+)\], :time ([0-9]+)\}")
 
 
 class Bad(NamedTuple):
@@ -86,11 +85,12 @@ def read(history: pathlib.Path, key: int) -> Tuple[List[Event], List[Fault]]:
 
 def event_of(line: str, index: int, number: int) -> Event:
     """The event of a line that was written here, fast: a key may have a hundred thousand."""
-    found = PLAIN.fullmatch(line)
-    if found is None:  # a cas, or the answer of a set
+    found = LINE.fullmatch(line)
+    time = TIME.fullmatch(found[6] or "") if found is not None else None
+    if found is None or time is None:
         return read_history(line)[0]._replace(index=index, line=number)
-    kind, process, name, key, part, time = found.groups()
-    return Event(index, kind, int(process), name, int(key), None if part == "nil" else int(part), number, line, {"time": int(time)})
+    kind, process, name, key, part, _ = found.groups()
+    return Event(index, kind, int(process), name, int(key), part_of_text(part), number, line, {"time": int(time[1])})
 
 
 def report_of(bad: Bad, events: int) -> Report:

@@ -3,12 +3,12 @@ from __future__ import annotations
 
 from typing import AbstractSet, Callable
 
-from ..history.kinds import MODELS
+from ..history.kinds import BUDGETS, EVENTS, MODELS, THREADS
 
 HINTS = {  # beside a refusal, by its name
-    "HistoryFull": "a history has 1048576 events at most; a LongMonitor goes on with one after another",
-    "BadBudget": "a budget is a number from 1 to 65536",
-    "BadConcurrency": "the concurrency is a number from 1 to 64",
+    "HistoryFull": f"a history has {EVENTS} events at most; a LongMonitor goes on with one after another",
+    "BadBudget": f"a budget is a number from {BUDGETS.start} to {BUDGETS.stop - 1}",
+    "BadConcurrency": f"the concurrency is a number from 1 to {THREADS}",
     "NoMemory": "the memory did not suffice: take a smaller budget, or a LongMonitor with fewer events of a part",
     "TooLong": "a line has 65536 bytes at most: let the sets that are read be smaller",
 }

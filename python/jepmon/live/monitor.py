@@ -37,7 +37,7 @@ from types import TracebackType
 from typing import Callable, Counter, Dict, Hashable, Iterator, NoReturn, Optional, TextIO, Type, Union
 
 from ..history.fault_notes import BEGIN, END, NOTE, folded
-from ..history.kinds import ABSENT
+from ..history.kinds import ABSENT, BUDGET
 from ..program import Options
 from .clients import run_clients
 from .conclusion import say_if_idle
@@ -86,7 +86,7 @@ class Monitor:
         program: Union[str, os.PathLike[str], None] = None,
         model: str = "register",
         concurrency: int = 64,
-        budget: int = 4096,
+        budget: int = BUDGET,
         expected: Exceptions = (),
         log: Optional[TextIO] = None,
         timeout: float = 60.0,

@@ -6,6 +6,7 @@ from typing import Dict, List, Optional, Set, Tuple
 
 from ..history.fault_notes import BEGIN
 from ..history.kinds import REGISTERS
+from ..history.line import event_line
 from ..program import Options
 from ..program.report import verdict_in
 from .conclusion import Conclusion, leave_cause, leave_page, leave_verdict
@@ -27,10 +28,6 @@ def test_unknown(unknown: str) -> None:
     """Tests what a monitor is to do where it does not know."""
     if unknown not in ("raise", "drop"):
         raise ValueError(f"unknown is 'raise' or 'drop', not {unknown!r}")
-
-
-def event_line(kind: str, process: int, name: str, key: int, part: str) -> str:
-    return f"{{:type :{kind}, :process {process}, :f :{name}, :value [{key} {part}]}}"
 
 
 class Telling:

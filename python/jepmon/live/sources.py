@@ -5,11 +5,11 @@ import collections
 import re
 from typing import Counter, Dict, Tuple
 
-from ..history.kinds import ABSENT
+from ..history.kinds import ABSENT, ANSWERED
+from ..history.line import LINE
 
 MOST_HINTS = 16
 VERBS = {"write": "written", "cas": "set", "add": "added", "enqueue": "enqueued"}
-ANSWER = re.compile(r"\{:type :ok, :process [0-9]+, :f :(read|dequeue), :value \[([0-9]+) ([^\]]*)\]\}")
 
 
 class Sources:
@@ -34,11 +34,11 @@ class Sources:
 
     def hint(self, line: str) -> str:
         """What is strange in the answer that this line tells, if anything."""
-        answer = ANSWER.fullmatch(line)
-        if answer is None:
+        event = LINE.fullmatch(line)
+        if event is None or event[1] != "ok" or event[3] not in ANSWERED:
             return ""
-        name, key, values = answer.group(1), int(answer.group(2)), re.findall("-?[0-9]+", answer.group(3))
-        if answer.group(3).startswith("#"):  # of many members those alone that no other operation brought in
+        name, key, values = event[3], int(event[4]), re.findall("-?[0-9]+", event[5])
+        if event[5].startswith("#"):  # of many members those alone that no other operation brought in
             values = [value for value in values if self._brought[key, value] == 0]
         hints = (self._hint_of_value(name, key, value) for value in values)
         return "\n".join([hint for hint in hints if hint][:MOST_HINTS])

@@ -33,7 +33,7 @@ from types import TracebackType
 from typing import Callable, Counter, Dict, Iterator, NoReturn, Optional, Type, Union
 
 from ..history.fault_notes import BEGIN, END, NOTE, folded
-from ..history.kinds import MODELS
+from ..history.kinds import BUDGET, KEYS, MODELS
 from ..live.clients import run_clients
 from ..live.conclusion import say_if_idle
 from ..live.outcome_rules import Exceptions, endings
@@ -75,7 +75,7 @@ class LongMonitor:
         program: Union[str, "os.PathLike[str]", None] = None,
         model: str = "register",
         concurrency: int = 64,
-        budget: int = 4096,
+        budget: int = BUDGET,
         expected: Exceptions = (),
         timeout: float = 60.0,
         failed: Exceptions = (),
@@ -83,7 +83,7 @@ class LongMonitor:
         keep: Optional[int] = None,
         forget: Optional[Callable[[str], object]] = None,
         events: int = EVENTS,
-        keys: int = 1 << 16,
+        keys: int = len(KEYS),
         names: Optional[str] = None,
         unknown: str = "raise",
         page: bool = True,

@@ -5,6 +5,7 @@ import re
 from typing import Dict, NamedTuple, Optional
 
 from ..history import kinds
+from ..history.line import FRONT
 from .reading import Element
 
 KEYS = range(1 << 63)  # of a history that is judged in shards
@@ -45,7 +46,7 @@ class Event(NamedTuple):
         """The event without its index, as jepmon's own programs write it."""
         if self.process is None:
             return FAULT
-        return b"{:type :%b, :process %d, :f :%b, :value [%d %b]}" % (self.kind, self.process, self.name, self.key, text_of(self.part))
+        return FRONT % (self.kind, self.process, self.name) + b"%d %b]}" % (self.key, text_of(self.part))
 
 
 def plain_event(match: "re.Match[bytes]") -> Event:

@@ -6,7 +6,7 @@ written, with which the check goes on.
 from __future__ import annotations
 
 import os
-from typing import Any, BinaryIO, Iterable, Iterator, List, NamedTuple, Optional, Sequence, Tuple
+from typing import BinaryIO, Iterable, Iterator, List, NamedTuple, Optional, Sequence, Tuple
 
 from ..forms.account import Account
 from ..forms.own import GAP
@@ -161,12 +161,3 @@ class Session:
 def key_event(part: bytes, code: int, place: int) -> KeyEvent:
     kind, process, name = of_code(code)
     return KeyEvent(place, kind.decode(), process, name.decode(), part.decode())
-
-
-def value_of(part: str) -> Any:
-    """A part in Python: None, an integer, the two of a cas, the set that a read answers."""
-    if part.startswith("#{"):
-        return frozenset(map(int, part[2:-1].split()))
-    if part.startswith("["):
-        return tuple(map(int, part[1:-1].split()))
-    return None if part == "nil" else int(part)

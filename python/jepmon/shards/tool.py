@@ -59,7 +59,8 @@ def words() -> argparse.Namespace:
     of_split.add_argument("--concurrency", type=int, metavar="N", help="the threads of the clients, instead of the number found")
     of_split.add_argument("--model", choices=tuple(kinds.MODELS), metavar="NAME",
                           help="the object that each key is, instead of the one found")
-    of_split.add_argument("--budget", type=int, default=4096, metavar="N", help="the greatest number of ends (possible outcomes) of a key (4096)")
+    of_split.add_argument("--budget", type=int, default=kinds.BUDGET, metavar="N",
+                          help=f"the greatest number of ends (possible outcomes) of a key ({kinds.BUDGET})")
     of_split.add_argument("--jobs", type=int, metavar="N", help="processes that read the history side by side")
     of_split.add_argument("--temporary", metavar="DIR", help="the folder for temporary files")
     of_judge = tools.add_parser("judge", help="have shards judged")
