@@ -106,14 +106,14 @@ def given(words: Optional[List[str]]) -> Given:
     parser.add_argument("--strict-input", action="store_true", help="refuse each guess, for example of the model, instead of judging by it")
     mapping_words.add(parser)
     meant_words.add(parser)
-    parser.add_argument("--wide", action="store_true", help=f"take up to {LONG} seconds, instead of {SHORT}, to decide keys over their "
-                        "budget afterwards")
-    parser.add_argument("--wide-seconds", metavar="N", type=number("a number of seconds", range(0, MOST_SECONDS + 1)),
+    parser.add_argument("--decide-over-budget", "--wide", dest="wide", action="store_true",
+                        help=f"take up to {LONG} seconds, instead of {SHORT}, to decide keys over their budget afterwards")
+    parser.add_argument("--decide-seconds", "--wide-seconds", dest="wide_seconds", metavar="N", type=number("a number of seconds", range(0, MOST_SECONDS + 1)),
                         help="take up to N seconds to decide these; 0: do not try")
     parser.add_argument("--html", metavar="PAGE", help="write a page that shows the cause; for a history with times also PAGE-rates.html: rates and latencies")
     parser.add_argument("--out", metavar="DIR", help="write the judged history, the report, the cause, the page, and the command "
                         "that judges it again, into this folder")
-    parser.add_argument("--least", metavar="N", type=number("a number of operations", range(0, MOST_LEAST + 1)), default=1,
+    parser.add_argument("--min-ok", "--least", dest="least", metavar="N", type=number("a number of operations", range(0, MOST_LEAST + 1)), default=1,
                         help="no verdict, status 3, if fewer operations with a judged answer were ok (1)")
     parser.add_argument("--json", action="store_true", help="print one JSON object instead of the report, for other programs "
                         "(docs/FORMATS.md has its fields)")

@@ -211,6 +211,8 @@ class Monitor:
         """With unknown="drop": the keys over their budget, whose operations are no longer recorded, and their verdicts."""
         return self._telling.dropped
 
+    set_aside = dropped
+
     @property
     def counts(self) -> Dict[str, Counter[str]]:
         """The operations by name and outcome: {"read": Counter(ok=4, info=1), ..}. Only an ok is judged, so look at this at the end:

@@ -73,6 +73,8 @@ class Block:
         """Whether the operation was recorded: not if its key or object was no longer judged."""
         return self._told
 
+    recorded = told
+
     def fail(self) -> None:
         """The operation certainly did not take place."""
         self.__dict__.update(_said="fail")

@@ -36,6 +36,9 @@ class NotLegal(Exception):
         return "\n".join((named, *others, *self.events) + ((self.hint,) if self.hint else ()))
 
 
+JepmonError = NotLegal  # also of what is refused, or not known
+
+
 class Illegal(NotLegal, AssertionError):
     """The history is not linearizable: the store has answered wrongly, unless the model is wrong (see the hint)."""
 

@@ -153,6 +153,8 @@ class LongMonitor:
         """The number of programs that were started."""
         return self._parts.begun
 
+    segments = parts
+
     @property
     def failure(self) -> Optional[NotLegal]:
         """The verdict that is not legal, if there is one."""
@@ -168,6 +170,8 @@ class LongMonitor:
         """The number of objects over their budget, which were judged up to there."""
         with self._parts.lock:
             return self._parts.tally.dropped + sum(len(part.dropped) for part in self._parts.untallied)
+
+    set_aside = dropped
 
     @property
     def counts(self) -> Dict[str, Counter[str]]:

@@ -81,7 +81,7 @@ def _parser() -> Words:
     parser = Words(prog=called, description=DESCRIPTION.format(tool=called), formatter_class=argparse.RawDescriptionHelpFormatter)
     parser.add_argument("server", metavar="SERVER", help=f"{', '.join(SERVERS)}, or a Python file that has a Server; {TEMPLATE} prints one")
     parser.add_argument("--object", metavar="MODEL", help="the object that each key is: " + ", ".join(kinds.MODELS))
-    parser.add_argument("--plant", metavar="NAME", help="a known fault of the server, by its name")
+    parser.add_argument("--inject-bug", "--plant", dest="plant", metavar="NAME", help="a known fault of the server, by its name")
     parser.add_argument("--durability", metavar="NAME", help="the server's setting for acknowledged data (the safest that it has)")
     parser.add_argument("--time", metavar="SECONDS", type=_positive("seconds"), default=20.0, help="the time for which clients work (20)")
     parser.add_argument("--clients", metavar="N", type=_within("clients", 1, MOST_CLIENTS), default=5, help="threads of clients (5)")
@@ -99,9 +99,9 @@ def _parser() -> Words:
     parser.add_argument("--nodes", metavar="N", type=_within("nodes", 1, 9), default=0, help="the number of nodes, if the server can have several")
     parser.add_argument("--network", choices=NETWORKS, default=AUTO, help="the way to cut and slow links: namespaces, one for each node "
                         "(needs root on Linux), or a proxy on the loopback; auto takes namespaces if it can")
-    parser.add_argument("--least", metavar="N", type=_within("operations", 1, 1_000_000), default=20,
+    parser.add_argument("--min-ok", "--least", dest="least", metavar="N", type=_within("operations", 1, 1_000_000), default=20,
                         help="no verdict, status 3, if some operation was ok fewer times (20)")
-    parser.add_argument("--patience", metavar="SECONDS", type=_positive("seconds"), default=0.0,
+    parser.add_argument("--startup-timeout", "--patience", dest="patience", metavar="SECONDS", type=_positive("seconds"), default=0.0,
                         help="the time for a node to start, and to answer again at the end; then no verdict (120, RabbitMQ 300)")
     parser.add_argument("--out", metavar="FOLDER", default="runs", help="the folder in which the run gets its own folder (runs)")
     parser.add_argument("--keep", metavar="N", type=_within("parts", 0, 1_000_000),

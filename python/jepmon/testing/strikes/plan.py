@@ -20,6 +20,7 @@ ITEM = re.compile(r"(?P<name>[a-z-]+)(?::(?P<node>n[0-9]+|leader))?(?P<given>(?:
                   r"(?:@(?P<begin>[0-9]+(?:\.[0-9]+)?)(?:\+(?P<lasting>[0-9]+(?:\.[0-9]+)?))?)?")
 NUMBER = r"-?[0-9]+(?:\.[0-9]+)?"
 RANGE = re.compile(rf"({NUMBER})(?:\.\.({NUMBER}))?")
+ALIASES = {"partition": "part"}  # other names of strikes
 LASTING = Parameter(0.1, 10.0, 0.01)  # seconds of a strike
 REST = Parameter(0.2, 3.0)  # seconds between two strikes of a lane
 SHARE = 0.15  # of a run: no strike that is drawn lasts longer, and the first one comes before half of it
@@ -96,9 +97,10 @@ class Plan:
 
     def _item(self, word: str) -> Item:
         found = ITEM.fullmatch(word)
-        if found is None or found["name"] not in self.known:
+        name = ALIASES.get(found["name"], found["name"]) if found is not None else ""
+        if found is None or name not in self.known:
             raise ServerError(f"--nemesis {word}: it takes all, none, or of {', '.join(self.known)} any, as kill,pause or kill:n1@3+0.5")
-        name, node = found["name"], found["node"]
+        node = found["node"]
         reason = self._reason(name)
         if reason is not None:
             left = [one for one in self.known if self._reason(one) is None]
