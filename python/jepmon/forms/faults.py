@@ -7,7 +7,7 @@ from .. import edn, history
 from ..from_jepsen.events import Left
 from ..history import fault_notes as notes
 from ..history.fault_notes import Fault
-from ..page.faults import ended_by
+from ..history.nemesis_faults import ended_by
 
 SHOWN = 60  # characters of what a nemesis did
 

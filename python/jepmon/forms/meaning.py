@@ -3,6 +3,7 @@ from __future__ import annotations
 
 from typing import Any, Dict, List, NamedTuple, Optional, Tuple
 
+from ..history.kinds import ANSWERED
 from . import Refused
 from .account import Account
 from .clock import Clock, Time, nanoseconds
@@ -14,7 +15,6 @@ from .vocabulary import OF_STACKS, both_of, plain
 from .written import MISSING, element
 
 __all__ = ["ANSWERED", "MISSING", "Reader", "Told"]
-ANSWERED = ("read", "dequeue")
 
 
 class Told(NamedTuple):

@@ -18,6 +18,7 @@ QUEUES: Tuple[str, ...] = ("fifo-queue", "unordered-queue")
 
 ANSWERED = frozenset({"read", "dequeue"})  # operations whose ok tells an answer
 WITHOUT_PART = frozenset({"read", "dequeue", "acquire", "release"})  # operations that are invoked with nil
+BROUGHT = {"write": "written", "cas": "set", "add": "added", "enqueue": "enqueued"}  # operations that bring a value in, and the verb of it
 EVENT_TYPES: Tuple[str, ...] = ("invoke", "ok", "fail", "info")
 
 NOT_JUDGED = {  # other operations that tests have, and what they are

@@ -1,12 +1,23 @@
-"""Which events of a nemesis jepmon takes: the faults of its own (docs/FORMATS.md, Events)."""
+"""Events of a nemesis: which of them jepmon takes, the faults of its own (docs/FORMATS.md, Events), and which of them ends which."""
 from __future__ import annotations
 
-from typing import Dict, Optional
+from typing import Dict, Optional, Tuple
 
 from ..edn import Many, Value, integer
 
 REPLICAS = range(7)
 LOST = range(1 << 16)  # replies
+# What ends a fault, by the name of what begins it: jepmon's own faults, and those of Jepsen's nemeses.
+ENDED_BY = {
+    "partition": ("heal",),
+    "pause": ("resume",),
+    "crash": ("restart",),
+    "kill": ("restart", "start"),
+    "start": ("stop",),
+    "bump-clock": ("reset-clock",),
+    "strobe-clock": ("reset-clock",),
+}
+STARTS, STOPS = "start-", "stop-"
 
 
 def is_fault(fields: Dict[str, Value]) -> bool:
@@ -30,3 +41,8 @@ def is_partition(value: Optional[Value]) -> bool:
         return False
     numbers = [integer(replica) for group in value.members for replica in group.members]
     return all(number in REPLICAS for number in numbers) and len(set(numbers)) == len(numbers)
+
+
+def ended_by(name: str) -> Tuple[str, ...]:
+    """The names of what ends a fault of this name; none where it is a fault of a moment, or not known."""
+    return (STOPS + name[len(STARTS):],) if name.startswith(STARTS) else ENDED_BY.get(name, ())

@@ -27,34 +27,28 @@ It needs Linux.
 """
 from __future__ import annotations
 
-import contextlib
-import copy
 import datetime
 import os
 import pathlib
 import time
-from types import TracebackType
-from typing import Callable, Counter, Dict, Hashable, Iterator, NoReturn, Optional, TextIO, Type, Union
+from typing import Counter, Dict, Hashable, Optional, TextIO, Union
 
-from ..history.fault_notes import BEGIN, END, NOTE, folded
 from ..history.kinds import ABSENT, BUDGET
 from ..program import Options
-from .clients import run_clients
-from .conclusion import say_if_idle
 from .exchange import Exchange
 from .keys import Keys
+from .live_test import LiveTest
 from .numbered import Numbers
 from .operation import Operation
 from .outcome_rules import Exceptions, endings
-from .owner import not_sent
 from .record import Record
 from .run_folder import RunFolder, new_folder
 from .sender import Telling, test_unknown
 from .values import NONE, integer, key_of, missing, told
-from .verdicts import NotLegal, Unknown
+from .verdicts import Unknown
 
 
-class Monitor:
+class Monitor(LiveTest):
     """A running `jepmon script`. Any number of threads of this process may use it, and coroutines, whose blocks then contain an
     await. At most `concurrency` operations are open at once. The program starts here, and Refused rejects a wrong option.
 
@@ -108,7 +102,7 @@ class Monitor:
             raise
         self.concurrency = concurrency
         self.folder: Optional[pathlib.Path] = folder.path if folder is not None else None  # of this run
-        self._telling = Telling(exchange, Record(log, folder, clock), options, unknown, ends, missing=of_missing)
+        self._judge = self._telling = Telling(exchange, Record(log, folder, clock), options, unknown, ends, missing=of_missing)
         self._numbers = Numbers(self._telling.names)
 
     # --- Operations, each a block ---
@@ -149,33 +143,13 @@ class Monitor:
             self._numbers.test(key_of(key), value)
         return text
 
-    # --- Clients, keys and faults ---
-
-    def run(self, work: Callable[[int], object], threads: int) -> None:
-        """Runs work(0) to work(threads - 1), each in a thread of its own. Raises a verdict that is not legal, else the first exception of
-        a thread. An exception in one thread, and Ctrl-C, end each other one at its next operation or fault."""
-        run_clients(self._telling, work, threads)
+    # --- Keys ---
 
     def keys(self, count: int = 1, limit: int = 3, first: int = 0, most: int = 6) -> Keys:
         """Gives the keys of a test with timeouts, from `first` on. `count` of them are open to writes at a time. Writes leave a key after
         `limit` of its operations have timed out, and reads stay on all keys. If possible, at most `most` operations of a key are
         open or timed out at once (see Keys)."""
         return Keys(self, count, limit, first, most)
-
-    def note(self, text: str) -> None:
-        """Notes a fault of one moment, such as "kill n1", in the log and in the run's folder. It changes no verdict."""
-        self._telling.note(NOTE, folded(text))
-
-    @contextlib.contextmanager
-    def fault(self, text: str) -> Iterator[None]:
-        """Notes a fault that lasts as long as this block, such as "cut n1 off". If the test has ended it does not begin, and raises
-        the exception of an operation; so a thread of faults ends with the clients."""
-        text = folded(text)
-        self._telling.note(BEGIN, text)
-        try:
-            yield
-        finally:
-            self._telling.note(END, text)
 
     # --- What is said of a key ---
 
@@ -200,11 +174,6 @@ class Monitor:
     def length(self) -> int:
         """The number of recorded events."""
         return self._telling.length
-
-    @property
-    def failure(self) -> Optional[NotLegal]:
-        """The verdict that is not legal, if there is one."""
-        return self._telling.failure
 
     @property
     def dropped(self) -> Dict[int, Unknown]:
@@ -235,27 +204,8 @@ class Monitor:
         """Ends the program. Gives the final verdict: `legal`, or the reply that was not; after dropped keys that of the first one."""
         return self._close(None)
 
-    def _close(self, error: Optional[BaseException]) -> str:
-        is_first = self._telling.verdict is None
-        verdict = self._telling.close(error)
-        if is_first and verdict == "legal" and error is None:
-            say_if_idle(self.counts)
-        return verdict
-
     def __enter__(self) -> Monitor:
         return self
-
-    def __reduce__(self) -> NoReturn:
-        not_sent(self)
-
-    def __exit__(
-        self, kind: Optional[Type[BaseException]], error: Optional[BaseException], trace: Optional[TracebackType]
-    ) -> None:
-        if error is not None and not self._telling.lock.is_here:
-            return  # a forked process ends, and the test goes on elsewhere
-        self._close(error)
-        if error is None and self.failure is not None:
-            raise copy.copy(self.failure)
 
 
 def run_folder(out: Union[str, os.PathLike[str]], begun: datetime.datetime, options: Options, program: str) -> RunFolder:

@@ -54,6 +54,10 @@ class Telling:
         self._begun: Set[int] = set()
         self._behind: Dict[int, int] = {}  # of a thread: how far its process in the run's folder is behind, by dropped keys
 
+    @property
+    def is_closed(self) -> bool:
+        return self.verdict is not None
+
     # --- Operations ---
 
     def settle(self, number: int) -> None:

@@ -5,11 +5,10 @@ import collections
 import re
 from typing import Counter, Dict, Tuple
 
-from ..history.kinds import ABSENT, ANSWERED
+from ..history.kinds import ABSENT, ANSWERED, BROUGHT
 from ..history.line import LINE
 
 MOST_HINTS = 16
-VERBS = {"write": "written", "cas": "set", "add": "added", "enqueue": "enqueued"}
 
 
 class Sources:
@@ -25,12 +24,12 @@ class Sources:
         began = self._began.pop(process, index)
         if kind == "invoke":
             self._began[process] = index
-        if name not in VERBS or kind not in ("invoke", "fail"):
+        if name not in BROUGHT or kind not in ("invoke", "fail"):
             return
         brought = key, part.strip("[]").split()[-1]
         self._brought[brought] += 1 if kind == "invoke" else -1
         if kind == "fail":
-            self._failed[brought] = f"{VERBS[name]} by process {process} in events {began}-{index}, recorded as a fail"
+            self._failed[brought] = f"{BROUGHT[name]} by process {process} in events {began}-{index}, recorded as a fail"
 
     def hint(self, line: str) -> str:
         """What is strange in the answer that this line tells, if anything."""

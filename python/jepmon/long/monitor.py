@@ -22,25 +22,19 @@ object's is, so the verdicts of all programs together are the verdict of the tes
 """
 from __future__ import annotations
 
-import contextlib
-import copy
 import datetime
 import os
 import pathlib
 import time
 import uuid
-from types import TracebackType
-from typing import Callable, Counter, Dict, Iterator, NoReturn, Optional, Type, Union
+from typing import Callable, Counter, Dict, Optional, Union
 
-from ..history.fault_notes import BEGIN, END, NOTE, folded
 from ..history.kinds import BUDGET, KEYS, MODELS
-from ..live.clients import run_clients
-from ..live.conclusion import say_if_idle
+from ..live.live_test import LiveTest
 from ..live.outcome_rules import Exceptions, endings
-from ..live.owner import not_sent
 from ..live.sender import test_unknown
 from ..live.values import NONE, missing
-from ..live.verdicts import NotLegal, Unknown
+from ..live.verdicts import Unknown
 from .folder import LongFolder
 from .handle import Handle
 from .limits import limits, room
@@ -52,7 +46,7 @@ EVENTS = 1 << 18
 NOT_ALL = "unknown: not all was judged"
 
 
-class LongMonitor:
+class LongMonitor(LiveTest):
     """Like Monitor, for any number of events, objects and clients. Any number of threads may use it, and coroutines. Arguments that Monitor
     has mean the same. A key over its budget is always left, and counted.
 
@@ -98,7 +92,7 @@ class LongMonitor:
         settings = Settings(program, model, budget, timeout, endings(expected, failed), begun, clock, names, {}, missing(initial, absent))
         folder = LongFolder(out, begun, keep, page) if out is not None else None
         self._model, self._folder, self._unknown = model, folder, unknown
-        self._parts = Parts(settings, limits(events, keys, concurrency), folder, forget)
+        self._judge = self._parts = Parts(settings, limits(events, keys, concurrency), folder, forget)
 
     def fresh(self, model: Optional[str] = None, changes: Optional[int] = None) -> Handle:
         """Gives a new object, as a handle. Its operations are blocks, like those of Monitor. A lock is released by op.object.release(), and op
@@ -107,28 +101,6 @@ class LongMonitor:
         if model not in MODELS:
             raise ValueError(f"a model is one of {', '.join(MODELS)}, not {model!r}")
         return Handle(self._parts, model, room(model, changes))
-
-    # --- Clients and faults ---
-
-    def run(self, work: Callable[[int], object], threads: int) -> None:
-        """Runs work(0) to work(threads - 1), each in a thread of its own. Raises a verdict that is not legal, else the first exception of a
-        thread. An exception in one thread, and Ctrl-C, end each other one at its next operation or fault."""
-        run_clients(self._parts, work, threads)
-
-    def note(self, text: str) -> None:
-        """Notes a fault of one moment, such as "kill n1", in the run's folder. It changes no verdict."""
-        self._parts.note(NOTE, folded(text))
-
-    @contextlib.contextmanager
-    def fault(self, text: str) -> Iterator[None]:
-        """Notes a fault that lasts as long as this block, such as "cut n1 off". If the test has ended it does not begin, and raises the
-        exception of an operation."""
-        text = folded(text)
-        self._parts.note(BEGIN, text)
-        try:
-            yield
-        finally:
-            self._parts.note(END, text)
 
     # --- What has come of it ---
 
@@ -154,11 +126,6 @@ class LongMonitor:
         return self._parts.begun
 
     segments = parts
-
-    @property
-    def failure(self) -> Optional[NotLegal]:
-        """The verdict that is not legal, if there is one."""
-        return self._parts.failure
 
     @property
     def unjudged(self) -> int:
@@ -189,29 +156,10 @@ class LongMonitor:
         legal, with its segment, and, each on a line, the counts of operations and objects that were not judged."""
         return self._close(None)
 
-    def _close(self, error: Optional[BaseException]) -> str:
-        is_first = not self._parts.is_closed
-        verdict = self._parts.close(error)
-        if is_first and verdict == "legal" and error is None:
-            say_if_idle(self.counts)
-        return verdict
-
     def __enter__(self) -> LongMonitor:
         return self
 
-    def __reduce__(self) -> NoReturn:
-        not_sent(self)
-
-    def __exit__(
-        self, kind: Optional[Type[BaseException]], error: Optional[BaseException], trace: Optional[TracebackType]
-    ) -> None:
-        if error is not None and not self._parts.lock.is_here:
-            return  # a forked process ends, and the test goes on elsewhere
-        verdict = self._close(error)
-        if error is not None:
-            return
-        if self.failure is not None:
-            raise copy.copy(self.failure)
+    def _test_all_judged(self, verdict: str) -> None:
         if self._unknown == "raise" and verdict != "legal":
             legal, _, not_judged = verdict.partition("\n")
             raise Unknown(f"{NOT_ALL}\n{not_judged}" if legal == "legal" else verdict, folder=str(self.folder or ""))
