@@ -90,7 +90,7 @@ def said(found: Decisions, total: int, seconds: int) -> Iterator[str]:
     yield (f"{counted(total, 'key')} over the budget, decided afterwards: {alive} by an order of the operations, {len(found) - alive} by a "
            f"part that is illegal; not decided: {total - len(found)}")
     if len(found) < total:
-        yield f"they had {seconds} s together: --wide-seconds N gives more"
+        yield f"they had {seconds} s together: --decide-seconds N gives more"
     by_test = [decided for decided in found.values() if not decided.is_proved]
     if any(decided.index is None for decided in by_test):
         yield "the orders were tested by a program that is not proved: a key with the status `ordered` makes no history legal"

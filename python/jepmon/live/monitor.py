@@ -176,11 +176,11 @@ class Monitor(LiveTest):
         return self._telling.length
 
     @property
-    def dropped(self) -> Dict[int, Unknown]:
+    def set_aside(self) -> Dict[int, Unknown]:
         """With unknown="drop": the keys over their budget, whose operations are no longer recorded, and their verdicts."""
         return self._telling.dropped
 
-    set_aside = dropped
+    dropped = set_aside  # its former name
 
     @property
     def counts(self) -> Dict[str, Counter[str]]:

@@ -69,11 +69,11 @@ class Block:
         return self._outcome
 
     @property
-    def told(self) -> bool:
+    def recorded(self) -> bool:
         """Whether the operation was recorded: not if its key or object was no longer judged."""
         return self._told
 
-    recorded = told
+    told = recorded  # its former name
 
     def fail(self) -> None:
         """The operation certainly did not take place."""

@@ -10,7 +10,7 @@ class Failed(Exception):
     __module__ = "jepmon"
 
 
-class NotLegal(Exception):
+class JepmonError(Exception):
     """A reply of jepmon that is not `legal`, with its key and index if it names them, the last events of the key, and a hint, which may
     be empty. `status` is the exit status of jepmon for it. `folder` is that of the run, if Monitor(out=..) keeps one; the first line
     of the text names it."""
@@ -36,24 +36,24 @@ class NotLegal(Exception):
         return "\n".join((named, *others, *self.events) + ((self.hint,) if self.hint else ()))
 
 
-JepmonError = NotLegal  # also of what is refused, or not known
+NotLegal = JepmonError  # its former name
 
 
-class Illegal(NotLegal, AssertionError):
+class Illegal(JepmonError, AssertionError):
     """The history is not linearizable: the store has answered wrongly, unless the model is wrong (see the hint)."""
 
     __module__ = "jepmon"
     status = 1
 
 
-class Unknown(NotLegal):
+class Unknown(JepmonError):
     """A key has had too many operations open or timed out at once: jepmon does not judge it from here on."""
 
     __module__ = "jepmon"
     status = 2
 
 
-class Refused(NotLegal):
+class Refused(JepmonError):
     """jepmon rejected an option or an event, has ended, or gave no reply: the test is at fault, not the store."""
 
     __module__ = "jepmon"

@@ -121,11 +121,11 @@ class LongMonitor(LiveTest):
             return self._parts.tally.events + sum(part.length for part in self._parts.untallied)
 
     @property
-    def parts(self) -> int:
+    def segments(self) -> int:
         """The number of programs that were started."""
         return self._parts.begun
 
-    segments = parts
+    parts = segments  # its former name
 
     @property
     def unjudged(self) -> int:
@@ -133,12 +133,12 @@ class LongMonitor(LiveTest):
         return self._parts.tally.unjudged
 
     @property
-    def dropped(self) -> int:
+    def set_aside(self) -> int:
         """The number of objects over their budget, which were judged up to there."""
         with self._parts.lock:
             return self._parts.tally.dropped + sum(len(part.dropped) for part in self._parts.untallied)
 
-    set_aside = dropped
+    dropped = set_aside  # its former name
 
     @property
     def counts(self) -> Dict[str, Counter[str]]:

@@ -29,7 +29,7 @@ DESCRIPTION = """Starts a server, lets clients use it while faults strike, and h
 
   {tool} etcd                           three nodes, killed, paused and cut off, for 20 seconds
   {tool} redis --object mutex           the lock SET NX PX
-  {tool} redis --plant lease            a known fault, which the test finds
+  {tool} redis --inject-bug lease       a known fault, which the test finds
   {tool} template > mine.py             one file to test your own server; then: {tool} ./mine.py
 
 The servers are Debian's, in folders and at ports of their own, and end with the test. Exit status: 0 legal, 1 illegal, or messages
@@ -55,7 +55,7 @@ def given(words: Optional[List[str]]) -> Optional[Given]:
     server = server_of(parsed.server)
     plant = server.plants.get(parsed.plant) if parsed.plant else None
     if parsed.plant and plant is None:
-        raise ServerError(f"--plant {parsed.plant}: {parsed.server} has {_listed(server.plants) or 'none'}")
+        raise ServerError(f"--inject-bug {parsed.plant}: {parsed.server} has {_listed(server.plants) or 'none'}")
     model = parsed.object or (plant.model if plant else next(iter(server.objects)))
     if model not in server.objects or plant and plant.model != model:
         raise ServerError(f"--object {model}: {parsed.server} has {_listed(server.objects)}" if not plant else
@@ -119,9 +119,9 @@ def _described() -> Iterator[str]:
         server = server_of(name)
         yield f"  {name:<12}{', '.join(server.objects)}"
         for plant, planted in server.plants.items():
-            yield f"      --plant {plant:<16}{planted.text}"
+            yield f"      --inject-bug {plant:<16}{planted.text}"
         for name, text in server.durabilities.items():
-            yield f"      --durability {name:<11}{text}"
+            yield f"      --durability {name:<16}{text}"
 
 
 def _positive(name: str, zero: bool = False) -> "type[float]":

@@ -11,7 +11,7 @@ from .node import Node
 from .strikes.kind import Strike
 from .workloads import Work
 
-ALL_STRIKES = ("kill", "pause", "cut", "part", "slow", "halves", "oneway", "ring", "bridge", "loss", "reorder", "corrupt")
+ALL_STRIKES = ("kill", "pause", "cut", "partition", "slow", "halves", "oneway", "ring", "bridge", "loss", "reorder", "corrupt")
 
 
 class Client:

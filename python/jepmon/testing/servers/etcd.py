@@ -143,7 +143,7 @@ class Etcd(Server):
     strikes = etcd_members.STRIKES
     cannot = {name: "etcd is written in Go, and does not ask the C library for the time" for name in ("bump", "strobe")}
     plants = {
-        "serializable": Plant("reads are serializable: a member answers without asking the others", "cas-register", "pause,part"),
+        "serializable": Plant("reads are serializable: a member answers without asking the others", "cas-register", "pause,partition"),
         "lease": Plant("the lease is shorter than the work", "mutex"),
     }
 

@@ -8,7 +8,7 @@ from __future__ import annotations
 import re
 from typing import Iterator, List, Match, Tuple
 
-from .edn_values import Many, Value
+from .values import Many, Value
 
 PLAIN = r"""[^{}\[\]()";\\\#^'`~@]*"""  # atoms, and what stands between them
 STRING = r'"[^"\\]*(?:\\.[^"\\]*)*"'

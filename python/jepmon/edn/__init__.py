@@ -8,10 +8,10 @@ from __future__ import annotations
 
 from typing import Callable, Iterable, Iterator, List, Match, NamedTuple, NoReturn, Optional, Sequence, Tuple, Union
 
-from . import edn_profile
-from .edn_tokens import (ATOM, CLOSE, COMMENT, DEPTH_OF_MAP, END, MAP, MARKS, METADATA, OPEN, PREFIX, RUN, STRANGE, TOKEN, TOKEN_OR_MAP,
-                         UNENDED, atoms_of, kind_of, members_of)
-from .edn_values import CLOSING, Many, Value, canonical, fields_of, has_twice, integer, keyword, shown, spelling, string
+from . import profile as edn_profile
+from .tokens import (CLOSE, COMMENT, DEPTH_OF_MAP, END, MAP, MARKS, METADATA, OPEN, PREFIX, RUN, STRANGE, TOKEN, TOKEN_OR_MAP, UNENDED,
+                     atoms_of, kind_of, members_of)
+from .values import CLOSING, Many, Value, canonical, fields_of, has_twice, integer, keyword, shown, spelling, string
 
 __all__ = ["Element", "Many", "Reader", "Rows", "Unreadable", "Value", "canonical", "fields_of", "integer", "keyword", "shown", "spelling",
            "string"]
