@@ -1,4 +1,4 @@
-"""Names that were replaced by plainer ones: the former one means the same."""
+"""Former names of options and attributes mean the same as the plainer names that replaced them."""
 from __future__ import annotations
 
 import unittest
@@ -9,7 +9,6 @@ import jepmon.history.fault_notes
 import jepmon.notes
 import jepmon.shrink
 from jepmon.judge import words
-from jepmon.live.operation import Block
 from jepmon.testing import cli_options
 from jepmon.testing.server import ALL_STRIKES
 from jepmon.testing.strikes.known import STRIKES
@@ -46,9 +45,19 @@ class Python(unittest.TestCase):
         self.assertEqual(jepmon.JepmonError.__name__, "JepmonError")
 
     def test_attributes(self) -> None:
-        for owner, former, plain in ((Block, "told", "recorded"), (jepmon.Monitor, "dropped", "set_aside"),
-                                     (jepmon.LongMonitor, "dropped", "set_aside"), (jepmon.LongMonitor, "parts", "segments")):
-            self.assertIs(getattr(owner, former), getattr(owner, plain))
+        with jepmon.Monitor(budget=1, unknown="drop") as monitor:
+            for number in range(3):
+                with monitor.write(0, number) as op:
+                    pass
+                with monitor.write(0, number) as first, monitor.write(0, number + 1) as second:
+                    pass
+        self.assertEqual((monitor.dropped, list(monitor.dropped)), (monitor.set_aside, [0]))
+        self.assertEqual([(one.told, one.recorded) for one in (op, first, second)], [(False, False)] * 3)
+        with jepmon.LongMonitor() as long:
+            with long.fresh("register").write(1) as given:
+                pass
+        self.assertEqual((long.parts, long.dropped, given.told), (long.segments, long.set_aside, given.recorded))
+        self.assertEqual((long.segments, long.set_aside, given.recorded), (1, 0, True))
 
     def test_modules(self) -> None:
         self.assertIs(jepmon.notes.Fault, jepmon.history.fault_notes.Fault)

@@ -15,9 +15,9 @@ from ..from_jepsen.meant import NUMBERS, text_of
 from ..history import Event
 from ..history.kinds import REGISTERS
 from ..program import KeyLine
+from ..program.report import DEAD
 from ..tools.errors import ProgramError
 from . import doubts
-from .bad_keys import DEAD
 from .models import ALIKE, Choice
 from .words import Given
 

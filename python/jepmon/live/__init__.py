@@ -1,1 +1,1 @@
-"""A live test: the Monitor, and the modules that it is made of."""
+"""Live tests: the Monitor, and the modules that it imports."""

@@ -46,7 +46,7 @@ class Keys:
         """One of the `count` keys that are open to writes."""
         with self._lock:
             for place, key in enumerate(self._open):
-                if key in self._monitor.dropped or self._monitor.timeouts(key) >= self._limit:
+                if key in self._monitor.set_aside or self._monitor.timeouts(key) >= self._limit:
                     self._leave(place)
             return self._drawn(self._open, draws or self._draws)
 
@@ -76,7 +76,7 @@ class Keys:
         return self._monitor.pending(key) + self._monitor.timeouts(key)
 
     def _judged(self, keys: List[int]) -> List[int]:
-        dropped = self._monitor.dropped
+        dropped = self._monitor.set_aside
         return [key for key in keys if key not in dropped] if dropped else keys
 
     def _leave(self, place: int) -> None:

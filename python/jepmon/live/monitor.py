@@ -180,7 +180,10 @@ class Monitor(LiveTest):
         """With unknown="drop": the keys over their budget, whose operations are no longer recorded, and their verdicts."""
         return self._telling.dropped
 
-    dropped = set_aside  # its former name
+    @property
+    def dropped(self) -> Dict[int, Unknown]:
+        """The former name of set_aside."""
+        return self.set_aside
 
     @property
     def counts(self) -> Dict[str, Counter[str]]:

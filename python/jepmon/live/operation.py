@@ -73,7 +73,10 @@ class Block:
         """Whether the operation was recorded: not if its key or object was no longer judged."""
         return self._told
 
-    told = recorded  # its former name
+    @property
+    def told(self) -> bool:
+        """The former name of recorded."""
+        return self.recorded
 
     def fail(self) -> None:
         """The operation certainly did not take place."""

@@ -125,7 +125,10 @@ class LongMonitor(LiveTest):
         """The number of programs that were started."""
         return self._parts.begun
 
-    parts = segments  # its former name
+    @property
+    def parts(self) -> int:
+        """The former name of segments."""
+        return self.segments
 
     @property
     def unjudged(self) -> int:
@@ -138,7 +141,10 @@ class LongMonitor(LiveTest):
         with self._parts.lock:
             return self._parts.tally.dropped + sum(len(part.dropped) for part in self._parts.untallied)
 
-    dropped = set_aside  # its former name
+    @property
+    def dropped(self) -> int:
+        """The former name of set_aside."""
+        return self.set_aside
 
     @property
     def counts(self) -> Dict[str, Counter[str]]:

@@ -1,4 +1,4 @@
-"""What `jepmon check` says of a history: a line for each key, and the verdict. Such lines are read and written here alone."""
+"""The report of `jepmon check`: a line for each key, and the verdict. No other module reads or writes such lines."""
 from __future__ import annotations
 
 import re
@@ -8,8 +8,8 @@ STATUSES = {"legal": 0, "illegal": 1, "unknown": 2, "refused": 3}  # by the firs
 KEY_LINE = re.compile(r"key (\d+) model (\S+) budget (\d+) events (\d+) status ([a-z-]+)(?: (\d+))?")
 BAD_KEY = re.compile(r"(illegal|unknown) key (\d+) index (\d+)")
 REFUSAL = re.compile(r"refused .* event (\d+)")
-DEAD = ("dead", "dead-by")  # the statuses of a key that is illegal
-GOOD = ("alive", "confirmed")  # and those of one that is legal; of any other it is unknown
+DEAD = ("dead", "dead-by")  # the statuses of an illegal key
+GOOD = ("alive", "confirmed")  # the statuses of a legal key; a key with another status is unknown
 
 Place = Tuple[int, int]  # the index of an event, and the key
 
@@ -31,7 +31,7 @@ class KeyLine(NamedTuple):
 
 
 def key_line(text: str) -> Optional[KeyLine]:
-    """The line of a key that this is, if it is one."""
+    """Reads the line of a key; None if it is another line."""
     match = KEY_LINE.fullmatch(text)
     if match is None:
         return None
@@ -40,11 +40,11 @@ def key_line(text: str) -> Optional[KeyLine]:
 
 
 class Verdict(NamedTuple):
-    """The last line of a report that is no refusal."""
+    """The last line of a report without a refusal."""
 
     word: str  # "legal", "illegal" or "unknown"
-    found: Optional[Place] = None  # what it names
-    keys: int = 0  # in the history, if they were counted
+    found: Optional[Place] = None  # the event and key that it names
+    keys: int = 0  # the keys of the history, if they were counted
 
     @property
     def line(self) -> str:
@@ -56,13 +56,13 @@ class Verdict(NamedTuple):
 
 
 def verdict_in(line: str) -> Optional[Verdict]:
-    """The verdict that a line is, if it is one that names a key."""
+    """Reads a verdict that names a key; None if it is another line."""
     found = BAD_KEY.fullmatch(line)
     return Verdict(found[1], (int(found[3]), int(found[2]))) if found else None
 
 
 def verdict_of(dead: Optional[Place], undecided: Optional[Place], keys: int = 0) -> Verdict:
-    """The verdict by the first event at which a key is dead, and the first at which one is not decided."""
+    """Gives the verdict. `dead` is the first event at which a key is dead, and `undecided` the first at which a key is not decided."""
     return Verdict("illegal", dead, keys) if dead else Verdict("unknown", undecided, keys) if undecided else Verdict("legal", None, keys)
 
 
@@ -80,8 +80,8 @@ class Report(NamedTuple):
 
 
 def report_of(output: str, error: str, status: int) -> Report:
-    """What a check has printed, taken apart. Where its output is empty, the refusal is on standard error."""
-    refusals = [line for line in error.splitlines() if line.startswith("refused ")]  # what is usually the cause stands behind it
+    """Reads the output of a check. If the output is empty, the refusal is on standard error."""
+    refusals = [line for line in error.splitlines() if line.startswith("refused ")]  # the lines after it have its usual cause
     lines = output.splitlines() or refusals or error.splitlines() or ["refused"]
     keys = [found for found in map(key_line, lines) if found is not None]
     verdict, refusal = verdict_in(lines[-1]), REFUSAL.match(lines[-1])

@@ -35,9 +35,9 @@ def lines_of(names: Sequence[str]) -> Iterator[bytes]:
 def verdict_on(judged: Iterable[Judged]) -> Verdict:
     """What all results together say."""
     results = list(judged)
-    least = (min((place for place in places if place is not None), default=None)
-             for places in ([result.dead for result in results], [result.undecided for result in results]))
-    return verdict_of(*least, keys=sum(result.keys for result in results))
+    dead, undecided = (min((place for place in places if place is not None), default=None)
+                       for places in ([result.dead for result in results], [result.undecided for result in results]))
+    return verdict_of(dead, undecided, sum(result.keys for result in results))
 
 
 def write_report(lines: Iterable[bytes], verdict: str, out: BinaryIO) -> None:

@@ -211,7 +211,7 @@ class Test:
                 while True:
                     number = next(turn) % len(clients)
                     op = attempt(clients[number])
-                    if op.outcome == "ok" or op.value is None or not op.told:
+                    if op.outcome == "ok" or op.value is None or not op.recorded:
                         return op
                     cluster.test_alive()
                     if time.monotonic() > end:
@@ -246,7 +246,7 @@ class Test:
             status = 2
         elif not_judged:
             verdict, status, reason = "unknown", 2, "what was judged is legal, and not all was judged"
-        return Outcome(verdict, reason, status, counts, monitor.length, self.at_work, max(self.ended - self.begun, 0.001), monitor.parts,
+        return Outcome(verdict, reason, status, counts, monitor.length, self.at_work, max(self.ended - self.begun, 0.001), monitor.segments,
                        not_judged, self.struck, work.lost, monitor.folder)
 
 

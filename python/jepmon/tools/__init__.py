@@ -1,1 +1,1 @@
-"""What the commands of the package share."""
+"""Common parts of the package's commands."""
