@@ -7,7 +7,6 @@ second and peak memory of a whole script, and the time from a line to its reply 
 import argparse
 import os
 import pathlib
-import resource
 import subprocess
 import sys
 import time

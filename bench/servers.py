@@ -26,13 +26,13 @@ import tempfile
 TOP = pathlib.Path(__file__).resolve().parent.parent
 sys.path.insert(0, str(TOP / "python"))
 
+from jepmon.testing.cli_options import SERVERS  # noqa: E402
 from jepmon.testing.strikes.known import STRIKES  # noqa: E402
-from jepmon.testing.words import SERVERS  # noqa: E402
 
 TIME = re.compile(r":time ([0-9]+)\}?$")
 RATE = re.compile(r"^([0-9,]+) operations a second were ok, ([0-9.]+) %", re.M)
 WORD = re.compile(r"\b(LOST or STALE|LOST|STALE|DIVERGED|EARLIER)\b")
-STRUCK = ("none", "all", "kill,pause", "cut,part,slow", "loss,reorder,corrupt", "power,tear", "bump,strobe", "client-pause,client-crash")
+STRUCK = ("none", "all", "kill,pause", "cut,partition,slow", "loss,reorder,corrupt", "power,tear", "bump,strobe", "client-pause,client-crash")
 
 
 def kind_of(server):
@@ -40,7 +40,7 @@ def kind_of(server):
 
 
 def ran(words, room):
-    command = [sys.executable, "-m", "jepmon", "test", *words, "--out", str(room), "--least", "1"]
+    command = [sys.executable, "-m", "jepmon", "test", *words, "--out", str(room), "--min-ok", "1"]
     return subprocess.run(command, stdin=subprocess.DEVNULL, stdout=subprocess.PIPE, stderr=subprocess.PIPE, universal_newlines=True,
                           env={**os.environ, "PYTHONPATH": str(TOP / "python")})
 
@@ -85,7 +85,7 @@ def trials(server):
     """The words of each, by its name."""
     kind = kind_of(server)
     counts = server == "beanstalkd"  # what is lost is counted at the end
-    found = {f"{server}/{plant}": [server, "--plant", plant, "--time", "40" if counts or plant == "early" else "120"] for plant in kind.plants}
+    found = {f"{server}/{plant}": [server, "--inject-bug", plant, "--time", "40" if counts or plant == "early" else "120"] for plant in kind.plants}
     for name in list(kind.durabilities)[1:]:
         found[f"{server}/{name}"] = [server, "--durability", name, "--nemesis", "power", "--nodes", "1", "--time", "40" if counts else "60"]
     return found

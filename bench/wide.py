@@ -20,7 +20,7 @@ sys.path.insert(0, str(pathlib.Path(__file__).resolve().parent.parent / "python"
 from jepmon.history import Event, operations, read_history  # noqa: E402
 from jepmon.objects import START, rule  # noqa: E402
 from jepmon.program import Options, check  # noqa: E402
-from jepmon.shrinking.part import spelled  # noqa: E402
+from jepmon.history.line import event_line, part_text  # noqa: E402
 from jepmon.wide import Clock, decide  # noqa: E402
 
 SECONDS = 10.0  # of the processor, for each key
@@ -122,7 +122,7 @@ def text_of(told: List[Tuple[Op, str]], clients: int) -> str:
             thread[id(op)] = heapq.heappop(free)
         of = thread[id(op)]
         part = op.answer if kind == "ok" else op.part
-        lines.append(f"{{:type :{kind}, :process {process[of]}, :f :{op.name}, :value [0 {spelled(part)}]}}\n")
+        lines.append(event_line(kind, process[of], op.name, 0, part_text(part)) + "\n")
         if kind != "invoke":
             process[of] += clients if kind == "info" else 0
             heapq.heappush(free, of)

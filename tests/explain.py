@@ -15,12 +15,13 @@ import tempfile
 from typing import Dict, List
 
 import forked
+import program as tested
 from case_loop import LIMIT, Case, by_model, differing, given, read, run_cases, words
 
 TOP = pathlib.Path(__file__).resolve().parent.parent
 CASES = TOP / "tests" / "explain"
 EXPLAIN = TOP / "examples" / "explain"
-PROGRAM = os.environ.get("JEPMON") or str(TOP / "crates" / "jepmon" / "out" / "jepmon")
+PROGRAM = str(tested.PROGRAM)
 
 
 def explained(arguments: List[str], text: bytes = b"", program: str = PROGRAM) -> "subprocess.CompletedProcess[bytes]":

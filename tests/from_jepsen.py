@@ -7,7 +7,6 @@ judged as the output's own advice says. What is refused is given to jepmon check
 With words, it runs the cases of these names alone.
 """
 import functools
-import os
 import pathlib
 import re
 import subprocess
@@ -17,11 +16,11 @@ from typing import List
 
 import forked
 from case_loop import LIMIT, Case, differing, given, read, run_cases, words
+from program import PROGRAM
 
 TOP = pathlib.Path(__file__).resolve().parent.parent
 CASES = TOP / "tests" / "from-jepsen"
 FILTER = TOP / "examples" / "from-jepsen"
-PROGRAM = pathlib.Path(os.environ.get("JEPMON") or TOP / "crates" / "jepmon" / "out" / "jepmon")
 ADVICE = re.compile(rb"judge it by: jepmon check FILE (.*?)(?: \(or .*)?\n")
 SCRIPT = re.compile(rb"judge it by jepmon script (.*?), these lines before it:\n")
 

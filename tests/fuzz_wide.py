@@ -13,7 +13,7 @@ TOP = pathlib.Path(__file__).resolve().parents[1]
 sys.path[:0] = [str(TOP), str(TOP / "python")]
 
 from jepmon.history import Event, operations  # noqa: E402
-from jepmon.kinds import BUDGETS, MODELS  # noqa: E402
+from jepmon.history.kinds import BUDGETS, MODELS  # noqa: E402
 from jepmon.program import KeyLine, Options  # noqa: E402
 from jepmon.wide import Clock, decide  # noqa: E402
 from tests.python.fuzz import TOGETHER, batches, checked  # noqa: E402

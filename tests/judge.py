@@ -97,7 +97,7 @@ def run_cases_of_check() -> List[str]:
 
 def with_defaults(options: List[str]) -> List[str]:
     """The options of a check with what jepmon takes where they say nothing. What is over its budget stays so."""
-    return (options + ["--wide-seconds", "0", "--least", "0", "--nil-is-unknown", "--by-ends"] + ([] if "--model" in options else ["--model", "register"])
+    return (options + ["--decide-seconds", "0", "--min-ok", "0", "--nil-is-unknown", "--by-ends"] + ([] if "--model" in options else ["--model", "register"])
             + ([] if "--concurrency" in options else ["--concurrency", "2"]))
 
 
@@ -194,7 +194,7 @@ def run_closed_pipe() -> List[str]:
     with tempfile.TemporaryDirectory() as folder:
         lines = "".join(f"{{:type :{kind}, :process 0, :f :write, :value [{key} 1]}}\n" for key in range(8000) for kind in ("invoke", "ok"))
         pathlib.Path(folder, "many.edn").write_text(lines)
-        child = subprocess.Popen(JUDGE + ["many.edn", "--least", "0"], stdout=subprocess.PIPE, stderr=subprocess.PIPE, env=environment(), cwd=folder)
+        child = subprocess.Popen(JUDGE + ["many.edn", "--min-ok", "0"], stdout=subprocess.PIPE, stderr=subprocess.PIPE, env=environment(), cwd=folder)
         assert child.stdout is not None and child.stderr is not None
         first = child.stdout.readline()
         child.stdout.close()
@@ -257,7 +257,7 @@ def run_many_events() -> List[str]:
     """2,000 events of JSON take seconds, not minutes."""
     row = '{{"client": {0}, "op": "put", "key": "k{1}", "value": "v{2}", "call": {2}, "return": {3}}}\n'
     text = "".join(row.format(i % 5, i % 50, i, i + 3) for i in range(1_000))
-    got = ran(["--no-cause", "--least", "0"], text.encode())
+    got = ran(["--no-cause", "--min-ok", "0"], text.encode())
     return differing("the verdict", (got.returncode, got.stdout.splitlines()[-1:]), (0, [b"legal"]))
 
 

@@ -2,7 +2,6 @@
 the path, so it is imported first."""
 import contextlib
 import io
-import os
 import pathlib
 import random
 import subprocess
@@ -14,9 +13,10 @@ from typing import Callable, Dict, Iterator, List, Optional, Type
 TOP = pathlib.Path(__file__).resolve().parent.parent
 sys.path.insert(0, str(TOP / "python"))
 
+import program as tested  # noqa: E402
 from jepmon import Monitor, Refused  # noqa: E402
 
-PROGRAM = os.environ.get("JEPMON") or str(TOP / "crates" / "jepmon" / "out" / "jepmon")
+PROGRAM = str(tested.PROGRAM)
 THREADS = 4
 KEYS = 3
 

@@ -2,7 +2,6 @@
 import asyncio
 import io
 import subprocess
-import time
 from typing import List, Tuple
 
 from live_base import PROGRAM, THREADS, kinds_told, raised

@@ -4,7 +4,6 @@ toolchain that is one. Ends with 'N passed, M failed'. With words, it runs the t
 """
 import contextlib
 import hashlib
-import os
 import pathlib
 import shutil
 import subprocess

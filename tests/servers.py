@@ -20,13 +20,13 @@ TOP = pathlib.Path(__file__).resolve().parent.parent
 sys.path.insert(0, str(TOP / "python"))
 
 from jepmon.testing import Server, ServerError, clocks, disks, places  # noqa: E402
-from jepmon.testing.words import SERVERS  # noqa: E402
+from jepmon.testing.cli_options import SERVERS  # noqa: E402
 from program import PROGRAM  # noqa: E402
 
 SECONDS, UNTIL_FOUND = 20, 120
 NONE = 3  # the status of what came to no verdict
 GOOD = (0, 2)  # on a busy machine so many operations may time out at once that a key is unknown
-PATIENT = ["--least", "3", "--patience", "600"]
+PATIENT = ["--min-ok", "3", "--startup-timeout", "600"]
 PATIENCE = 1800.0  # seconds, on a busy machine
 COUNTED = [("rabbitmq", "early")]
 # beanstalkd syncs by its wall clock: once that was set back, it acknowledges what it has not synced, and a loss of power loses it.
@@ -64,7 +64,7 @@ def tests(server: str) -> List[Test]:
         found += [Test(server, name, ["--durability", name, "--nemesis", "power", "--nodes", "1", "--time", str(seconds(server, name))], (1,))
                   for name in list(kind.durabilities)[1:]]
     found += [Test(server, name, ["--time", str(UNTIL_FOUND)], (1,), str(TOP / path)) for name, path in FILES.get(server, {}).items()]
-    return found + [Test(server, plant, ["--plant", plant, "--time", str(seconds(server, plant))], (1,)) for plant in kind.plants]
+    return found + [Test(server, plant, ["--inject-bug", plant, "--time", str(seconds(server, plant))], (1,)) for plant in kind.plants]
 
 
 def seconds(server: str, plant: str) -> int:

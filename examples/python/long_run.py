@@ -24,7 +24,7 @@ from typing import Dict, Iterator, List, Optional
 if importlib.util.find_spec("jepmon") is None:  # it is not installed: the one of this repository
     sys.path.insert(0, str(pathlib.Path(__file__).resolve().parents[2] / "python"))
 
-from jepmon import LongMonitor, NotLegal  # noqa: E402
+from jepmon import JepmonError, LongMonitor  # noqa: E402
 from jepmon.long import Handle  # noqa: E402
 
 CLIENTS = 200
@@ -75,7 +75,7 @@ def watch(monitor: LongMonitor, seconds: float, done: threading.Event) -> None:
     while not done.wait(min(PAUSE, max(0.0, begin + seconds - time.monotonic()))):
         if time.monotonic() >= begin + seconds:
             done.set()
-        print(f"{time.monotonic() - begin:.0f} seconds, {monitor.length} events, {monitor.parts} programs so far", flush=True)
+        print(f"{time.monotonic() - begin:.0f} seconds, {monitor.length} events, {monitor.segments} programs so far", flush=True)
 
 
 def words() -> argparse.Namespace:
@@ -103,12 +103,12 @@ def main() -> int:
                 for one in register.objects:
                     with one.read() as op:
                         op.value = store.get(op.name)
-    except NotLegal as found:
+    except JepmonError as found:
         print(found)
     finally:
         done.set()
     verdict = monitor.close()
-    print(f"{monitor.length} events, {monitor.parts} programs: {verdict}")
+    print(f"{monitor.length} events, {monitor.segments} programs: {verdict}")
     if monitor.failure is not None:
         return monitor.failure.status
     return 0 if verdict == "legal" else 2

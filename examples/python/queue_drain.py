@@ -20,7 +20,7 @@ from typing import Deque, Dict, Optional, Set
 if importlib.util.find_spec("jepmon") is None:  # it is not installed: the one of this repository
     sys.path.insert(0, str(pathlib.Path(__file__).resolve().parents[2] / "python"))
 
-from jepmon import Keys, Monitor, NotLegal  # noqa: E402
+from jepmon import JepmonError, Keys, Monitor  # noqa: E402
 
 PAIRS = 4  # of a producer and a consumer, each with queues (keys) of its own: few clients on each, so that no budget is exceeded
 MESSAGES = 100  # of each pair
@@ -91,7 +91,7 @@ def main() -> int:
             for key in used:
                 while receive(monitor, queue, key, received):  # until it is empty
                     pass
-    except NotLegal as found:
+    except JepmonError as found:
         print(found)
         return found.status
     # what timed out may have been put in, or taken out, so that so many are no loss

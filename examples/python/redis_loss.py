@@ -22,7 +22,7 @@ from typing import Iterator
 if importlib.util.find_spec("jepmon") is None:  # it is not installed: the one of this repository
     sys.path.insert(0, str(pathlib.Path(__file__).resolve().parents[2] / "python"))
 
-from jepmon import Keys, Monitor, NotLegal, Operation  # noqa: E402
+from jepmon import JepmonError, Keys, Monitor, Operation  # noqa: E402
 from redis_server import At, Client, RedisError, Server, status_of  # noqa: E402
 
 CLIENTS = 5
@@ -89,11 +89,11 @@ def main() -> int:
             monitor.run(work, CLIENTS + 1)
             for key in keys.used:  # now that the faults are over
                 read(monitor, Client(server.at), key)
-    except NotLegal as found:
+    except JepmonError as found:
         print(f"{monitor.length} events: {found}")
         return found.status
     print(f"{monitor.length} events, {len(keys.used)} keys: {monitor.close()}")
-    return 2 if monitor.dropped else 0
+    return 2 if monitor.set_aside else 0
 
 
 if __name__ == "__main__":

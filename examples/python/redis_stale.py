@@ -19,7 +19,7 @@ from typing import Iterator
 if importlib.util.find_spec("jepmon") is None:  # it is not installed: the one of this repository
     sys.path.insert(0, str(pathlib.Path(__file__).resolve().parents[2] / "python"))
 
-from jepmon import Keys, Monitor, NotLegal  # noqa: E402
+from jepmon import JepmonError, Keys, Monitor  # noqa: E402
 from redis_server import At, Client, RedisError, Server, status_of  # noqa: E402
 
 CLIENTS = 5
@@ -63,7 +63,7 @@ def main() -> int:
         with monitor, Server() as primary, Server(primary) as replica:
             reader = (replica if given.read_at == "replica" else primary).at
             monitor.run(lambda number: client(monitor, keys, number, values, primary.at, reader, end), CLIENTS)
-    except NotLegal as found:
+    except JepmonError as found:
         print(f"{monitor.length} events: {found}")
         return found.status
     print(f"{monitor.length} events: legal")

@@ -54,4 +54,4 @@ if __name__ == "__main__":
         test_reads_are_not_stale()
     except Exception as fault:
         traceback.print_exc()
-        sys.exit(getattr(fault, "status", 3))  # of NotLegal: that of jepmon
+        sys.exit(getattr(fault, "status", 3))  # of a JepmonError: that of jepmon

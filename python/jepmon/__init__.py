@@ -15,19 +15,19 @@ if sys.version_info < (3, 9):  # so this file and __main__.py have no word that 
     raise ImportError(_SAID)
 
 if TYPE_CHECKING:
-    from .keys import Keys
-    from .kinds import ABSENT
+    from .history.kinds import ABSENT
+    from .live.keys import Keys
+    from .live.monitor import Monitor
+    from .live.operation import Operation
+    from .live.verdicts import Failed, Illegal, JepmonError, NotLegal, Refused, Unknown
     from .long import LongMonitor
-    from .monitor import Monitor
-    from .operation import Operation
-    from .verdicts import Failed, Illegal, NotLegal, Refused, Unknown
 
 __version__ = "1.5.0"
-__all__ = ["ABSENT", "Failed", "Illegal", "Keys", "LongMonitor", "Monitor", "NotLegal", "Operation", "Refused", "Unknown"]
+__all__ = ["ABSENT", "Failed", "Illegal", "JepmonError", "Keys", "LongMonitor", "Monitor", "NotLegal", "Operation", "Refused", "Unknown"]
 
 # Where each name is; its module is loaded at first use, so that the tools begin fast.
-_MODULES = {"ABSENT": "kinds", "Keys": "keys", "LongMonitor": "long", "Monitor": "monitor", "Operation": "operation", "Failed": "verdicts",
-            "Illegal": "verdicts", "NotLegal": "verdicts", "Refused": "verdicts", "Unknown": "verdicts"}
+_MODULES = {"ABSENT": "history.kinds", "Keys": "live.keys", "LongMonitor": "long", "Monitor": "live.monitor", "Operation": "live.operation",
+            **dict.fromkeys(("Failed", "Illegal", "JepmonError", "NotLegal", "Refused", "Unknown"), "live.verdicts")}
 
 
 def __getattr__(name: str) -> object:

@@ -14,13 +14,13 @@ import argparse
 import sys
 from typing import Iterator, List, Optional
 
-from . import command
 from .forms import Refused, door, files, mapping_words, meant_words
 from .forms.recorded import Options, Recorded, recorded
+from .history.kinds import KEYS
 from .judge import models
 from .judge.hints import outcomes
 from .judge.words import number
-from .kinds import KEYS
+from .tools import command
 
 NAME = "from-json"
 NOTHING = "from-json: nothing was turned; standard error says why\n"

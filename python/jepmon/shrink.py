@@ -11,7 +11,7 @@ from __future__ import annotations
 
 from typing import Collection, FrozenSet, List, NamedTuple, Optional, Sequence, Set
 
-from .effort import Effort
+from .causes.effort import Effort
 from .history import Event, Operation, of_key, operations
 from .program import Options, Report, check
 from .shrinking import ways
@@ -76,7 +76,7 @@ class Search:
         if left is None:
             return None
         before = -1
-        while before != len(left.operations) and not self.is_over():
+        while before != len(left.operations) and not self.is_spent:
             before = len(left.operations)
             for number in range(len(ways(self.options.model, []))):
                 less = self.round(left.operations, ways(self.options.model, left.operations)[number])
@@ -121,7 +121,7 @@ class Search:
         free = self.free(whole, units)
         best, out = Left(whole, frozenset()), set()  # type: Left, Set[int]
         size = len(free)
-        while size > 0 and not self.is_over():
+        while size > 0 and not self.is_spent:
             for piece in [free[at:at + size] for at in range(0, len(free), size)]:
                 tried = with_dragged(units, [*out, *piece])
                 less = taken_out(whole, units, tried)
@@ -133,9 +133,6 @@ class Search:
 
     def is_hinted(self, operation: Operation) -> bool:
         return any(event is not None and event.index in self.hints for event in (operation.invocation, operation.completion))
-
-    def is_over(self) -> bool:
-        return self.is_spent
 
     def is_illegal(self, part: List[Operation]) -> bool:
         """Whether the program calls it illegal at its last event. No, where there is no effort left for that."""

@@ -9,8 +9,8 @@ import re
 import tempfile
 from typing import Dict, FrozenSet, List, NamedTuple, Sequence, Tuple
 
-from jepmon import command
 from jepmon.judge import tool
+from jepmon.tools import command
 
 from .printed import Printed
 

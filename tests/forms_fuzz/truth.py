@@ -4,7 +4,7 @@ from __future__ import annotations
 import random
 from typing import Callable, Dict, Iterator, List, Optional, Sequence, Tuple
 
-from jepmon.kinds import BUDGETS
+from jepmon.history.kinds import BUDGETS
 from jepmon.program import Options
 from tests.python.fuzz import lines_of
 from tests.python.shard_histories import Told, plain

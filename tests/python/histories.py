@@ -5,6 +5,7 @@ import random
 from typing import Any, Dict, List, NamedTuple, Optional, Tuple
 
 from jepmon.history import Event
+from jepmon.history.line import event_line, part_text
 from jepmon.objects import START, rule
 
 NAMES = {
@@ -45,7 +46,7 @@ class Clients:
 
     def event(self, kind: str, client: int, name: str, key: int, value: Any) -> Event:
         process = self.process[client]
-        text = f"{{:type :{kind}, :process {process}, :f :{name}, :value [{key} {spelled(value)}]}}"
+        text = event_line(kind, process, name, key, part_text(value))
         self.index += 1
         if kind == "info":
             self.process[client] += self.clients
@@ -122,16 +123,6 @@ class Clients:
         if draw.random() < 0.05:
             return None
         return (found or frozenset()) ^ {draw.randrange(way.values)}
-
-
-def spelled(value: Any) -> str:
-    if value is None:
-        return "nil"
-    if isinstance(value, frozenset):
-        return "#{" + " ".join(map(str, sorted(value))) + "}"
-    if isinstance(value, tuple):
-        return "[" + " ".join(map(str, value)) + "]"
-    return str(value)
 
 
 def text_of(events: List[Event]) -> bytes:

@@ -5,6 +5,8 @@ from __future__ import annotations
 import random
 from typing import Any, Dict, List, Optional, Tuple
 
+from jepmon.history.line import event_line, part_text
+
 NAMES = {
     "register": ("read", "write"),
     "cas-register": ("read", "write", "cas"),
@@ -63,14 +65,6 @@ class Store:
         return True, value
 
 
-def edn(part: Any) -> str:
-    if part is None:
-        return "nil"
-    if isinstance(part, frozenset):
-        return "#{" + " ".join(map(str, sorted(part))) + "}"
-    return f"[{part[0]} {part[1]}]" if isinstance(part, tuple) else str(part)
-
-
 def made(model: str, clients: int, count: int, seed: int = 1, wrong_from: Optional[int] = None, timeouts: float = 0.0,
          values: int = 0, key: int = 7, pause: float = 0.3, times: bool = False) -> str:
     """A history of `count` operations of one key. From operation `wrong_from` on the object is wrong. So many of the changes
@@ -84,7 +78,7 @@ def made(model: str, clients: int, count: int, seed: int = 1, wrong_from: Option
 
     def tell(kind: str, client: int, name: str, part: Any, further: str = "") -> None:
         clock = f", :time {at}" if times else ""
-        lines.append(f"{{:type :{kind}, :process {process[client]}, :f :{name}, :value [{key} {edn(part)}]{clock}{further}}}")
+        lines.append(event_line(kind, process[client], name, key, part_text(part), clock + further))
 
     while begun < count or open_:
         at += draw.randrange(1, 2_000_000)

@@ -4,7 +4,8 @@ from __future__ import annotations
 import functools
 from typing import Any, Callable, Dict, List
 
-from jepmon import history, page, walk
+from jepmon import history, page
+from jepmon.objects import configurations as walk
 
 from .made_histories import made
 

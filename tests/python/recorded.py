@@ -9,6 +9,7 @@ import sys
 from typing import Dict, Iterator, List, NamedTuple, Optional, Tuple
 
 from jepmon.history import Event, HistoryError, read_history
+from jepmon.history.kinds import MODELS
 
 from . import TOP
 
@@ -21,11 +22,16 @@ class Judged(NamedTuple):
     name: str
     events: List[Event]
     concurrency: int
-    models: Dict[int, str]  # of keys
+    models: Dict[int, str]  # of keys, as the program names their kinds
     budgets: Dict[int, int]
     model: str  # of every other key
     budget: int
     verdict: str
+
+    @property
+    def is_wide(self) -> bool:
+        """Whether a key is of a wide kind."""
+        return not {self.model, *self.models.values()} <= set(MODELS)
 
 
 def options(words: List[str]) -> Tuple[int, str, int]:

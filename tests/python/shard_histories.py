@@ -5,6 +5,7 @@ from __future__ import annotations
 import random
 from typing import Any, Callable, Dict, List, NamedTuple, Optional, Tuple
 
+from jepmon.history.line import event_line
 from jepmon.program import Options
 from jepmon.shards.sizes import Sizes
 
@@ -93,7 +94,7 @@ def spelled(part: Part) -> str:
 
 
 def plain(event: Told, more: str = "") -> str:
-    return f"{{:type :{event.kind}, :process {event.process}, :f :{event.name}, :value [{event.key} {spelled(event.part)}]{more}}}"
+    return event_line(event.kind, event.process, event.name, event.key, spelled(event.part), more)
 
 
 def other(event: Told, place: int, chance: random.Random) -> str:

@@ -9,7 +9,7 @@ import itertools
 import random
 from typing import Any, Callable, Dict, List, NamedTuple, Optional, Tuple
 
-from .histories import spelled
+from jepmon.history.line import event_line, part_text
 
 Result = Tuple[str, Any]  # "ok" and the answer, "fail", or "info"
 Call = Tuple[str, Any]  # an operation's name and its part
@@ -72,7 +72,7 @@ class Simulation:
 
     def tell(self, kind: str, client: int, name: str, part: Any) -> None:
         process = self.process[client]
-        self.lines.append(f"{{:type :{kind}, :process {process}, :f :{name}, :value [{self.key} {spelled(part)}]}}\n")
+        self.lines.append(event_line(kind, process, name, self.key, part_text(part)) + "\n")
         if kind == "info":
             self.process[client] += self.clients
 

@@ -5,12 +5,13 @@ import random
 import unittest
 from typing import Any, Dict, Iterator, List
 
-from jepmon import cause, history, program
+from jepmon import history, program
+from jepmon.causes import cause
 from jepmon.causes.case import Case
+from jepmon.causes.effort import ASKING, WHOLE, Effort
 from jepmon.causes.names import Names
-from jepmon.effort import ASKING, WHOLE, Effort
-from jepmon.kinds import ABSENT
-from jepmon.walk import UNBOUNDED, WORK, walk
+from jepmon.history.kinds import ABSENT
+from jepmon.objects.configurations import UNBOUNDED, WORK, walk
 
 from . import TOP, fuzz, recorded, stores
 from .histories import NAMES, Clients, Way

@@ -4,9 +4,11 @@ from __future__ import annotations
 import unittest
 from typing import List
 
-from jepmon import cause, history, notes
+from jepmon import history
+from jepmon.causes import cause
 from jepmon.causes.beside import before
-from jepmon.notes import OVER, Fault
+from jepmon.history import fault_notes as notes
+from jepmon.history.fault_notes import OVER, Fault
 from jepmon.program import Options, ProgramError, check, find_program
 
 REGISTER = """\

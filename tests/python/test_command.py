@@ -7,13 +7,14 @@ import tempfile
 import unittest
 from unittest import mock
 
-from jepmon import __version__, command
+from jepmon import __version__
+from jepmon.tools import command
 from tests.python import TOP
 
 
 def ended(code: str, shell: str = '"$@"') -> "subprocess.CompletedProcess[str]":
     """Runs a command of which this is the work, so that the shell may close or exchange its files."""
-    program = f"import sys; sys.path.insert(0, {str(TOP / 'python')!r}); from jepmon import command\n{code}"
+    program = f"import sys; sys.path.insert(0, {str(TOP / 'python')!r}); from jepmon.tools import command\n{code}"
     buffered = {name: value for name, value in os.environ.items() if name != "PYTHONUNBUFFERED"}  # as it is on most machines
     return subprocess.run(["sh", "-c", shell, "sh", sys.executable, "-c", program], stdin=subprocess.DEVNULL, stdout=subprocess.PIPE,
                           stderr=subprocess.PIPE, universal_newlines=True, timeout=60, env=buffered)

@@ -3,7 +3,8 @@ import random
 import unittest
 from unittest import mock
 
-from jepmon import edn, edn_tokens
+from jepmon import edn
+from jepmon.edn import tokens
 
 from .fuzz import EACH
 
@@ -14,11 +15,11 @@ PIECES = ("{", "}", "[", "]", "#{", "(", ")", '"', "\\", ";", "\n", " ", ",", "#
           "\x1c", "é", "\\a", "##NaN", '#"re"', "\r", EVENT)
 
 
-def outcome(pieces, tokens, is_history):
+def outcome(pieces, token, is_history):
     """The elements, and the fault that ends them, where a flat map is a token of these."""
     reader = edn.Reader(iter(pieces))
     got = []
-    with mock.patch.object(edn, "TOKEN_OR_MAP", tokens):
+    with mock.patch.object(edn, "TOKEN_OR_MAP", token):
         try:
             for element in reader.history() if is_history else reader.elements():
                 got.append(element)
@@ -39,8 +40,8 @@ def made(draw):
 
 class FlatMaps(unittest.TestCase):
     def test_an_event_is_one_token(self):
-        self.assertEqual(edn_tokens.TOKEN_OR_MAP.match(EVENT)[1], EVENT)
-        self.assertEqual([edn.spelling(member) for member in edn_tokens.members_of(EVENT[1:-1])][:6],
+        self.assertEqual(tokens.TOKEN_OR_MAP.match(EVENT)[1], EVENT)
+        self.assertEqual([edn.spelling(member) for member in tokens.members_of(EVENT[1:-1])][:6],
                          [":type", ":info", ":f", ":cas", ":value", "[1 [3 4]]"])
 
     def test_hostile_texts(self):
@@ -48,16 +49,16 @@ class FlatMaps(unittest.TestCase):
         whole = 0
         for _ in range(100 * EACH):
             pieces, is_history = made(draw), draw.random() < 0.5
-            whole += any(token[1][:1] == "{" and len(token[1]) > 1 for token in edn_tokens.TOKEN_OR_MAP.finditer("".join(pieces)))
+            whole += any(token[1][:1] == "{" and len(token[1]) > 1 for token in tokens.TOKEN_OR_MAP.finditer("".join(pieces)))
             with self.subTest(pieces=pieces, is_history=is_history):
-                self.assertEqual(outcome(pieces, edn_tokens.TOKEN_OR_MAP, is_history), outcome(pieces, edn_tokens.TOKEN, is_history))
+                self.assertEqual(outcome(pieces, tokens.TOKEN_OR_MAP, is_history), outcome(pieces, tokens.TOKEN, is_history))
         self.assertGreater(whole, 300)  # which had such a token
 
     def test_no_text_takes_long(self):
         for text in ("{" * 2000, "{:a [" * 2000, '{:a "' * 2000, "{" + "[1 2] " * 2000, "{" + '"x" ' * 2000 + "(", "{" + "a " * 20_000,
                      "{[" + "[1] " * 2000 + "{", "{:a \"" + "\\\\" * 20_000):
             with self.subTest(text=text[:20]):
-                self.assertEqual(outcome([text], edn_tokens.TOKEN_OR_MAP, False), outcome([text], edn_tokens.TOKEN, False))
+                self.assertEqual(outcome([text], tokens.TOKEN_OR_MAP, False), outcome([text], tokens.TOKEN, False))
 
 
 if __name__ == "__main__":

@@ -9,9 +9,9 @@ import tempfile
 import unittest
 from typing import Dict, Union
 
-from jepmon.errors import OutputError
 from jepmon.forms import Refused, files
 from jepmon.judge import outputs
+from jepmon.tools.errors import OutputError
 
 EVENT = "{:type :invoke, :process 0, :f :read, :value [7 nil]}\n"
 

@@ -3,17 +3,15 @@ from __future__ import annotations
 
 import json
 import random
-import re
 import unittest
-from typing import Any, Dict, List, Optional
+from typing import Any, Dict
 
 from jepmon.forms import Refused, detect
-from jepmon.forms.account import Account
-from jepmon.forms.own import read
-from jepmon.forms.recorded import Options, Recorded, recorded
 from jepmon.forms.files import of_text
+from jepmon.forms.own import read
+from jepmon.forms.recorded import Options, recorded
 from jepmon.history import of_key, read_history
-from jepmon.walk import walk
+from jepmon.objects.configurations import walk
 
 from .translated import events, made
 

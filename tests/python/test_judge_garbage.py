@@ -3,7 +3,6 @@ from __future__ import annotations
 
 import io
 import os
-import pathlib
 import random
 import unittest
 from typing import List

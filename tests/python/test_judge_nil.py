@@ -77,10 +77,10 @@ class Nils(Judged):
         draw, count = random.Random(7), 0
         for _ in range(120):
             text = edn(drawn(draw))
-            ran = self.judged(text, "--no-cause", "--least", "0", "--model", "register", name="history.edn")
+            ran = self.judged(text, "--no-cause", "--min-ok", "0", "--model", "register", name="history.edn")
             if ran.status == 0 and "guess of the absent value" not in ran.err and "[7 nil]}" in text:
                 count += 1
-                again = self.judged(text, "--no-cause", "--least", "0", "--model", "register", "--nil-is-absent", name="history.edn")
+                again = self.judged(text, "--no-cause", "--min-ok", "0", "--model", "register", "--nil-is-absent", name="history.edn")
                 self.assertEqual(again.status, 0, text)
         self.assertGreater(count, 10)
 

@@ -38,7 +38,7 @@ class Pages(Monitored):
         (self.room / name).write_text(text)
         out, error = io.StringIO(), io.StringIO()
         with mock.patch.dict(os.environ, JEPMON=self.program), contextlib.redirect_stdout(out), contextlib.redirect_stderr(error):
-            status = judge.main([str(self.room / name), "--least", "0", *words])
+            status = judge.main([str(self.room / name), "--min-ok", "0", *words])
         return status, error.getvalue().splitlines()
 
     def html(self) -> str:

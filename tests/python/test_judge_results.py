@@ -95,7 +95,7 @@ other keys: 2 not linearizable
     def test_keys_that_are_not_judged_to_their_end(self) -> None:
         text = own({1: False}) + "".join(f"{{:type :invoke, :process {client}, :f :write, :value [2 {client}]}}\n" for client in range(1, 6)) \
             + "{:type :ok, :process 1, :f :write, :value [2 1]}\n"
-        ran = self.judged(text, "--budget", "3", "--by-ends", "--wide-seconds", "0", name="history.edn")
+        ran = self.judged(text, "--budget", "3", "--by-ends", "--decide-seconds", "0", name="history.edn")
         self.assertIn("other keys: 1 not judged to the end\n  key 2, event 11, line 12: At event 11 more than 3 outcomes were possible", ran.err)
 
     def test_of_many_the_first_are_shown(self) -> None:
@@ -161,8 +161,8 @@ class Least(Judged):
                 ran = self.judged(self.of(*events), *words, *settled, name="history.edn")
                 self.assertEqual((ran.status, ran.out), (3, ""), events)
                 self.assertEqual(ran.err.splitlines()[-1], "judge: history.edn: no operation was ok whose answer says anything of the store, "
-                                 "so there is no verdict; --least 0 gives one all the same")
-        self.assertEqual(self.judged(self.of("write 1 1 ok"), "--least", "0", name="history.edn").status, 0)
+                                 "so there is no verdict; --min-ok 0 gives one all the same")
+        self.assertEqual(self.judged(self.of("write 1 1 ok"), "--min-ok", "0", name="history.edn").status, 0)
         self.assertEqual(self.as_json(self.of("write 1 1 ok"), name="history.edn")["verdict"], "refused")
 
     def test_an_answer_is_enough(self) -> None:
@@ -170,12 +170,12 @@ class Least(Judged):
             self.assertEqual(self.judged(self.of(*events), name="history.edn").status, 0, events)
 
     def test_more_may_be_asked_for(self) -> None:
-        ran = self.judged(self.of("write 1 1 ok", "read nil 1 ok"), "--least", "2", name="history.edn")
+        ran = self.judged(self.of("write 1 1 ok", "read nil 1 ok"), "--min-ok", "2", name="history.edn")
         self.assertEqual(ran.status, 3)
-        self.assertIn("1 operation was ok whose answer says anything of the store, so there is no verdict; --least 1 gives one", ran.err)
+        self.assertIn("1 operation was ok whose answer says anything of the store, so there is no verdict; --min-ok 1 gives one", ran.err)
 
     def test_what_is_illegal_stays_so(self) -> None:
-        self.assertEqual(self.judged(self.of("write 1 1 ok", "read nil 2 ok"), "--least", "5", name="history.edn").status, 1)
+        self.assertEqual(self.judged(self.of("write 1 1 ok", "read nil 2 ok"), "--min-ok", "5", name="history.edn").status, 1)
 
 
 class AsJson(Judged):
@@ -222,7 +222,7 @@ class AsJson(Judged):
         self.assertEqual((found["verdict"], found["status"], found["bad_keys"]), ("legal", 0, []))
         text = "".join(f"{{:type :invoke, :process {client}, :f :write, :value [2 {client}]}}\n" for client in range(5)) \
             + "{:type :ok, :process 1, :f :write, :value [2 1]}\n"
-        found = self.as_json(text, "--budget", "3", "--by-ends", "--wide-seconds", "0", name="history.edn")
+        found = self.as_json(text, "--budget", "3", "--by-ends", "--decide-seconds", "0", name="history.edn")
         self.assertEqual((found["verdict"], found["status"], found["keys"]["unknown"]), ("unknown", 2, 1))
         self.assertEqual((found["bad_keys"][0]["verdict"], found["bad_keys"][0]["status"], found["bad_keys"][0]["budget"]), ("unknown", "over", 3))
 

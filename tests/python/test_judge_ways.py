@@ -13,9 +13,9 @@ import unittest
 from typing import Iterator, List, Tuple
 from unittest import mock
 
-from jepmon import command
 from jepmon.forms import door, files
 from jepmon.judge import tool
+from jepmon.tools import command
 
 from . import TOP
 

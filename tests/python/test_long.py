@@ -11,8 +11,8 @@ import unittest
 from typing import Dict, List, Optional, Set, Union
 
 from jepmon import Failed, Illegal, LongMonitor, Refused, Unknown
+from jepmon.live.values import Value
 from jepmon.long import Handle, LongObject
-from jepmon.values import Value
 from tests.python.monitored import Monitored
 
 

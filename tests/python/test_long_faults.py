@@ -13,8 +13,8 @@ import weakref
 from typing import Dict, List
 
 from jepmon import Illegal, LongMonitor, Refused
+from jepmon.live.sender import Telling
 from jepmon.long.part import Part
-from jepmon.telling import Telling
 from tests.python.monitored import Monitored
 
 TOP = pathlib.Path(__file__).resolve().parents[2]

@@ -5,7 +5,7 @@ import unittest
 from typing import Type
 
 from jepmon import Failed, Illegal, Monitor
-from jepmon.endings import Endings, Exceptions, endings, outcome_of
+from jepmon.live.outcome_rules import Endings, Exceptions, endings, outcome_of
 from tests.python.monitored import Monitored
 
 

@@ -11,8 +11,8 @@ from typing import List
 
 from jepmon import Illegal, Monitor, Refused
 from jepmon.history import read_history
-from jepmon.notes import LONGEST, Fault, Note, faults_of, folded, note_line, note_of
-from jepmon.telling import Telling
+from jepmon.history.fault_notes import LONGEST, Fault, Note, faults_of, folded, note_line, note_of
+from jepmon.live.sender import Telling
 from tests.python.monitored import Monitored
 
 

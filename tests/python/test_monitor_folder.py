@@ -8,8 +8,9 @@ import sys
 import unittest
 from typing import List
 
-from jepmon import Failed, Illegal, Monitor, NotLegal, Refused, Unknown, aftermath
+from jepmon import Failed, Illegal, Monitor, NotLegal, Refused, Unknown
 from jepmon.history import read_history
+from jepmon.live import aftermath
 from jepmon.program import Options
 from tests.python.monitored import Monitored
 

@@ -13,7 +13,7 @@ class Counts:
     """Stands for a monitor, where keys ask what has come of them."""
 
     def __init__(self) -> None:
-        self.dropped: Dict[int, Unknown] = {}
+        self.set_aside: Dict[int, Unknown] = {}
         self.timed_out: Counter[int] = Counter()
         self.open: Counter[int] = Counter()
 
@@ -53,7 +53,7 @@ class Drawn(unittest.TestCase):
 
     def test_a_dropped_key_is_left_by_reads_too(self) -> None:
         keys = self.keys()
-        self.counts.dropped[0] = Unknown("unknown key 0 index 9")
+        self.counts.set_aside[0] = Unknown("unknown key 0 index 9")
         self.assertEqual(keys.write_key(), 1)
         self.assertEqual({keys.read_key(self.draws) for _ in range(50)}, {1})
         self.assertEqual(keys.used, [0, 1])

@@ -9,7 +9,7 @@ import unittest
 from typing import Callable, List, Optional
 
 from jepmon import Illegal, Monitor, Unknown
-from jepmon.lines import Line, LineQueue
+from jepmon.live.lines import Line, LineQueue
 from tests.python.live_runs import case_of, fault_of, fault_of_long
 from tests.python.monitored import Monitored
 

@@ -14,7 +14,7 @@ from multiprocessing.connection import Connection
 from typing import Callable, List
 
 from jepmon import ABSENT, Illegal, LongMonitor, Monitor
-from jepmon.kinds import MODELS
+from jepmon.history.kinds import MODELS
 from tests.python.monitored import Monitored
 
 FORK = multiprocessing.get_context("fork")

@@ -1,8 +1,9 @@
 """What numbers stand for, in the comments of a history and where a person reads them."""
 import unittest
 
-from jepmon import kinds
-from jepmon.names import Names, printable
+from jepmon.history import kinds
+from jepmon.history.names import Names
+from jepmon.tools.command import printable
 
 COMMENTS = '; key 0 is :x\n; value 0 is "a"\n; value -1 is #{1 2}\n'
 

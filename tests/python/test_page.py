@@ -13,7 +13,8 @@ from typing import Any, Dict, List, Optional, Tuple
 from . import recorded
 from .made_pages import HOSTILE, MADE, big, given, register, unknown
 
-from jepmon import history, page, walk
+from jepmon import history, page
+from jepmon.objects import configurations as walk
 from jepmon.page import choice
 from jepmon.page.labels import printable
 

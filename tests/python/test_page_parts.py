@@ -9,8 +9,9 @@ from typing import List, Sequence
 from . import TOP
 from .made_pages import MADE, given, register
 
-from jepmon import history, notes, page
+from jepmon import history, page
 from jepmon.history import Event
+from jepmon.history import fault_notes as notes
 from jepmon.page import choice, faults, labels, layout, picture, view
 
 

@@ -8,7 +8,9 @@ import unittest
 from typing import List
 
 from jepmon import rates
-from jepmon.fault_texts import kind_of, nodes_of, plain
+from jepmon.history.fault_notes import note_line
+from jepmon.history.fault_texts import kind_of, nodes_of, plain
+from jepmon.history.line import event_line
 from jepmon.rates.charts import nice, ticks
 from jepmon.rates.gathered import COLUMNS, Gathered
 from jepmon.rates.history import Fault, joined
@@ -21,11 +23,11 @@ MS = 1_000_000
 
 
 def event(kind: str, process: int, name: str, key: int, part: str, seconds: float) -> str:
-    return f"{{:type :{kind}, :process {process}, :f :{name}, :value [{key} {part}], :time {round(seconds * SECOND)}}}"
+    return event_line(kind, process, name, key, part, f", :time {round(seconds * SECOND)}")
 
 
 def note(kind: str, text: str, seconds: float) -> str:
-    return f'#_{{:type :info, :process :nemesis, :f :{kind}, :value "{text}", :time {round(seconds * SECOND)}}}'
+    return note_line(kind, text, round(seconds * SECOND))
 
 
 SMALL = [

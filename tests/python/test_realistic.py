@@ -48,7 +48,7 @@ def came(case: pathlib.Path) -> Tuple[int, str, str]:
         path.write_bytes(files[0].read_bytes() if case.parent.name == "judge" else case_loop.given(case, "input"))
         output, error = io.StringIO(), io.StringIO()
         with contextlib.redirect_stdout(output), contextlib.redirect_stderr(error):
-            status = judge.main([str(path), "--no-cause", "--least", "0"])
+            status = judge.main([str(path), "--no-cause", "--min-ok", "0"])
         return status, (output.getvalue().split("\n")[-2:-1] or [""])[0].split(" ")[0], error.getvalue()
 
 

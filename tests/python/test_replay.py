@@ -5,9 +5,9 @@ import random
 import unittest
 from typing import Dict, Tuple
 
-from jepmon.kinds import ANSWERED, MODELS
+from jepmon.history.kinds import ANSWERED, MODELS
 from jepmon.objects import START, Found, Part, rule
-from jepmon.replay import OBJECTS
+from jepmon.objects.replay import OBJECTS
 
 NAMES = sorted({name for names in MODELS.values() for name in names})
 STEPS = 400

@@ -14,7 +14,8 @@ from unittest import mock
 
 from jepmon import program, shards
 from jepmon.forms import own
-from jepmon.lives import Lives
+from jepmon.history.line import event_line
+from jepmon.history.process_lives import Lives
 from jepmon.program import Options
 from jepmon.shards.checking import opened
 from jepmon.shards.lines import rows_of
@@ -29,7 +30,7 @@ CASES = int(os.environ.get("JEPMON_FUZZ", "15")) * 8
 
 
 def line(kind: str, process: int, name: str, key: int, part: str) -> str:
-    return f"{{:type :{kind}, :process {process}, :f :{name}, :value [{key} {part}]}}\n"
+    return event_line(kind, process, name, key, part) + "\n"
 
 
 def written(key: int, count: int, process: int = 0) -> str:

@@ -6,13 +6,13 @@ import unittest
 from typing import Dict, List
 
 from jepmon.history import Event, Operation, operations, read_history
-from jepmon.kinds import MODELS
+from jepmon.history.kinds import MODELS
+from jepmon.objects.configurations import UNBOUNDED, walk
 from jepmon.program import Options, check
 from jepmon.shrink import smallest, taken_out
 from jepmon.shrinking import ways
 from jepmon.shrinking.part import events_of, text_of
 from jepmon.shrinking.units import with_dragged
-from jepmon.walk import UNBOUNDED, walk
 
 from . import fuzz, stores
 from .histories import Way

@@ -7,10 +7,10 @@ import tempfile
 import unittest
 from typing import Any, Dict, List, Sequence, Tuple
 
-from jepmon.fault_times import since, until
 from jepmon.history import Event
-from jepmon.kinds import ABSENT
-from jepmon.notes import OVER, Fault
+from jepmon.history.fault_notes import OVER, Fault
+from jepmon.history.fault_times import since, until
+from jepmon.history.kinds import ABSENT
 from jepmon.testing import ServerError
 from jepmon.testing.after import Reading, listed, lost_members, lost_messages, verdict_on, verdict_on_queue
 from jepmon.testing.crashes import LogWatch, finding
@@ -212,7 +212,7 @@ class AsAWhole(Runs):
     def test_a_write_that_is_lost(self) -> None:
         from jepmon.testing import template
 
-        ran, folder = self.finding(str(template.__file__), "--time", "60", "--plant", "forgetful")
+        ran, folder = self.finding(str(template.__file__), "--time", "60", "--inject-bug", "forgetful")
         self.assertRegex(" ".join(ran.stderr.split()), "A write is LOST: the wrong answer stays[.]|LOST or STALE")  # as a write was open then
         self.assertRegex(" ".join(ran.stderr.split()), r'Event [0-9]+ came [0-9.]+ s after "n1 is down, by kill -9" began')
         self.assertIn("LOST", next(folder.glob("part-*/page.html")).read_text())
@@ -226,7 +226,7 @@ class AsAWhole(Runs):
         kept: Dict[str, List[str]] = {}
         choices: Tuple[List[str], ...] = ([], ["--keep-nodes", "always"])
         for words in choices:
-            ran = self.ran(self.mine("class Mine(MyServer):\n    pass\n"), "--time", "2", "--least", "1", "--nemesis", "none", *words)
+            ran = self.ran(self.mine("class Mine(MyServer):\n    pass\n"), "--time", "2", "--min-ok", "1", "--nemesis", "none", *words)
             self.assertEqual(ran.returncode, 0, ran.stdout + ran.stderr)
             kept[" ".join(words)] = [path.name for path in (self.room / "runs" / "latest").glob("n1.data/*")]
         self.assertEqual(kept, {"": [], "--keep-nodes always": ["journal"]})

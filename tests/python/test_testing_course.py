@@ -57,7 +57,7 @@ class Reserved(unittest.TestCase):
 class Whole(Runs):
     def test_phases_of_a_run(self) -> None:
         ran = self.ran(TEMPLATE, "--phases", "1:strikes=off:changes=1,2:rate=0,1:strikes=off:changes=0", "--reserve", "reads=1",
-                       "--nemesis", "kill:lasting=0.2:rest=0.1", "--least", "1")
+                       "--nemesis", "kill:lasting=0.2:rest=0.1", "--min-ok", "1")
         self.assertEqual((ran.returncode, ran.stderr), (0, ""), ran.stdout)
         self.assertIn(" 4 seconds, ", ran.stdout.splitlines()[0])
         lines = (self.room / "runs" / "latest" / "part-0001" / "history.edn").read_text().splitlines()
@@ -70,18 +70,18 @@ class Whole(Runs):
         return float(line.rpartition(":time ")[2].rstrip("}")) / 1e9
 
     def test_many_tests_have_a_summary(self) -> None:
-        ran = self.ran(TEMPLATE, "--time", "1", "--nemesis", "none", "--least", "1", "--test-count", "3", "--seed", "7")
+        ran = self.ran(TEMPLATE, "--time", "1", "--nemesis", "none", "--min-ok", "1", "--test-count", "3", "--seed", "7")
         self.assertEqual((ran.returncode, ran.stderr), (0, ""), ran.stdout)
         self.assertRegex("\n".join(ran.stdout.splitlines()[-4:]), r"^seed 7: legal \(.*\)\nseed 8: legal \(.*\)\nseed 9: legal \(.*\)\n"
                          r"3 of 3 tests: 3 legal$")
 
     def test_the_worst_one_is_the_status(self) -> None:
-        ran = self.ran(TEMPLATE, "--time", "60", "--plant", "forgetful", "--test-count", "2")
+        ran = self.ran(TEMPLATE, "--time", "60", "--inject-bug", "forgetful", "--test-count", "2")
         self.assertEqual(ran.returncode, 1, ran.stdout)
         self.assertEqual(ran.stdout.splitlines()[-1], "2 of 2 tests: 2 illegal")
 
     def test_one_without_a_verdict(self) -> None:
-        ran = self.ran(TEMPLATE, "--time", "1", "--nemesis", "none", "--least", "100000", "--test-count", "2")
+        ran = self.ran(TEMPLATE, "--time", "1", "--nemesis", "none", "--min-ok", "100000", "--test-count", "2")
         self.assertEqual(ran.returncode, 3, ran.stdout)
         self.assertEqual(ran.stdout.splitlines()[-1], "2 of 2 tests: 2 without a verdict")
 

@@ -84,7 +84,7 @@ class Strikes(unittest.TestCase):
 
 class Whole(Runs):
     def test_a_right_server_stays_legal(self) -> None:
-        ran = self.ran(TEMPLATE, "--time", "4", "--least", "5", "--nemesis", "client-pause:lasting=0.1..0.3:rest=0.1,client-crash:lasting=0.1:rest=0.1")
+        ran = self.ran(TEMPLATE, "--time", "4", "--min-ok", "5", "--nemesis", "client-pause:lasting=0.1..0.3:rest=0.1,client-crash:lasting=0.1:rest=0.1")
         self.assertEqual((ran.returncode, ran.stderr), (0, ""), ran.stdout)
         self.assertRegex(ran.stdout, r"strikes: \d+ client-crash, \d+ client-pause")
         history = (self.room / "runs" / "latest" / "part-0001" / "history.edn").read_text()
@@ -92,7 +92,7 @@ class Whole(Runs):
         self.assertIn(":type :info, :process", history)
 
     def test_a_lease_that_runs_out_while_its_holder_is_paused_is_found(self) -> None:
-        ran = self.ran(self.mine(LEASE), "--time", "60", "--least", "1", "--keys", "1", "--nemesis", "client-pause:lasting=1")
+        ran = self.ran(self.mine(LEASE), "--time", "60", "--min-ok", "1", "--keys", "1", "--nemesis", "client-pause:lasting=1")
         self.assertEqual(ran.returncode, 1, ran.stdout + ran.stderr)
         self.assertIn("which client", ran.stderr)
 

@@ -13,7 +13,7 @@ import unittest
 from typing import List, Optional
 
 from jepmon.testing import ServerError, mounts, template
-from jepmon.testing.words import given
+from jepmon.testing.cli_options import given
 from tests.python import TOP
 from tests.python.monitored import Monitored
 
@@ -104,7 +104,7 @@ class TheTemplate(Runs):
         printed = subprocess.run(self.words("template"), stdout=subprocess.PIPE, env=self.environment())
         self.assertEqual((printed.returncode, printed.stdout), (0, TEMPLATE.read_bytes()))
         (self.room / "mine.py").write_bytes(printed.stdout)
-        ran = self.ran("./mine.py", "--time", "4", "--least", "5", "--nemesis", "kill@1+0.3,pause@2+0.3,cut@3+0.3")
+        ran = self.ran("./mine.py", "--time", "4", "--min-ok", "5", "--nemesis", "kill@1+0.3,pause@2+0.3,cut@3+0.3")
         self.assertEqual((ran.returncode, ran.stderr), (0, ""), ran.stdout)
         self.assertEqual(ran.stdout.splitlines()[-1], "legal")
         history = (self.room / "runs" / "latest" / "part-0001" / "history.edn").read_text()
@@ -112,7 +112,7 @@ class TheTemplate(Runs):
         self.assertEqual(self.verdict_by(self.room / "runs" / "latest"), "legal")
 
     def test_the_planted_fault_is_found(self) -> None:
-        ran = self.ran(str(TEMPLATE), "--time", "60", "--plant", "forgetful")
+        ran = self.ran(str(TEMPLATE), "--time", "60", "--inject-bug", "forgetful")
         self.assertEqual(ran.returncode, 1, ran.stdout + ran.stderr)
         self.assertRegex(ran.stdout.splitlines()[-1], "^illegal key ")
         self.assertRegex(ran.stderr.splitlines()[0], r"^Client \d+ read ABSENT from key \d+, which could not hold ABSENT any more\.$")
@@ -126,7 +126,7 @@ class TheTemplate(Runs):
         self.assertRegex((self.room / "runs" / "latest" / "n1.log").read_text(), r"--- power: lost [1-9]")
 
     def test_strikes_and_workloads_of_its_own(self) -> None:
-        ran = self.ran(self.mine(HAS_ITS_OWN), "--time", "6", "--least", "1", "--nemesis", "touch:n1:times=2@0.5+0.2,kill@0.6+0.4")
+        ran = self.ran(self.mine(HAS_ITS_OWN), "--time", "6", "--min-ok", "1", "--nemesis", "touch:n1:times=2@0.5+0.2,kill@0.6+0.4")
         self.assertEqual((ran.returncode, ran.stderr), (0, ""), ran.stdout)
         self.assertRegex(ran.stdout, r"^Mine, writes: .*; kill, touch")
         self.assertIn("strikes: 1 kill, 1 touch", ran.stdout)
@@ -182,7 +182,7 @@ class NoVerdict(Runs):
         self.refused(self.mine(CLIENT_IS_WRONG), r"a fault of the client: AttributeError: .*nothing.* \(mine\.py, line 6\)$")
 
     def test_too_little_was_ok(self) -> None:
-        self.refused(str(TEMPLATE), r"fewer than 100000 operations were ok \(\d+ of read, \d+ of write\)", "--nemesis", "none", "--least",
+        self.refused(str(TEMPLATE), r"fewer than 100000 operations were ok \(\d+ of read, \d+ of write\)", "--nemesis", "none", "--min-ok",
                      "100000")
 
     def test_a_folder_that_can_not_be_made(self) -> None:
@@ -192,12 +192,12 @@ class NoVerdict(Runs):
 
 class Snags(Runs):
     def test_what_a_client_logs_does_not_flood_the_terminal(self) -> None:
-        ran = self.ran(self.mine(LOGS), "--time", "1", "--nemesis", "none", "--least", "1")
+        ran = self.ran(self.mine(LOGS), "--time", "1", "--nemesis", "none", "--min-ok", "1")
         self.assertEqual((ran.returncode, ran.stderr), (0, ""), ran.stdout)
         self.assertIn("a connection was lost", (self.room / "runs" / "latest" / "clients.log").read_text())
 
     def test_a_folder_is_judged_again_without_a_program_on_the_path(self) -> None:
-        self.ran(str(TEMPLATE), "--time", "1", "--nemesis", "none", "--least", "1")
+        self.ran(str(TEMPLATE), "--time", "1", "--nemesis", "none", "--min-ok", "1")
         environment = {name: value for name, value in os.environ.items() if name != "JEPMON"}
         again = subprocess.run([self.room / "runs" / "latest" / "judge-again"], stdout=subprocess.PIPE, universal_newlines=True,
                                env={**environment, "PATH": "/usr/bin:/bin"})
@@ -208,7 +208,7 @@ class Orphans(Runs):
     """A server starts a helper that leaves its family, by two forks."""
 
     def test_they_go_with_the_server(self) -> None:
-        ran = self.ran(self.mine(LEAVES_ORPHANS.format("exec \\\"$@\\\"")), "--time", "2", "--least", "1", "--nemesis", "kill@0.5+0.2")
+        ran = self.ran(self.mine(LEAVES_ORPHANS.format("exec \\\"$@\\\"")), "--time", "2", "--min-ok", "1", "--nemesis", "kill@0.5+0.2")
         self.assertEqual((ran.returncode, ran.stderr), (0, ""), ran.stdout)
 
     def test_they_go_where_the_server_has_ended_by_itself(self) -> None:
@@ -256,9 +256,9 @@ class Words(Runs):
     def test_what_is_not_there_is_said(self) -> None:
         for words, said in (("mongodb", "there is no server 'mongodb'; there are redis, "),
                             ("./none.py", "none.py: there is no such file"),
-                            ("redis --plant x", "--plant x: redis has replica, "),
+                            ("redis --inject-bug x", "--inject-bug x: redis has replica, "),
                             ("redis --object cas-register", "--object cas-register: redis has register, "),
-                            ("redis --object set --plant lease", "--object set: the plant lease is one of a mutex"),
+                            ("redis --object set --inject-bug lease", "--object set: the plant lease is one of a mutex"),
                             ("redis --nodes 9", "--nodes 9: redis takes 1 to 5"),
                             ("redis --nemesis x", "--nemesis x: it takes"),
                             ("redis --time 0", "argument --time: it takes seconds"),

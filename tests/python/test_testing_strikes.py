@@ -103,8 +103,8 @@ class Plans(unittest.TestCase):
             plan("kill,loss", 1, why_not=why_not)
 
     def test_the_leader(self) -> None:
-        self.assertTrue(all(one.at_leader for lane in plan("part:leader", has_leader=True).lanes(1, 60.0) for one in lane.strikes))
-        drawn = [one.at_leader for lane in plan("part", has_leader=True).lanes(1, 600.0) for one in lane.strikes]
+        self.assertTrue(all(one.at_leader for lane in plan("partition:leader", has_leader=True).lanes(1, 60.0) for one in lane.strikes))
+        drawn = [one.at_leader for lane in plan("partition", has_leader=True).lanes(1, 600.0) for one in lane.strikes]
         self.assertLess(0.1, sum(drawn) / len(drawn))
         self.assertLess(sum(drawn) / len(drawn), 0.5)
 
@@ -115,7 +115,7 @@ class Plans(unittest.TestCase):
 
     def test_what_can_not_be_is_said(self) -> None:
         for text, nodes, said in (("kil", 1, "it takes all, none, or of kill"), ("kill:n4", 3, "n1 to n3"), ("", 1, "it takes all"),
-                                  ("part", 1, "no other nodes"), ("kill,pause@3", 1, "each strike has its time"), ("kill:n0", 1, "n1"),
+                                  ("partition", 1, "no other nodes"), ("kill,pause@3", 1, "each strike has its time"), ("kill:n0", 1, "n1"),
                                   ("ring", 3, "it takes 4 nodes, and there are 3"), ("kill:leader", 3, "does not say which node is its leader"),
                                   ("slow:speed=1", 1, "slow takes delay, jitter, lasting, rest, each a number"),
                                   ("slow:delay=2..1", 1, "delay is from 0 to 60, the least first"), ("loss:share=2", 1, "share is from 0 to 1"),

@@ -65,7 +65,8 @@ class Lines(unittest.TestCase):
 
 class Words(unittest.TestCase):
     def test_seconds(self) -> None:
-        for given, seconds in (([], 10), (["--wide"], 600), (["--wide-seconds", "0"], 0), (["--wide", "--wide-seconds", "7"], 7)):
+        for given, seconds in (([], 10), (["--decide-over-budget"], 600), (["--decide-seconds", "0"], 0),
+                               (["--decide-over-budget", "--decide-seconds", "7"], 7), (["--wide"], 600), (["--wide-seconds", "7"], 7)):
             self.assertEqual(words.given(["FILE", *given]).wide_seconds, seconds)
 
 
@@ -146,7 +147,7 @@ class Found(unittest.TestCase):
 
     def test_without_it(self) -> None:
         for more in ([], ["--jobs", "1"]):
-            status, out, err = self.judged(self.wide_history(), "--wide-seconds", "0", "--no-cause", *more)
+            status, out, err = self.judged(self.wide_history(), "--decide-seconds", "0", "--no-cause", *more)
             self.assertEqual(status, 2)
             self.assertRegex(out, r"^key 0 model register budget 4096 events \d+ status over (\d+)\nunknown key 0 index \1\n$")
             self.assertNotIn("afterwards", err)

@@ -13,9 +13,12 @@ import unittest
 from typing import List
 from unittest import mock
 
-from jepmon import Illegal, LongMonitor, Monitor, Unknown, cause, history, kinds, page, program, shards, walk
+from jepmon import Illegal, LongMonitor, Monitor, Unknown, history, page, program, shards
+from jepmon.causes import cause
+from jepmon.history import kinds
 from jepmon.judge import tool as judge
-from jepmon.program import KeyLine, Options
+from jepmon.objects import configurations as walk
+from jepmon.program import KeyLine, Options, finding
 
 from . import TOP, fuzz, stores
 from .monitored import Monitored
@@ -260,7 +263,7 @@ class Fallen(unittest.TestCase):
         made = stores.UNKNOWN["many_timeouts"]()
         options = Options(made.concurrency, made.model, by_ends=True)
         report = program.check(made.text.encode(), options)
-        with mock.patch.object(program, "_has_wide_kinds", return_value=False):
+        with mock.patch.object(finding, "_has_wide_kinds", return_value=False):
             found = cause.explain(history.read_history(made.text), report, options._replace(by_ends=False))
         assert found is not None
         self.assertIn("does not have the kind wide-register, so it judged by ends, as --by-ends does", found.sentences[-1])

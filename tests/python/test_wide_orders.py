@@ -9,7 +9,7 @@ from typing import FrozenSet, Iterator, List, Sequence, Set, Tuple
 
 from jepmon import program
 from jepmon.history import Event, Operation, operations
-from jepmon.kinds import REGISTERS
+from jepmon.history.kinds import REGISTERS
 from jepmon.objects import START, State, rule
 from jepmon.wide.confirmed import by_program
 from jepmon.wide.fifo import Search as FifoSearch

@@ -17,7 +17,6 @@ import hashlib
 import os
 import pathlib
 import re
-import sys
 import tempfile
 import time
 from typing import Dict, List, NamedTuple, Optional, Sequence

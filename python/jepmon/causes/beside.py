@@ -3,9 +3,9 @@ from __future__ import annotations
 
 from typing import Sequence
 
-from ..fault_times import quoted, since
 from ..history import Event
-from ..notes import OVER, Fault
+from ..history.fault_notes import OVER, Fault
+from ..history.fault_times import quoted, since
 
 
 def before(faults: Sequence[Fault], event: Event) -> str:

@@ -3,14 +3,14 @@ from __future__ import annotations
 
 from typing import Any, Callable, Iterable, List, Mapping, NamedTuple, Optional, Sequence, Tuple
 
-from ..effort import Effort
 from ..history import Event, Operation
-from ..notes import Fault
+from ..history.fault_notes import Fault
 from ..objects import State
+from ..objects.configurations import UNBOUNDED, GaveUp, Stop, Walk, Walker
 from ..program import Options, check
 from ..shrinking.part import as_asked, text_of
-from ..walk import UNBOUNDED, GaveUp, Stop, Walk, Walker
 from .beside import before
+from .effort import Effort
 from .names import Names
 
 ASKED = 4  # other answers that the program is asked about

@@ -3,7 +3,7 @@ from __future__ import annotations
 
 from typing import List
 
-from ..kinds import MODELS
+from ..history.kinds import MODELS
 from .case import Case, Found, Mention, mentions
 from .names import capital, client, listed
 

@@ -5,8 +5,8 @@ from typing import List
 
 from ..history import Operation
 from ..objects import BY_OPERATION
+from ..objects.configurations import UNBOUNDED, GaveUp, walk
 from ..shrinking.units import begin, end
-from ..walk import UNBOUNDED, GaveUp, walk
 from .case import Case, Found, mentions
 from .names import capital, client, last_event, listed, span
 

@@ -4,7 +4,7 @@ from __future__ import annotations
 from typing import Any, Iterable, Mapping, NamedTuple, Sequence
 
 from ..history import Operation
-from ..kinds import ABSENT
+from ..history.kinds import ABSENT
 
 MOST = 6  # things that are listed
 MEMBERS = 12  # of a set

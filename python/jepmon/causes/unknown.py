@@ -3,13 +3,13 @@ from __future__ import annotations
 
 from typing import Dict, List, NamedTuple, Optional, Tuple
 
-from ..effort import Effort
 from ..history import Event, Operation, operations
-from ..kinds import BUDGETS
+from ..history.kinds import BUDGETS
+from ..objects.configurations import GaveUp, TooMany, Walker, walk
 from ..program import Options, by_ends_note, check
 from ..shrinking.part import as_asked, text_of
-from ..walk import GaveUp, TooMany, Walker, walk
 from .case import Found, Mention
+from .effort import Effort
 from .names import NOUNS, Names, client, listed
 
 SHOWN = 8  # steps of the growth

@@ -4,7 +4,7 @@ from __future__ import annotations
 from typing import Dict, List, NamedTuple, Optional, Sequence
 
 from ..edn import Element, Many, Reader, Value, fields_of, integer, keyword
-from ..names import Names
+from ..history.names import Names
 
 LONGEST = 200  # characters of an event that are shown
 

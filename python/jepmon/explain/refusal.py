@@ -3,10 +3,10 @@ from __future__ import annotations
 
 from typing import Iterator, Sequence
 
-from ..command import tool
 from ..edn import spelling
-from ..event_faults import fault_of
-from ..kinds import THREADS
+from ..history.event_faults import fault_of
+from ..history.kinds import EVENTS, THREADS
+from ..tools.command import tool
 from .event import Event, Options, Shower, open_at
 
 def many_clients() -> str:
@@ -33,7 +33,7 @@ def of_refusal(number: int, events: Sequence[Event], index: int, options: Option
         stated = spelling(event.fields[":index"]) if ":index" in event.fields else "None"
         yield f"it states :index {stated}, and {index} events came before it: leave the indices out"
     elif number == 7:
-        yield "a history has 1,048,576 events at most"
+        yield f"a history has {EVENTS:,} events at most"
 
 
 def of_process(events: Sequence[Event], event: Event, options: Options) -> str:

@@ -3,7 +3,7 @@ from __future__ import annotations
 
 from typing import Iterator
 
-from ..names import Names
+from ..history.names import Names
 from .event import Options, Shower, events_of
 from .refusal import of_refusal
 from .unreadable import of_unreadable

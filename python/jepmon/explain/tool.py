@@ -14,9 +14,10 @@ import pathlib
 import subprocess
 from typing import Dict
 
-from .. import command, program
+from .. import program
 from ..edn import integer
-from ..kinds import THREADS, model_of
+from ..history.kinds import THREADS, model_of
+from ..tools import command
 from .event import Options
 from .refusal import many_clients
 from .said import said

@@ -4,8 +4,8 @@ from __future__ import annotations
 import re
 from typing import Iterator, Optional
 
-from ..command import tool
 from ..edn import Reader, Unreadable
+from ..tools.command import tool
 
 BEFORE_ELEMENT = ("the map that begins here", "the set that begins here")
 SEMANTIC = "the element that begins here has a key or a member twice, a key without a value, an"

@@ -5,12 +5,11 @@ import collections
 from typing import Callable, Counter, Dict, Iterator, List, Optional, Sequence, Tuple
 
 from ..edn import Many, Value, integer
-from ..kinds import MODELS, REGISTERS
+from ..history.kinds import BROUGHT, MODELS, REGISTERS
 from .event import Event, Options, Shower, is_set, open_at
 
 SHOWN = 14  # events of a key
-BROUGHT = {"write": "written", "cas": "set", "add": "added", "enqueue": "enqueued"}
-SOURCES = {"register": "write", "cas-register": "write or cas", "fifo-queue": "enqueue", "unordered-queue": "enqueue", "set": "add"}
+SOURCES = {model: " or ".join(name for name in BROUGHT if name in names) for model, names in MODELS.items() if names & set(BROUGHT)}
 
 
 def of_verdict(word: str, events: Sequence[Event], key: int, index: int, options: Options, shower: Shower) -> Iterator[str]:

@@ -3,6 +3,7 @@ from __future__ import annotations
 
 from typing import Any, Counter, Optional
 
+from ..history import kinds
 from . import Refused
 from .meaning import MISSING, Told
 from .written import element
@@ -10,7 +11,7 @@ from .written import element
 YES = ("", "ok", "true", "success", "yes", "1", "acquired", "released", "stored", "applied")
 NO = ("fail", "failed", "false", "no", "0")
 OPEN = ("info", "timeout", "unknown", "error")
-UNANSWERED = ("write", "cas", "acquire", "release", "enqueue", "add")
+UNANSWERED = kinds.OPERATIONS - kinds.ANSWERED
 DECIDES = ("cas", "acquire", "release")  # whose answer is true or false
 
 

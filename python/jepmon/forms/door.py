@@ -11,7 +11,7 @@ import itertools
 import re
 from typing import Any, Dict, Iterable, Iterator, List, NamedTuple, Optional, Sequence, Set
 
-from .. import edn, history, kinds
+from .. import edn, history
 from ..edn import Value
 from ..from_jepsen.asked import Asked
 from ..from_jepsen.events import History
@@ -21,6 +21,7 @@ from ..from_jepsen.refusal import NoKey
 from ..from_jepsen.source import Texts
 from ..from_jepsen.turn import Turned, collected, written
 from ..from_jepsen.write import OF_SHARDS, Limits
+from ..history import kinds
 from . import Refused, detect, edn_rows, log_rows, logs, others, own_front, rows, rows_told, tables
 from .account import KEY, Account, Shifted
 from .clients import Clients

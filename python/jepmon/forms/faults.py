@@ -3,10 +3,11 @@ from __future__ import annotations
 
 from typing import Callable, Dict, Iterable, Iterator, List, Sequence, Tuple
 
-from .. import edn, history, notes
+from .. import edn, history
 from ..from_jepsen.events import Left
-from ..notes import Fault
-from ..page.faults import ended_by
+from ..history import fault_notes as notes
+from ..history.fault_notes import Fault
+from ..history.nemesis_faults import ended_by
 
 SHOWN = 60  # characters of what a nemesis did
 

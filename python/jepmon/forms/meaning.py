@@ -1,8 +1,9 @@
 """What a row says: it is an event, or an operation with the times of its call and its return."""
 from __future__ import annotations
 
-from typing import Any, Dict, List, NamedTuple, Optional, Sequence, Tuple
+from typing import Any, Dict, List, NamedTuple, Optional, Tuple
 
+from ..history.kinds import ANSWERED
 from . import Refused
 from .account import Account
 from .clock import Clock, Time, nanoseconds
@@ -14,7 +15,6 @@ from .vocabulary import OF_STACKS, both_of, plain
 from .written import MISSING, element
 
 __all__ = ["ANSWERED", "MISSING", "Reader", "Told"]
-ANSWERED = ("read", "dequeue")
 
 
 class Told(NamedTuple):

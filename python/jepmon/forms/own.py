@@ -10,7 +10,7 @@ import collections
 import re
 from typing import Counter, Dict, List, NamedTuple, Optional, Set, Tuple
 
-from .. import kinds
+from ..history import kinds
 from .account import Account
 
 INTEGER = r"[+-]?(?:0|[1-9][0-9]{0,18})"

@@ -5,7 +5,7 @@ from __future__ import annotations
 import operator
 from typing import Any, Callable, Dict, List, NamedTuple, Optional, Tuple
 
-from ..kinds import EVENT_TYPES, OPERATIONS
+from ..history.kinds import EVENT_TYPES, OPERATIONS
 from .meaning import MISSING, Reader, Told
 from .rows import Row
 from .shapes import Fields, Shape

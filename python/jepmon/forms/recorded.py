@@ -3,8 +3,8 @@ from __future__ import annotations
 
 from typing import Mapping, NamedTuple, Optional, Sequence
 
-from ..names import Names
-from ..notes import Fault
+from ..history.fault_notes import Fault
+from ..history.names import Names
 from . import Refused, door, faults, jepsen, own
 from .account import Account
 from .door import Options, Translation

@@ -11,8 +11,8 @@ import collections
 import heapq
 from typing import Any, Dict, Iterable, Iterator, List, NamedTuple, Optional, Tuple, Union
 
-from ..kinds import THREADS
-from ..sorted_rows import SortedRows
+from ..history.kinds import THREADS
+from ..history.sorted_rows import SortedRows
 
 Time = Union[int, float]
 FAR, FAR_ALONE = 4, 100  # times as long as clients worked are clocks apart that may differ; if each client did one operation

@@ -41,7 +41,7 @@ class Writer:
 
     def fault(self, line: int, name: str, value: Any, time: Optional[Time]) -> None:
         """Writes what a nemesis did."""
-        self.collector.take_fault(line, word(line, name or "fault"), edn_of(None if value is MISSING else value), int(time or 0))
+        self.collector.take_fault(word(line, name or "fault"), edn_of(None if value is MISSING else value), int(time or 0))
 
     def written(self, notes: List[str], nil_is_absent: bool = False) -> Written:
         counted = [f"{note}: {count}" for note, count in self.counts.items()]

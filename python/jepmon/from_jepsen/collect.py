@@ -5,10 +5,11 @@ import itertools
 import re
 from typing import Any, Dict, Iterable, List, Optional, Tuple
 
-from .. import edn, faults
+from .. import edn
 from ..edn import Many, Value, canonical, integer, shown, spelling
 from ..forms.account import Account
 from ..forms.order import Blocks
+from ..history import nemesis_faults as faults
 from . import drains
 from .apart import Apart, fields_of
 from .asked import GAP, Asked, Counted, Pair
@@ -165,7 +166,7 @@ class Collector:
             self.beside = None
         self.count += 1
 
-    def take_fault(self, line: int, name: str, value: Value, time: int) -> None:
+    def take_fault(self, name: str, value: Value, time: int) -> None:
         """Takes an event of a nemesis that was told by something else than EDN."""
         self.keep_rows()
         fields: Dict[str, Value] = {":process": ":nemesis", ":type": ":info", ":f": f":{name}", ":value": value, ":time": str(time)}

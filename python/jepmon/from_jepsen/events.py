@@ -5,7 +5,7 @@ import collections
 from typing import Any, Counter, Dict, Iterator, List, NamedTuple, Optional, Protocol, Sequence, Set, Tuple, Union
 
 from ..edn import Many, Value, fields_of, integer
-from ..lives import Lives
+from ..history.process_lives import Lives
 
 PLAIN = range(-10**18 + 1, 10**18)  # integers that are values of jepmon, and none of the least
 

@@ -3,8 +3,8 @@ from __future__ import annotations
 
 from typing import Dict, List
 
-from .. import kinds
 from ..edn import Value, shown
+from ..history import kinds
 from .events import History, KeySeen
 from .refusal import refuse
 

@@ -16,7 +16,7 @@ from ..forms.account import ORDER, Account
 from ..forms.mapping import INDEX, LINES, TIMES
 from ..forms.order import APART, BY_TIMES, ONE_CLOCK, SKEW, Blocks
 from ..forms.timeline import Timeline
-from ..sorted_rows import SortedRows
+from ..history.sorted_rows import SortedRows
 from .apart import Apart, fields_of
 from .asked import GAP, Asked, Counted
 from .clients import Clients

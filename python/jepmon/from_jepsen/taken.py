@@ -4,8 +4,9 @@ from __future__ import annotations
 import itertools
 from typing import Iterator, NoReturn, Optional
 
-from .. import edn, kinds
+from .. import edn
 from ..edn import Value, integer, shown
+from ..history import kinds
 from .events import tuple_of
 from .refusal import refuse
 

@@ -27,10 +27,10 @@ from __future__ import annotations
 import argparse
 from typing import Iterable
 
-from .. import command
 from ..edn import integer
 from ..forms import door, files, mapping_words, meant_words
-from ..kinds import KEYS
+from ..history.kinds import KEYS
+from ..tools import command
 from .refusal import Refusal
 from .turn import Turned
 

@@ -3,11 +3,11 @@ from __future__ import annotations
 
 from typing import Dict, Iterator, List, Mapping, Optional
 
+from ..edn import Value
 from ..forms.account import Account
 from ..forms.mapping import INDEX, TIMES
-from ..edn import Value
-from ..kinds import REGISTERS
-from ..names import Names
+from ..history.kinds import REGISTERS
+from ..history.names import Names
 from .asked import Asked
 from .collect import Collector
 from .events import History

@@ -5,8 +5,9 @@ import itertools
 from typing import Any, Dict, Iterator, NamedTuple, Optional, Sequence, Tuple
 
 from ..edn import Many, Value, integer
-from ..kinds import KEYS, REGISTERS, THREADS, VALUES
-from ..names import ABSENT, Names
+from ..history.kinds import KEYS, REGISTERS, THREADS, VALUES
+from ..history.line import line_of_words
+from ..history.names import ABSENT, Names
 from .events import Event, History
 from .models import Models
 from .numbering import Numbering
@@ -40,7 +41,7 @@ class Writer:
         self.values = Numbering(self._values, VALUES)
         self.absent = str(self.values.another()) if nil_is_absent else "nil"
         self.processes = processes_of(history, limits.threads)
-        self.known: Dict[Tuple[str, str, Value, Value], str] = {}  # the texts of operations that come again and again
+        self.known: Dict[Tuple[str, str, Value, Value], Tuple[str, str]] = {}  # the texts of keys and parts that come again and again
         if len(history.keys) > limits.keys.stop:
             raise TooMany(f"it has {len(history.keys)} keys, and jepmon takes {limits.keys.stop}")
 
@@ -74,7 +75,7 @@ class Writer:
         first = self.absent if self.initial is None else self.values(self.initial)
         for key in (key for key in self.history.keys if key in self.registers):
             for kind in (":invoke", ":ok"):
-                yield f"{{:type {kind}, :process 0, :f :write, :value [{self.keys(key)} {first}]}}\n"
+                yield line_of_words(kind, 0, ":write", self.keys(key), first, "") + "\n"
         stays = self.keys.stays and self.values.stays and self.absent == "nil" and not self.processes.renumbered
         processes = OnThreads(self.processes.threads) if self.processes.renumbered else OwnProcesses()
         for batch in self.history.events.batches():
@@ -90,21 +91,21 @@ class Writer:
             kind, process, name, key, part, own_index, line, _ = row
             if type(part) is not str:
                 part = f"[{' '.join(part[1])}]" if name == ":cas" else self.part(event_of(row))
-            yield f"{{:type {kind}, :process {process}, :f {name}, :value [{key} {part}]{self.place(own_index, line)}}}\n"
+            yield line_of_words(kind, process, name, key, part, self.place(own_index, line)) + "\n"
 
     def line(self, row: Tuple[Any, ...], processes: OwnProcesses) -> str:
         if len(row) == 2:
             return fault_line(row)
         kind, process, name, key, part, own_index, line, _ = row
-        text = self.known.get((kind, name, key, part))
-        if text is None:
+        texts = self.known.get((kind, name, key, part))
+        if texts is None:
             event = event_of(row)
-            text = f":f {name}, :value [{self.keys(event.key)} {self.part(event)}]"
+            texts = self.keys(event.key), self.part(event)
             if len(self.known) < MOST_KNOWN and isinstance(part, str):
-                self.known[kind, name, key, part] = text
+                self.known[kind, name, key, part] = texts
         own = f", :jepsen-process {process}" if self.processes.renumbered and process not in self.history.clients \
             and not self.history.is_of_rows else ""
-        return f"{{:type {kind}, :process {processes.process_of(kind, process)}, {text}{self.place(own_index, line)}{own}}}\n"
+        return line_of_words(kind, processes.process_of(kind, process), name, *texts, self.place(own_index, line) + own) + "\n"
 
     def place(self, own_index: int, line: int) -> str:
         """Where an event stood: its index, or if it had none its line."""

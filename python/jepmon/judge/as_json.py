@@ -2,14 +2,15 @@
 from __future__ import annotations
 
 import json
-from typing import Any, Dict, List, Mapping, NamedTuple, Optional, Sequence
+from typing import Any, Dict, Mapping, NamedTuple, Optional, Sequence
 
-from .. import __version__, command, edn
+from .. import __version__, edn
 from ..causes.names import Names
 from ..forms.files import Source
 from ..history import Event, Operation, operations
-from ..kinds import ANSWERED
+from ..history.kinds import ANSWERED
 from ..program import STATUSES
+from ..tools import command
 from . import bad_keys
 from .causes import Shown, proviso
 from .results import Results

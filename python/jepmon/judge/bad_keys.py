@@ -3,18 +3,17 @@ from __future__ import annotations
 
 from typing import Callable, Dict, Iterable, Iterator, List, Mapping, NamedTuple, Optional, Sequence
 
-from ..effort import Effort
+from ..causes.effort import Effort
 from ..forms.recorded import Recorded
 from ..history import Event
-from ..program import STATUSES, KeyLine, Options, Report
-from ..walk import WORK
+from ..objects.configurations import WORK
+from ..program import Options, Report
+from ..program.report import DEAD, GOOD, KeyLine, Verdict, report_on
 from ..wide import Decided
 from .causes import Shown, explained
 from .judging import Task
 
 EventsOf = Callable[[List[int]], Mapping[int, List[Event]]]
-DEAD = ("dead", "dead-by")
-GOOD = ("alive", "confirmed")
 IN_PART = ("full", "wide")  # judged to some event, since one check takes no more
 FEW_EVENTS = 200_000  # of the keys that are explained beside the first one, together
 OTHERS, SHARE, LEAST = 10_000_000.0, 500_000.0, 20_000.0  # the effort for these, for each at most, and that which is too little for one
@@ -49,9 +48,7 @@ def of_key(report: Report, line: KeyLine) -> Report:
     """What the report says of a key alone."""
     if line.status in GOOD:
         return report
-    word = word_of(line)
-    verdict = f"{word} key {line.key} index {line.index}"
-    return Report(f"{line.text}\n{verdict}\n", [line], verdict, word, line.key, line.index, STATUSES[word], "")
+    return report_on([line], Verdict(word_of(line), (line.index or 0, line.key)))
 
 
 def shown(recorded: Recorded, task: Task, report: Report, lines: Sequence[KeyLine], events_of: EventsOf, with_cause: bool,

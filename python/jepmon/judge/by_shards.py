@@ -8,8 +8,7 @@ import os
 import sys
 from typing import Dict, Iterable, Iterator, List, NamedTuple, Optional, Sequence, Tuple
 
-from .. import command, kinds, shards
-from ..errors import ProgramError
+from .. import shards
 from ..explain.event import Options as Explained
 from ..explain.said import said as explained
 from ..forms import Refused, door, faults
@@ -19,16 +18,17 @@ from ..forms.own import Facts
 from ..forms.recorded import Recorded
 from ..from_jepsen import Turned
 from ..history import Event
-from ..program import KeyLine, Options, Report, check
+from ..history import kinds
+from ..program import Options, Report
+from ..program.report import DEAD, Verdict, key_line, report_on
 from ..shards.cluster import judged_on
 from ..shards.judging import Judged
 from ..shards.models import EACH
-from ..shards.report import Verdict
 from ..shards.sizes import Sizes
 from ..shards.source import History
 from ..shards.splitting import judged_elsewhere
 from ..shards.tally import Tally
-from ..shrinking.part import as_asked, text_of
+from ..tools import command
 from . import as_json, bad_keys, causes, doubts, large_key, least, rates, readings, results, terminal, turned, wide
 from .hints import MOST_EVENTS, counted, of_nil_reads, of_order, outcomes
 from .judging import Task
@@ -149,7 +149,7 @@ def _judge(given: Given, found: Large, history: Asked, session: shards.Session, 
     if not given.json and not few:
         command.write_output(texts_of(path))
     recorded = _recorded(found, history, page is not None or folder is not None)
-    of_report = bad_keys.found(filter(None, map(wide.key_line, lines_of(path))))
+    of_report = bad_keys.found(filter(None, map(key_line, lines_of(path))))
     keys = bad_keys.shown(recorded, task, report, of_report.bad, functools.partial(events_of, session, found, history), given.cause, decided)
     beside = [*nil_hints(tally, choice, given), *said_of_bad(report, task, keys, given.cause)]
     for line in beside:
@@ -160,7 +160,7 @@ def _judge(given: Given, found: Large, history: Asked, session: shards.Session, 
     done = results.Results(found.name, recorded, task, report, keys, terminal.told(recorded, keys), copies)
     results.write(page, folder, done)
     if page is not None or folder is not None:
-        not_alive = {line.key: line for line in map(wide.key_line, lines_of(path)) if line is not None and line.index is not None}
+        not_alive = {line.key: line for line in map(key_line, lines_of(path)) if line is not None and line.index is not None}
         rates.write(given, folder, rates.Given(found.name, form_of(found), tally.events, recorded, task, report, not_alive,
                                                functools.partial(timed, found, history)))
     if given.json:
@@ -171,7 +171,7 @@ def _judge(given: Given, found: Large, history: Asked, session: shards.Session, 
 
 def _test_readings(given: Given, found: Large, history: Asked, session: shards.Session, path: str, choice: Choice, verdict: Verdict) -> None:
     """Refuses a verdict that rests on a guess."""
-    dead = [line for line in map(wide.key_line, lines_of(path)) if line is not None and line.status in bad_keys.DEAD]
+    dead = [line for line in map(key_line, lines_of(path)) if line is not None and line.status in DEAD]
     judged_so = readings.Judged(_recorded(found, history, False), choice, verdict.word, dead, session.options.concurrency,
                                 functools.partial(events_of, session, found, history))
     try:
@@ -210,9 +210,9 @@ def anew(given: Given, session: shards.Session, path: str, verdict: Verdict) -> 
     marking, marked = wide.Marking(decided), path + ".decided"
     with open(marked, "w", encoding="ascii") as file:
         file.writelines(f"{marking.mark(line)}\n" for line in lines_of(path) if line != verdict.line)
-        found = marking.verdict()
+        found = marking.verdict(verdict.keys)
         file.write(f"{found.line}\n")
-    return marked, Verdict(found.line, found.word, found.found, found.status, verdict.keys), decided
+    return marked, found, decided
 
 
 def timed(found: Large, history: Asked) -> Iterator[rates.Told]:
@@ -262,12 +262,9 @@ def texts_of(path: str) -> Iterator[str]:
 
 def report_of(path: str, verdict: Verdict) -> Report:
     """The report with the line of the bad key alone."""
-    event, key = verdict.found or (None, None)
-    line = next((line for line in lines_of(path) if line.startswith(f"key {key} ")), None) if key is not None else None
-    found = wide.key_line(line) if line is not None else None
-    keys: List[KeyLine] = [found] if found is not None else []
-    text = "".join(f"{each}\n" for each in (line, verdict.line) if each is not None)
-    return Report(text, keys, verdict.line, verdict.word, key, event, verdict.status, "")
+    begin = f"key {verdict.found[1]} " if verdict.found else "no key"
+    lines = filter(None, (key_line(line) for line in lines_of(path) if line.startswith(begin)))
+    return report_on(list(lines), verdict)
 
 
 def lines_of(path: str) -> Iterator[str]:

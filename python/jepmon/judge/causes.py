@@ -1,17 +1,19 @@
-"""The cause of a verdict in words, and the page that shows it: what jepmon.cause and jepmon.page make of the bad key alone."""
+"""The cause of a verdict in words, and the page that shows it: what jepmon.causes and jepmon.page make of the bad key alone."""
 from __future__ import annotations
 
 import shutil
 import sys
 from typing import Iterator, List, NamedTuple, Optional, Sequence
 
-from .. import cause as causes
-from .. import command, page, walk
+from .. import page
+from ..causes import cause as causes
+from ..causes.effort import Effort
 from ..causes.names import Names
-from ..effort import Effort
 from ..forms.recorded import Recorded
 from ..history import Event
+from ..objects import configurations as walk
 from ..program import KeyLine, Options, ProgramError, Report
+from ..tools import command
 from ..wide import Decided
 from .judging import Task
 from .words import NAME

@@ -7,7 +7,7 @@ from typing import Dict, Iterator, List, Mapping, Optional, Sequence
 from ..forms.account import ABSENT, TYPE, Account
 from ..from_jepsen.meant import NUMBERS, Meant
 from ..history import Event, Operation, operations
-from ..kinds import REGISTERS
+from ..history.kinds import REGISTERS
 from ..program import KeyLine
 from ..shrinking.registers import brought, wanted
 from .words import Given

@@ -8,9 +8,9 @@ from ..explain.said import said as explained
 from ..forms.files import Source
 from ..forms.recorded import Recorded
 from ..history import Event
+from ..objects.configurations import walk
 from ..program import Options, ProgramError, Report, check
 from ..shrinking.part import as_asked, text_of
-from ..walk import walk
 from . import models
 from .events import of_key
 from .judging import Task

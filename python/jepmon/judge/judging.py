@@ -46,8 +46,8 @@ class Task(NamedTuple):
             words = [f"--concurrency {self.options.concurrency}", f"--budget {self.options.budget}"]
             words += [f"--model {self.choice.common}"] if self.choice.common else []
             words += ["--by-ends"] if self.options.by_ends else []
-            words += [f"--wide-seconds {self.wide_seconds}"] if self.wide_seconds is not None else []
-            words += [f"--least {self.least}"] if self.least != 1 else []
+            words += [f"--decide-seconds {self.wide_seconds}"] if self.wide_seconds is not None else []
+            words += [f"--min-ok {self.least}"] if self.least != 1 else []
             jobs = f" --jobs {os.cpu_count() or 1}" if self.in_shards else ""
             return f"jepmon-judge {shlex.quote(file)}{jobs} {' '.join(words)}"
         if self.commands:

@@ -5,10 +5,10 @@ import os
 import re
 from typing import Iterator, NamedTuple, Optional
 
-from .. import kinds
 from ..forms import Refused, door, own
 from ..forms.door import Translation
 from ..forms.files import Source
+from ..history import kinds
 from ..shards.source import History
 from .words import Given
 

@@ -6,7 +6,8 @@ from typing import Dict, Iterable, Iterator, List, Sequence, Tuple
 
 from .. import edn, history
 from ..history import Event
-from ..shards.session import KeyEvent, Session, value_of
+from ..history.line import event_line, part_of_text
+from ..shards.session import KeyEvent, Session
 
 OWN_FIELDS = 6  # colons before a word in an event without further fields
 
@@ -21,8 +22,8 @@ def events_of(session: Session, keys: Sequence[int], texts: Iterable[str]) -> Di
 
 
 def event_of(found: KeyEvent, key: int) -> Event:
-    text = f"{{:type :{found.kind}, :process {found.process}, :f :{found.name}, :value [{key} {found.part}]}}"
-    return Event(found.place, found.kind, found.process, found.name, key, value_of(found.part), 0, text, {})
+    text = event_line(found.kind, found.process, found.name, key, found.part)
+    return Event(found.place, found.kind, found.process, found.name, key, part_of_text(found.part), 0, text, {})
 
 
 def told(event: Event, number: int, line: str) -> Event:

@@ -20,4 +20,4 @@ def reason(given: Given, word: str, count: int) -> str:
         return ""
     what = {0: "no operation was ok whose answer says", 1: "1 operation was ok whose answer says"}.get(
         count, f"{count} operations were ok whose answers say")
-    return f"{what} anything of the store, so there is no verdict; --least {count} gives one all the same"
+    return f"{what} anything of the store, so there is no verdict; --min-ok {count} gives one all the same"

@@ -1,12 +1,12 @@
 """What each key of a history is, by the operations and answers that were seen; and how many threads its processes have."""
 from __future__ import annotations
 
-from typing import Dict, List, Mapping, NamedTuple, Optional, Sequence
+from typing import Dict, Mapping, NamedTuple, Optional, Sequence
 
-from .. import kinds
 from ..forms import Refused
 from ..forms.account import MODEL, Account
 from ..forms.own import Facts, KeyFacts, concurrency_of, possible
+from ..history import kinds
 
 __all__ = ["ALIKE", "Choice", "account_for", "answered", "by_operations", "chosen", "clients_of", "concurrency_of", "possible"]
 ALIKE = {"fifo-queue": "unordered-queue"}  # a stricter model, and the one with the same operations

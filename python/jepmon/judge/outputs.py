@@ -6,9 +6,9 @@ import pathlib
 import stat
 from typing import Dict, List, Mapping, Optional
 
-from .. import command
-from ..errors import OutputError
 from ..forms import Refused
+from ..tools import command
+from ..tools.errors import OutputError
 
 AGAIN = "judge-again"  # the file by which a folder is known as one that was written here
 VERDICT = "verdict.txt"

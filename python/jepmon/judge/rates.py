@@ -2,23 +2,22 @@
 from __future__ import annotations
 
 import pathlib
-import re
 from typing import Callable, Iterable, Iterator, List, Mapping, NamedTuple, Optional, Tuple
 
-from .. import command
 from ..forms import Refused
 from ..forms.recorded import Recorded
+from ..history.line import LINE, TIME
 from ..program import KeyLine, Report
+from ..program.report import DEAD
 from ..rates import Fault, Gathered, KeyRow, RatesPage, render
 from ..rates.history import Reader
+from ..tools import command
 from .judging import Task
 from .outputs import Folder, Page, remove
-from .words import NAME
 from .words import Given as Words
+from .words import NAME
 
 RATES = "rates.html"
-EVENT = re.compile(r"\{:type :([a-z]+), :process ([0-9]+), :f :([a-z]+), :value \[([0-9]+) (.*?)\](?:, |\})")
-TIME = re.compile(r", :time ([0-9]+)[,}]")
 SHORT = 1_000_000  # nanoseconds: what a whole history takes more than
 
 
@@ -103,7 +102,7 @@ def status(line: Optional[KeyLine], report: Report) -> str:
         return report.word
     if line is None:
         return "legal"
-    return f"{'illegal' if line.status == 'dead' else 'unknown'} at event {line.index}"
+    return f"{'illegal' if line.status in DEAD else 'unknown'} at event {line.index}"
 
 
 def notes(timed: Timed) -> Iterator[str]:
@@ -139,10 +138,10 @@ def events_of(lines: Iterable[str], times: Optional[Iterable[Optional[int]]]) ->
         if not line.startswith("{"):
             continue
         time = next(now, None)
-        told = EVENT.match(line)
+        told = LINE.match(line)
         if told is None:  # of the nemesis
             continue
         if times is None:
-            own = TIME.search(line, told.end() - 2)
+            own = TIME.search(told[6] or "")
             time = int(own[1]) if own is not None else None
         yield told[1], told[2], told[3], int(told[4]), told[5], time

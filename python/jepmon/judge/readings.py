@@ -3,7 +3,6 @@ from __future__ import annotations
 
 from typing import Callable, Dict, Iterator, List, Mapping, NamedTuple, Sequence
 
-from ..errors import ProgramError
 from ..forms import Refused
 from ..forms.account import ABSENT, MODEL, TYPE, Guess
 from ..forms.door import Translation
@@ -14,10 +13,11 @@ from ..forms.outcomes import BY_MAPPING
 from ..forms.recorded import Recorded
 from ..from_jepsen.meant import NUMBERS, text_of
 from ..history import Event
-from ..kinds import REGISTERS
+from ..history.kinds import REGISTERS
 from ..program import KeyLine
+from ..program.report import DEAD
+from ..tools.errors import ProgramError
 from . import doubts
-from .bad_keys import DEAD
 from .models import ALIKE, Choice
 from .words import Given
 

@@ -3,10 +3,11 @@ from __future__ import annotations
 
 from typing import Dict, List, Mapping, NamedTuple, Optional, Sequence
 
-from .. import command, page
+from .. import page
 from ..forms import faults
 from ..forms.recorded import Recorded
 from ..program import Report
+from ..tools import command
 from . import bad_keys, causes
 from .judging import Task
 from .outputs import AGAIN, VERDICT, Folder, Page

@@ -3,8 +3,8 @@ from __future__ import annotations
 
 from typing import List, Sequence
 
-from .. import command
 from ..forms.recorded import Recorded
+from ..tools import command
 from . import bad_keys, causes
 
 

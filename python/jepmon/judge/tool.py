@@ -11,12 +11,13 @@ import threading
 from types import FrameType
 from typing import Iterator, List, Optional, Tuple
 
-from .. import command, kinds
-from ..errors import OutputError, ProgramError
 from ..forms import Beyond, Refused, door, files
 from ..forms.door import Translation
 from ..forms.recorded import Recorded, of_own, of_translation
+from ..history import kinds
 from ..program import CURE, find_program
+from ..tools import command
+from ..tools.errors import OutputError, ProgramError
 from . import as_json, bad_keys, by_shards, events, hints, large, least, models, rates, readings, results, tasks, terminal, wide, words
 from .judging import judged
 from .outputs import Folder, Page

@@ -1,21 +1,18 @@
 """Keys that are over their budget, decided by what is known afterwards (jepmon.wide), and the report with what was found."""
 from __future__ import annotations
 
-import re
 from typing import Callable, Dict, Iterable, Iterator, List, NamedTuple, Optional, Tuple
 
-from .. import command
 from ..history import Event, operations
-from ..program import STATUSES, KeyLine, Options, Report
-from ..program import key_line as key_line_of
+from ..program import Options, Report
+from ..program.report import DEAD, GOOD, KeyLine, Place, Verdict, key_line, report_on, verdict_of
+from ..tools import command
 from ..wide import Clock, Decided, decide
 from .hints import counted
 from .words import NAME
 
-KEY_LINE = re.compile(r"key (\d+) model (\S+) budget (\d+) events (\d+) status ([a-z-]+)(?: (\d+))?")
 TOGETHER = 200_000  # events of keys that are held at once
 SHARES = 4  # of the time that is left, by the number of keys that are left, which one key may take
-Place = Tuple[int, int]  # the index of an event, and the key
 EventsOf = Callable[[List[int]], Dict[int, List[Event]]]
 
 
@@ -27,24 +24,7 @@ class Over(NamedTuple):
     events: int
 
 
-class Verdict(NamedTuple):
-    """What all lines together say."""
-
-    line: str
-    word: str
-    found: Optional[Place]
-
-    @property
-    def status(self) -> int:
-        return STATUSES[self.word]
-
-
 Decisions = Dict[int, Decided]
-
-
-def key_line(line: str) -> Optional[KeyLine]:
-    match = KEY_LINE.fullmatch(line)
-    return None if match is None else key_line_of(match)
 
 
 # --- Deciding ---
@@ -110,7 +90,7 @@ def said(found: Decisions, total: int, seconds: int) -> Iterator[str]:
     yield (f"{counted(total, 'key')} over the budget, decided afterwards: {alive} by an order of the operations, {len(found) - alive} by a "
            f"part that is illegal; not decided: {total - len(found)}")
     if len(found) < total:
-        yield f"they had {seconds} s together: --wide-seconds N gives more"
+        yield f"they had {seconds} s together: --decide-seconds N gives more"
     by_test = [decided for decided in found.values() if not decided.is_proved]
     if any(decided.index is None for decided in by_test):
         yield "the orders were tested by a program that is not proved: a key with the status `ordered` makes no history legal"
@@ -136,12 +116,10 @@ class Marking:
             return text
         status, index = self.status_of(line)
         place = (index or 0, line.key)
-        if status.startswith("dead"):
+        if status in DEAD:
             self._dead = min(self._dead or place, place)
-        elif status not in ("alive", "confirmed"):
+        elif status not in GOOD:
             self._open = min(self._open or place, place)
-        if (status, index) == (line.status, line.index):
-            return text
         return line._replace(status=status, index=index).text
 
     def status_of(self, line: KeyLine) -> Tuple[str, Optional[int]]:
@@ -152,11 +130,8 @@ class Marking:
             return "dead" if decided.is_proved else "dead-by", decided.index
         return ("confirmed", None) if decided.is_proved else ("ordered", line.index)
 
-    def verdict(self) -> Verdict:
-        for word, place in (("illegal", self._dead), ("unknown", self._open)):
-            if place is not None:
-                return Verdict(f"{word} key {place[1]} index {place[0]}", word, place)
-        return Verdict("legal", "legal", None)
+    def verdict(self, keys: int = 0) -> Verdict:
+        return verdict_of(self._dead, self._open, keys)
 
 
 def anew(report: Report, options: Options, events_of: EventsOf, seconds: int) -> Tuple[Report, Decisions]:
@@ -170,9 +145,5 @@ def anew(report: Report, options: Options, events_of: EventsOf, seconds: int) ->
 
 def marked(report: Report, found: Decisions) -> Report:
     marking = Marking(found)
-    lines = [marking.mark(line) for line in report.text.splitlines()[:-1]]
-    verdict = marking.verdict()
-    index, key = verdict.found or (None, None)
-    keys = [line for line in map(key_line, lines) if line is not None]
-    return Report("".join(f"{line}\n" for line in [*lines, verdict.line]), keys, verdict.line, verdict.word, key, index, verdict.status,
-                  report.error)
+    lines = list(filter(None, map(key_line, map(marking.mark, report.text.splitlines()[:-1]))))
+    return report_on(lines, marking.verdict(), report.error)

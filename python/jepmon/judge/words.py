@@ -5,10 +5,11 @@ import argparse
 import sys
 from typing import List, NamedTuple, Optional, Sequence
 
-from .. import command, kinds
 from ..forms import Refused, mapping_words, meant_words
 from ..forms.door import Options as Said
 from ..forms.mapping import Mapping
+from ..history import kinds
+from ..tools import command
 
 NAME = "judge"
 MOST_JOBS = 1024
@@ -87,8 +88,8 @@ def given(words: Optional[List[str]]) -> Given:
                         help="the object that each key is, instead of the one found: " + ", ".join(kinds.MODELS))
     parser.add_argument("--concurrency", metavar="N", type=number("a number of threads", range(1, kinds.PROCESSES.stop)),
                         help="the threads of the clients, instead of the number found; more than 64 are judged in shards")
-    parser.add_argument("--budget", metavar="N", type=number("a number of ends", kinds.BUDGETS), default=4096,
-                        help="the greatest number of ends (possible outcomes) of a key (4096)")
+    parser.add_argument("--budget", metavar="N", type=number("a number of ends", kinds.BUDGETS), default=kinds.BUDGET,
+                        help=f"the greatest number of ends (possible outcomes) of a key ({kinds.BUDGET})")
     command.add_by_ends(parser)
     parser.add_argument("--workers", metavar="N", type=number("a number of threads", range(1, kinds.THREADS + 1)),
                         help="threads that judge keys side by side")
@@ -107,14 +108,14 @@ def given(words: Optional[List[str]]) -> Given:
     parser.add_argument("--strict-input", action="store_true", help="refuse each guess, for example of the model, instead of judging by it")
     mapping_words.add(parser)
     meant_words.add(parser)
-    parser.add_argument("--wide", action="store_true", help=f"take up to {LONG} seconds, instead of {SHORT}, to decide keys over their "
-                        "budget afterwards")
-    parser.add_argument("--wide-seconds", metavar="N", type=number("a number of seconds", range(0, MOST_SECONDS + 1)),
+    parser.add_argument("--decide-over-budget", "--wide", dest="wide", action="store_true",
+                        help=f"take up to {LONG} seconds, instead of {SHORT}, to decide keys over their budget afterwards")
+    parser.add_argument("--decide-seconds", "--wide-seconds", dest="wide_seconds", metavar="N", type=number("a number of seconds", range(0, MOST_SECONDS + 1)),
                         help="take up to N seconds to decide these; 0: do not try")
     parser.add_argument("--html", metavar="PAGE", help="write a page that shows the cause; for a history with times also PAGE-rates.html: rates and latencies")
     parser.add_argument("--out", metavar="DIR", help="write the judged history, the report, the cause, the page, and the command "
                         "that judges it again, into this folder")
-    parser.add_argument("--least", metavar="N", type=number("a number of operations", range(0, MOST_LEAST + 1)), default=1,
+    parser.add_argument("--min-ok", "--least", dest="least", metavar="N", type=number("a number of operations", range(0, MOST_LEAST + 1)), default=1,
                         help="no verdict, status 3, if fewer operations with a judged answer were ok (1)")
     parser.add_argument("--json", action="store_true", help="print one JSON object instead of the report, for other programs "
                         "(docs/FORMATS.md has its fields)")

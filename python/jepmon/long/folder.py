@@ -19,12 +19,12 @@ import shutil
 import sys
 from typing import TYPE_CHECKING, Deque, List, Optional, Union
 
-from ..conclusion import count_lines
+from ..live.conclusion import count_lines
+from ..live.run_folder import AGAIN, COUNTS, VERDICT, RunFolder, new_folder, write_whole
+from ..live.sender import Telling
+from ..live.verdicts import NotLegal
 from ..program import Options
 from ..rates.run import leave
-from ..run_folder import AGAIN, COUNTS, VERDICT, RunFolder, new_folder, write_whole
-from ..telling import Telling
-from ..verdicts import NotLegal
 
 if TYPE_CHECKING:
     from .part import Part

@@ -3,7 +3,7 @@ from __future__ import annotations
 
 from typing import NamedTuple, Optional
 
-from .. import kinds
+from ..history import kinds
 
 MOST_EVENTS = kinds.EVENTS // 4 * 3  # so that a quarter more is left for what is read once more, and for what is open then
 

@@ -22,25 +22,19 @@ object's is, so the verdicts of all programs together are the verdict of the tes
 """
 from __future__ import annotations
 
-import contextlib
-import copy
 import datetime
 import os
 import pathlib
 import time
 import uuid
-from types import TracebackType
-from typing import Callable, Counter, Dict, Iterator, NoReturn, Optional, Type, Union
+from typing import Callable, Counter, Dict, Optional, Union
 
-from ..clients import run_clients
-from ..conclusion import say_if_idle
-from ..endings import Exceptions, endings
-from ..kinds import MODELS, model_of
-from ..notes import BEGIN, END, NOTE, folded
-from ..owner import not_sent
-from ..telling import test_unknown
-from ..values import NONE, missing
-from ..verdicts import NotLegal, Unknown
+from ..history.kinds import BUDGET, KEYS, MODELS, model_of
+from ..live.live_test import LiveTest
+from ..live.outcome_rules import Exceptions, endings
+from ..live.sender import test_unknown
+from ..live.values import NONE, missing
+from ..live.verdicts import Unknown
 from .folder import LongFolder
 from .handle import Handle
 from .limits import limits, room
@@ -52,7 +46,7 @@ EVENTS = 1 << 18
 NOT_ALL = "unknown: not all was judged"
 
 
-class LongMonitor:
+class LongMonitor(LiveTest):
     """Like Monitor, for any number of events, objects and clients. Any number of threads may use it, and coroutines. Arguments that Monitor
     has mean the same. A key over its budget is always left, and counted.
 
@@ -75,7 +69,7 @@ class LongMonitor:
         program: Union[str, "os.PathLike[str]", None] = None,
         model: str = "register",
         concurrency: int = 64,
-        budget: int = 4096,
+        budget: int = BUDGET,
         expected: Exceptions = (),
         timeout: float = 60.0,
         failed: Exceptions = (),
@@ -83,7 +77,7 @@ class LongMonitor:
         keep: Optional[int] = None,
         forget: Optional[Callable[[str], object]] = None,
         events: int = EVENTS,
-        keys: int = 1 << 16,
+        keys: int = len(KEYS),
         names: Optional[str] = None,
         unknown: str = "raise",
         page: bool = True,
@@ -101,7 +95,7 @@ class LongMonitor:
                             by_ends)
         folder = LongFolder(out, begun, keep, page) if out is not None else None
         self._model, self._folder, self._unknown = model, folder, unknown
-        self._parts = Parts(settings, limits(events, keys, concurrency), folder, forget)
+        self._judge = self._parts = Parts(settings, limits(events, keys, concurrency), folder, forget)
 
     def fresh(self, model: Optional[str] = None, changes: Optional[int] = None) -> Handle:
         """Gives a new object, as a handle. Its operations are blocks, like those of Monitor. A lock is released by op.object.release(), and op
@@ -110,28 +104,6 @@ class LongMonitor:
         if model not in MODELS:
             raise ValueError(f"a model is one of {', '.join(MODELS)}, not {model!r}")
         return Handle(self._parts, model, room(model, changes))
-
-    # --- Clients and faults ---
-
-    def run(self, work: Callable[[int], object], threads: int) -> None:
-        """Runs work(0) to work(threads - 1), each in a thread of its own. Raises a verdict that is not legal, else the first exception of a
-        thread. An exception in one thread, and Ctrl-C, end each other one at its next operation or fault."""
-        run_clients(self._parts, work, threads)
-
-    def note(self, text: str) -> None:
-        """Notes a fault of one moment, such as "kill n1", in the run's folder. It changes no verdict."""
-        self._parts.note(NOTE, folded(text))
-
-    @contextlib.contextmanager
-    def fault(self, text: str) -> Iterator[None]:
-        """Notes a fault that lasts as long as this block, such as "cut n1 off". If the test has ended it does not begin, and raises the
-        exception of an operation."""
-        text = folded(text)
-        self._parts.note(BEGIN, text)
-        try:
-            yield
-        finally:
-            self._parts.note(END, text)
 
     # --- What has come of it ---
 
@@ -152,14 +124,14 @@ class LongMonitor:
             return self._parts.tally.events + sum(part.length for part in self._parts.untallied)
 
     @property
-    def parts(self) -> int:
+    def segments(self) -> int:
         """The number of programs that were started."""
         return self._parts.begun
 
     @property
-    def failure(self) -> Optional[NotLegal]:
-        """The verdict that is not legal, if there is one."""
-        return self._parts.failure
+    def parts(self) -> int:
+        """The former name of segments."""
+        return self.segments
 
     @property
     def unjudged(self) -> int:
@@ -167,10 +139,15 @@ class LongMonitor:
         return self._parts.tally.unjudged
 
     @property
-    def dropped(self) -> int:
+    def set_aside(self) -> int:
         """The number of objects over their budget, which were judged up to there."""
         with self._parts.lock:
             return self._parts.tally.dropped + sum(len(part.dropped) for part in self._parts.untallied)
+
+    @property
+    def dropped(self) -> int:
+        """The former name of set_aside."""
+        return self.set_aside
 
     @property
     def counts(self) -> Dict[str, Counter[str]]:
@@ -188,29 +165,10 @@ class LongMonitor:
         legal, with its segment, and, each on a line, the counts of operations and objects that were not judged."""
         return self._close(None)
 
-    def _close(self, error: Optional[BaseException]) -> str:
-        is_first = not self._parts.is_closed
-        verdict = self._parts.close(error)
-        if is_first and verdict == "legal" and error is None:
-            say_if_idle(self.counts)
-        return verdict
-
     def __enter__(self) -> LongMonitor:
         return self
 
-    def __reduce__(self) -> NoReturn:
-        not_sent(self)
-
-    def __exit__(
-        self, kind: Optional[Type[BaseException]], error: Optional[BaseException], trace: Optional[TracebackType]
-    ) -> None:
-        if error is not None and not self._parts.lock.is_here:
-            return  # a forked process ends, and the test goes on elsewhere
-        verdict = self._close(error)
-        if error is not None:
-            return
-        if self.failure is not None:
-            raise copy.copy(self.failure)
+    def _test_all_judged(self, verdict: str) -> None:
         if self._unknown == "raise" and verdict != "legal":
             legal, _, not_judged = verdict.partition("\n")
             raise Unknown(f"{NOT_ALL}\n{not_judged}" if legal == "legal" else verdict, folder=str(self.folder or ""))

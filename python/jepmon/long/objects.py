@@ -3,8 +3,8 @@ from __future__ import annotations
 
 from typing import TYPE_CHECKING, Optional
 
-from ..kinds import QUEUES
-from ..values import integer, told
+from ..history.kinds import QUEUES
+from ..live.values import integer, told
 from .limits import Room
 
 if TYPE_CHECKING:

@@ -4,9 +4,9 @@ from __future__ import annotations
 from types import TracebackType
 from typing import TYPE_CHECKING, Optional, Type, Union
 
-from ..kinds import REGISTERS
-from ..operation import Block, Operation
-from ..verdicts import NotLegal
+from ..history.kinds import REGISTERS
+from ..live.operation import Block, Operation
+from ..live.verdicts import NotLegal
 
 if TYPE_CHECKING:
     from .handle import Handle
@@ -75,7 +75,7 @@ class LongOperation(Block):
         inner = self._inner
         self.__dict__.update(_inner=None)  # an operation that a client keeps does not keep its program's events
         if inner is not None and not isinstance(inner._telling, Nobody):
-            self._parts.end(self.object, self._name, self.outcome, self.told, is_answered)
+            self._parts.end(self.object, self._name, self.outcome, self.recorded, is_answered)
 
 
 class Nobody:

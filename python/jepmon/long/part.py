@@ -3,11 +3,11 @@ from __future__ import annotations
 
 from typing import TYPE_CHECKING, Counter, Dict, List, Optional
 
-from ..exchange import Exchange
+from ..live.exchange import Exchange
+from ..live.record import Record
+from ..live.sender import Telling
+from ..live.verdicts import NotLegal, Unknown
 from ..program import Options
-from ..record import Record
-from ..telling import Telling
-from ..verdicts import NotLegal, Unknown
 
 if TYPE_CHECKING:
     from .folder import LongFolder

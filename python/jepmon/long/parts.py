@@ -8,12 +8,12 @@ import threading
 import time
 from typing import Callable, List, Optional, Tuple, Union
 
-from ..endings import Endings
-from ..notes import BEGIN, END
-from ..owner import OwnedLock
-from ..telling import Telling
-from ..values import Missing
-from ..verdicts import NotLegal, Refused
+from ..history.fault_notes import BEGIN, END
+from ..live.outcome_rules import Endings
+from ..live.owner import OwnedLock
+from ..live.sender import Telling
+from ..live.values import Missing
+from ..live.verdicts import NotLegal, Refused
 from .folder import LongFolder
 from .handle import Handle
 from .limits import Limits, Room

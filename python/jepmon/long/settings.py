@@ -5,8 +5,8 @@ import datetime
 import os
 from typing import Dict, NamedTuple, Union
 
-from ..endings import Endings
-from ..values import Missing
+from ..live.outcome_rules import Endings
+from ..live.values import Missing
 
 
 class Settings(NamedTuple):

@@ -4,8 +4,8 @@ from __future__ import annotations
 import collections
 from typing import Counter, Dict, List, Optional
 
-from ..telling import Telling
-from ..verdicts import NotLegal
+from ..live.sender import Telling
+from ..live.verdicts import NotLegal
 from .part import Part
 
 FEW = 10  # objects that are named

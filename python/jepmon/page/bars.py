@@ -6,10 +6,10 @@ from typing import Dict, List, NamedTuple, Optional, Sequence, Tuple
 
 from ..history import Event, Operation, operations
 from . import layout
+from .captions import fatal_of
 from .given import PageInput, smallest_of
 from .labels import MARKS, Labels, cut
 from .view import letters
-from .words import fatal_of
 
 WIDTH = 100
 LINES = 20  # at most, with the line of indices and the one of the fatal event
@@ -50,7 +50,7 @@ def fitting(given: PageInput, fatal: Optional[int], labels: Labels, width: int) 
     """What has room in the width: as many events as may be."""
     smallest = smallest_of(given)
     if smallest:
-        whole = drawn_of(operations(smallest, given.concurrency), smallest, labels, fatal)
+        whole = drawn_of(operations(smallest, given.concurrency), smallest, labels)
         if whole.width <= width:
             return whole
     before = [event for event in given.events if fatal is None or event.index <= fatal]
@@ -58,7 +58,7 @@ def fitting(given: PageInput, fatal: Optional[int], labels: Labels, width: int) 
     told = {event.index for each in telling for event in each[:2] if event is not None}
     events = [event for event in before if event.index in told][-EVENTS:]
     while events:
-        drawn = drawn_of([each for each in telling if meets(each, events)], events, labels, fatal)
+        drawn = drawn_of([each for each in telling if meets(each, events)], events, labels)
         if drawn.width <= width or len(events) <= 2:
             return drawn
         events = events[max(1, len(events) // 12):]
@@ -78,7 +78,7 @@ def meets(operation: Operation, events: Sequence[Event]) -> bool:
     return ended is None or ended.index >= events[0].index or layout.stays(operation)
 
 
-def drawn_of(telling: Sequence[Operation], events: Sequence[Event], labels: Labels, fatal: Optional[int]) -> Drawn:
+def drawn_of(telling: Sequence[Operation], events: Sequence[Event], labels: Labels) -> Drawn:
     places = {event.index: place for place, event in enumerate(events)}
     lanes = layout.lanes(telling, places, len(events))
     least = [len(str(event.index)) + 1 for event in events][:-1]

@@ -6,7 +6,8 @@ import json
 from typing import Any, Dict, List, Mapping, NamedTuple, Optional, Sequence, Tuple
 
 from ..history import Event, Operation
-from ..kinds import OPERATIONS
+from ..history.kinds import OPERATIONS
+from ..history.line import event_line, part_text
 from .choice import Choice
 from .given import PageInput, Walked
 from .labels import Labels, cut, printable
@@ -64,7 +65,7 @@ def data(page: Page) -> Dict[str, Any]:
         "key": given.key,
         "holds": "could be" if given.model == "mutex" else "could hold",
         "fields": names,
-        "events": [event_row(event, names, given.key, max(LEAST_TEXT, min(TEXT, TEXTS // len(events)))) for event in events],
+        "events": [event_row(event, names, max(LEAST_TEXT, min(TEXT, TEXTS // len(events)))) for event in events],
         "operations": [operation_row(each, numbers, page.labels) for each in operations],
         "part": [of_invocation[each.invocation.index] for each in page.part],
         "views": [view_row(each, found, numbers, of_invocation) for each, found in views],
@@ -85,7 +86,7 @@ def field_names(events: Sequence[Event]) -> List[str]:
     return list({name: None for event in events for name in event.fields})
 
 
-def event_row(event: Event, names: Sequence[str], key: int, most: int) -> List[Any]:
+def event_row(event: Event, names: Sequence[str], most: int) -> List[Any]:
     """Index, line, text (0 where it is the one that the script puts together by itself), and the further fields, nulls at the
     end left out."""
     fields = [field_text(event.fields[name]) if name in event.fields else None for name in names]
@@ -98,15 +99,7 @@ def event_row(event: Event, names: Sequence[str], key: int, most: int) -> List[A
 
 def usual_text(event: Event) -> str:
     further = "".join(f", :{name} {field_text(value)}" for name, value in event.fields.items())
-    return f"{{:type :{event.kind}, :process {event.process}, :f :{event.name}, :value [{event.key} {edn(event)}]{further}}}"
-
-
-def edn(event: Event) -> str:
-    value = event.value
-    if value is None or isinstance(value, int):
-        return "nil" if value is None else str(value)
-    words = " ".join(map(str, sorted(value) if isinstance(value, frozenset) else value))
-    return f"#{{{words}}}" if isinstance(value, frozenset) else f"[{words}]"
+    return event_line(event.kind, event.process, event.name, event.key, part_text(event.value), further)
 
 
 def field_text(value: Any) -> str:
@@ -124,7 +117,7 @@ def operation_row(operation: Operation, numbers: Mapping[int, int], labels: Labe
     """Process, client, name, kind, label, the numbers of its events (-1: none), how it ended, the parts of its events as they
     stand there (the second one where it is another), and what its numbers stand for; what is empty at the end left out."""
     asked, ended = operation.invocation, operation.completion
-    parts = [edn(asked), edn(ended) if ended is not None and ended.value != asked.value else ""]
+    parts = [part_text(asked.value), part_text(ended.value) if ended is not None and ended.value != asked.value else ""]
     row = [asked.process, operation.thread, asked.name, CHANGE if asked.name in CHANGES else READ,
            cut(labels.operation(operation), LABEL), numbers[asked.index], -1 if ended is None else numbers[ended.index],
            OUTCOMES.index(operation.outcome), *(part if len(part) <= LEAST_TEXT else "" for part in parts),

@@ -10,9 +10,10 @@ import re
 import string
 from typing import List, Match, Tuple
 
-from .. import walk
 from ..history import operations
+from ..objects import configurations as walk
 from .bars import bars
+from .captions import PROVED, SIGNS, agreement, facts, fatal_of, headline, left_out, number
 from .choice import choose
 from .data import OUTCOMES, Page, data, text_of
 from .ends import ends_table
@@ -20,7 +21,6 @@ from .from_walk import walked
 from .given import PageInput, smallest_of
 from .labels import MARKS, Labels, printable
 from .others import others_table
-from .words import PROVED, SIGNS, agreement, facts, fatal_of, headline, left_out, number
 
 HERE = pathlib.Path(__file__).resolve().parent
 STYLES = ("palette.css", "style.css")

@@ -7,10 +7,10 @@ import html
 from typing import List, Sequence
 
 from ..history import Operation
+from .captions import ends_title, number
 from .data import Page
 from .given import End, Walked
 from .labels import cut, printable
-from .words import ends_title, number
 
 HOLDS = {"mutex": "the lock is", "fifo-queue": "holds, front first"}
 OPERATIONS = 24  # columns at most

@@ -9,19 +9,8 @@ from ..history import Event
 from .given import AnyFault, Fault
 from .labels import printable
 
-# What ends a fault, by the name of what begins it: jepmon's own faults, and those of Jepsen's nemeses.
-ENDED_BY = {
-    "partition": ("heal",),
-    "pause": ("resume",),
-    "crash": ("restart",),
-    "kill": ("restart", "start"),
-    "start": ("stop",),
-    "bump-clock": ("reset-clock",),
-    "strobe-clock": ("reset-clock",),
-}
 ROWS = 8  # of texts above the bars
 NO_ROW = -1
-STARTS, STOPS = "start-", "stop-"
 
 
 class Band(NamedTuple):
@@ -32,11 +21,6 @@ class Band(NamedTuple):
     begin: int
     end: int
     row: int
-
-
-def ended_by(name: str) -> Tuple[str, ...]:
-    """The names of what ends a fault of this name; none where it is a fault of a moment, or not known."""
-    return (STOPS + name[len(STARTS):],) if name.startswith(STARTS) else ENDED_BY.get(name, ())
 
 
 def spans(faults: Sequence[AnyFault], events: Sequence[Event]) -> List[Tuple[str, int, int]]:

@@ -4,9 +4,9 @@ from __future__ import annotations
 from typing import Dict, Mapping, Optional, Sequence
 
 from ..history import Event, operations
-from ..kinds import ANSWERED
+from ..history.kinds import ANSWERED
 from ..objects import Found
-from ..replay import OBJECTS
+from ..objects.replay import OBJECTS
 from .from_walk import state_words
 from .given import End, Walked
 from .labels import Labels

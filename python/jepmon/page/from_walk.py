@@ -1,11 +1,11 @@
-"""From a walk through a key's events (jepmon.walk) to what a page shows of it, in words."""
+"""From a walk through a key's events (jepmon.objects.configurations) to what a page shows of it, in words."""
 from __future__ import annotations
 
-from typing import Dict, Iterable, List, Mapping, Optional, Sequence, Tuple
+from typing import Dict, Iterable, List, Mapping, Sequence, Tuple
 
-from .. import walk
 from ..history import Event
 from ..objects import Found, State
+from ..objects import configurations as walk
 from .given import End, Walked
 from .labels import Labels
 

@@ -3,8 +3,9 @@ from __future__ import annotations
 
 from typing import List, Mapping, NamedTuple, Optional, Sequence, Tuple, Union
 
-from .. import notes
 from ..history import Event
+from ..history import fault_notes as notes
+from ..history.kinds import BUDGET
 
 
 class Fault(NamedTuple):
@@ -67,7 +68,7 @@ class PageInput(NamedTuple):
     events: Sequence[Event]  # the key's own, in their order
     model: str = "register"
     concurrency: int = 2
-    budget: int = 4096
+    budget: int = BUDGET
     report: str = ""
     file: str = ""
     walked: Optional[Walked] = None

@@ -5,7 +5,7 @@ import heapq
 from typing import FrozenSet, Mapping, Optional, Tuple, Union
 
 from ..history import Event, Operation, Value
-from ..kinds import ABSENT, ANSWERED
+from ..history.kinds import ABSENT, ANSWERED
 
 ARROW = "\u2192"
 CUT = "\u2026"

@@ -11,8 +11,9 @@ import re
 import sys
 from typing import Dict, Iterator, List, Optional, Sequence, Tuple
 
-from .. import walk
 from ..history import Event, of_key, operations, read_history
+from ..history.kinds import BUDGET
+from ..objects import configurations as walk
 from . import layout
 from .from_walk import walked
 from .given import Walked
@@ -37,7 +38,7 @@ RULES = """text { font: 12px ui-monospace, SFMono-Regular, Menlo, Consolas, "Dej
 """
 
 
-def picture(history: str, concurrency: int, model: str = "register", budget: int = 4096) -> str:
+def picture(history: str, concurrency: int, model: str = "register", budget: int = BUDGET) -> str:
     """The picture of the first key of the history that is illegal; else of its first one."""
     events = read_history(history)
     keys = list(dict.fromkeys(event.key for event in events if event.key >= 0))

@@ -6,10 +6,10 @@ import pathlib
 import string
 from typing import Iterator
 
+from ..page.captions import counted
 from ..page.document import hashed
 from ..page.document import resource as of_page
 from ..page.labels import printable
-from ..page.words import counted
 from . import tables
 from .charts import Chart
 from .given import RatesPage

@@ -1,15 +1,14 @@
 """Reads what a history with times says of rates: each operation as it is gathered, each key's counts, and the faults."""
 from __future__ import annotations
 
-import re
 from typing import Dict, Iterable, List, NamedTuple
 
-from ..kinds import ABSENT
-from ..notes import BEGIN, END, note_of
+from ..history.fault_notes import BEGIN, END, note_of
+from ..history.kinds import ABSENT
+from ..history.line import LINE, TIME
 from .gathered import Gathered
 
 SLACK = 1_000_000  # nanoseconds between the notes of one fault in two parts
-EVENT = re.compile(r"\{:type :(invoke|ok|fail|info), :process ([0-9]+), :f :([a-z]+), :value \[([0-9]+) (.*)\], :time (-?[0-9]+)\}")
 
 
 class Fault(NamedTuple):
@@ -69,12 +68,12 @@ class Reader:
     def line(self, line: str) -> None:
         """A line as Monitor writes it."""
         if line.startswith("{"):
-            told = EVENT.match(line)
-            if told is None:
+            told = LINE.match(line)
+            time = TIME.search(told[6] or "") if told is not None else None
+            if told is None or time is None:
                 self.found.untimed += 1
             else:
-                kind, process, name, key, part, moment = told.groups()
-                self.event(kind, process, name, int(key), part, int(moment))
+                self.event(told[1], told[2], told[3], int(told[4]), told[5], int(time[1]))
         elif line.startswith("#_"):
             self._note(line)
 

@@ -7,7 +7,8 @@ import re
 import sys
 from typing import Dict, Iterator, List, NamedTuple, Optional, Tuple
 
-from ..run_folder import AGAIN, CAUSE, COUNTS, HISTORY, LOST, NAMES, PAGE, PART, RUN_FACTS, RUN_PAGE, VERDICT, write_whole
+from ..live.run_folder import AGAIN, CAUSE, COUNTS, HISTORY, LOST, NAMES, PAGE, PART, RUN_FACTS, RUN_PAGE, VERDICT, write_whole
+from ..program.report import BAD_KEY
 from .document import render
 from .gathered import OUTCOMES, Gathered
 from .given import KeyRow, RatesPage, Section
@@ -15,7 +16,6 @@ from .history import Fault, read
 
 MOST = 1 << 29  # bytes of histories, some five million events, that are read for a page unless all are asked for
 NO_VERDICT = "no verdict"
-BAD = re.compile(r"(illegal|unknown) key ([0-9]+) index ([0-9]+)")
 NAME = re.compile(r"([0-9]+) is '(.*)'$", re.M)
 
 
@@ -147,9 +147,9 @@ class Statuses:
     def __init__(self, part: pathlib.Path) -> None:
         verdict, counts = text_of(part / VERDICT), text_of(part / COUNTS)
         self.names = {int(number): name for number, name in NAME.findall(text_of(part / NAMES))} if part.name.startswith(PART) else {}
-        self._bad = {int(key): f"{word} at event {index}" for word, key, index in BAD.findall(counts) + BAD.findall(verdict)}
+        self._bad = {int(key): f"{word} at event {index}" for word, key, index in BAD_KEY.findall(f"{counts}\n{verdict}")}
         self._other = "legal" if verdict.split(" ")[0].strip() in ("legal", "illegal", "unknown") else NO_VERDICT
-        found = BAD.match(verdict)
+        found = BAD_KEY.match(verdict)
         self.bad: Optional[int] = int(found[2]) if found is not None else None  # the key of the page
 
     def of(self, key: int) -> str:

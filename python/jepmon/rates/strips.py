@@ -3,7 +3,7 @@ from __future__ import annotations
 
 from typing import Dict, Iterator, List, NamedTuple, Sequence, Tuple
 
-from ..fault_texts import kind_of, nodes_of
+from ..history.fault_texts import kind_of, nodes_of
 from .history import Fault
 
 KINDS = 24  # that have rows of their own

@@ -5,7 +5,7 @@ import collections
 import html
 from typing import Dict, Iterable, List, NamedTuple, Optional, Sequence, Tuple
 
-from ..fault_texts import kind_of
+from ..history.fault_texts import kind_of
 from .gathered import OUTCOMES, Gathered
 from .given import KeyRow
 from .history import Fault

@@ -8,11 +8,11 @@ import sys
 from typing import Sequence
 from urllib.parse import quote
 
-from .. import command
-from ..errors import OutputError
 from ..page.document import hashed
 from ..page.document import resource as of_page
 from ..page.labels import printable
+from ..tools import command
+from ..tools.errors import OutputError
 from .summary import Summary, summaries
 
 INDEX = "index.html"

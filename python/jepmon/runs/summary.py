@@ -6,8 +6,8 @@ import pathlib
 import re
 from typing import Iterator, List, NamedTuple
 
+from ..live.run_folder import AGAIN, COUNTS, LATEST, PAGE, RUN_PAGE
 from ..rates.run import facts_of, parts_of, text_of, verdict_of
-from ..run_folder import AGAIN, COUNTS, LATEST, PAGE, RUN_PAGE
 
 BEGUN = re.compile(r"The run began at (\S+)")
 COUNT = re.compile(r"^[a-z]+: ([0-9]+) ok, ([0-9]+) fail, ([0-9]+) info$", re.M)

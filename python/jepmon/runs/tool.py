@@ -5,11 +5,11 @@ import argparse
 import pathlib
 from typing import List, Optional
 
-from .. import command
-from ..page.words import counted
+from ..live.run_folder import RUN_PAGE, write_whole
+from ..page.captions import counted
 from ..rates.document import render
 from ..rates.run import page_of
-from ..run_folder import RUN_PAGE, write_whole
+from ..tools import command
 from . import index
 from .summary import Summary, runs_of, summaries
 

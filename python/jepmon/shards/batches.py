@@ -12,6 +12,7 @@ import collections
 import itertools
 from typing import Dict, Iterator, List, NamedTuple, Optional, Sequence, Tuple
 
+from ..history.line import FRONT
 from .by_key import FIELDS, Events, Rest
 from .doubt import Doubt
 from .lines import of_code
@@ -50,7 +51,7 @@ class Spelling(NamedTuple):
     heads: List[bytes]
 
     def spell(self, thread: int, process: int) -> None:
-        self.heads[thread] = CLOSING + b"{:type :%b, :process %d, :f :%b, :value [" % (self.kind, process, self.name)
+        self.heads[thread] = CLOSING + FRONT % (self.kind, process, self.name)
 
 
 class Threads:

@@ -8,11 +8,11 @@ import os
 import tempfile
 from typing import BinaryIO, Iterator, Optional
 
-from ..program import KeyLine, Options, Report, find_program
-from ..program import key_line as key_line_of
+from ..history.kinds import BUDGETS
+from ..program import Options, Report, find_program, report_of
+from ..program.report import key_line, report_on
 from .doubt import ShardsError
 from .progress import Progress
-from .report import KEY_LINE
 from .session import Refused, Session, Tools
 from .sizes import Sizes
 from .source import History, ReadFailed, file_from
@@ -34,23 +34,17 @@ def check(history: History, options: Options = Options(), jobs: Optional[int] = 
     `full I` or `wide I`, and the verdict is never `legal` then. ProgramError and ShardsError where no verdict can be given."""
     refusal = refusal_of(options)
     if refusal is not None:
-        return Report("", [], refusal, "refused", None, None, 3, refusal + "\n")
+        return report_of("", refusal + "\n", 3)
     sink: BinaryIO = io.BytesIO() if out is None else out
     try:
         with opened(history, options, jobs, program=program, temporary=temporary, progress=progress, sizes=sizes) as session:
             verdict = session.report(session.judged(options), sink)
-        found = verdict.found
-        report = Report("", [], verdict.line, verdict.word, found[1] if found else None, found[0] if found else None, verdict.status, "")
+        report = report_on([], verdict)
     except Refused as refused:
         sink.write(f"{refused}\n".encode())
-        report = refusal_report(str(refused))
+        report = report_of(f"{refused}\n", "", 3)
     text = sink.getvalue().decode() if isinstance(sink, io.BytesIO) and out is None else ""
-    return report._replace(text=text, keys=[key_line(line) for line in text.splitlines() if line.startswith("key ")])
-
-
-def refusal_report(line: str) -> Report:
-    place = line.rpartition(" event ")[2]
-    return Report("", [], line, "refused", None, int(place) if place.isdigit() else None, 3, "")
+    return report._replace(text=text, keys=list(filter(None, map(key_line, text.splitlines()))))
 
 
 @contextlib.contextmanager
@@ -68,19 +62,13 @@ def opened(history: History, options: Options, jobs: Optional[int] = None, *, pr
 
 def refusal_of(options: Options) -> Optional[str]:
     """The refusal of options that are out of their limits, as `jepmon check` has it; the concurrency has no upper one."""
-    if not 1 <= options.budget <= 1 << 16:
+    if options.budget not in BUDGETS:
         return "refused 9 BadBudget"
     return "refused 10 BadConcurrency" if options.concurrency < 1 else None
 
 
 def jobs_of(jobs: Optional[int]) -> int:
     return max(1, (os.cpu_count() or 1) if jobs is None else jobs)
-
-
-def key_line(line: str) -> KeyLine:
-    match = KEY_LINE.fullmatch(line)
-    assert match is not None
-    return key_line_of(match)
 
 
 @contextlib.contextmanager

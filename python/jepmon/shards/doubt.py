@@ -1,7 +1,7 @@
 """What goes wrong in a check by shards."""
 from __future__ import annotations
 
-from ..errors import ProgramError
+from ..tools.errors import ProgramError
 
 
 class Doubt(Exception):

@@ -1,11 +1,15 @@
-"""What an event is to `jepmon check` (docs/FORMATS.md, Events), and the process rule: the tests 5, 6, 2, 1, 3 and 4, exactly."""
+"""What an event is to `jepmon check` (docs/FORMATS.md, Events), and the process rule: the tests 5, 6, 2, 1, 3 and 4, exactly.
+
+The proved program has these tests by itself. `SameAsCheck` of tests/python/test_shards_check.py compares the two."""
 from __future__ import annotations
 
 import re
 from typing import Dict, NamedTuple, Optional
 
-from .. import kinds
-from .reading import INTEGERS, Element
+from ..history import kinds
+from ..history.line import FRONT
+from ..history.nemesis_faults import LOST, REPLICAS
+from .reading import Element
 
 KEYS = range(1 << 63)  # of a history that is judged in shards
 KINDS = tuple(kind.encode() for kind in kinds.EVENT_TYPES)
@@ -13,7 +17,6 @@ NAMES = tuple(sorted(name.encode() for name in kinds.OPERATIONS))
 WITHOUT_PART = tuple(name.encode() for name in kinds.WITHOUT_PART)
 NAMES_OF_REFUSALS = {1: "Busy", 2: "WrongProcess", 3: "NotOpen", 4: "Mismatch", 5: "BadValue", 6: "BadIndex"}
 FAULT = b"{:type :info, :process :nemesis, :f :heal, :value nil}"  # stands for any event of the nemesis
-REPLICAS = range(7)
 
 INT = rb"0|[1-9][0-9]{0,17}"
 SIGNED = rb"[+-]?(?:" + INT + rb")"
@@ -45,7 +48,7 @@ class Event(NamedTuple):
         """The event without its index, as jepmon's own programs write it."""
         if self.process is None:
             return FAULT
-        return b"{:type :%b, :process %d, :f :%b, :value [%d %b]}" % (self.kind, self.process, self.name, self.key, text_of(self.part))
+        return FRONT % (self.kind, self.process, self.name) + b"%d %b]}" % (self.key, text_of(self.part))
 
 
 def plain_event(match: "re.Match[bytes]") -> Event:
@@ -114,7 +117,7 @@ def is_fault(name: bytes, value: Element) -> bool:
         return value is None
     if name in (b"pause", b"resume", b"crash", b"restart"):
         return isinstance(value, int) and value in REPLICAS
-    return name == b"lose-replies" and isinstance(value, int) and value in range(1 << 16)
+    return name == b"lose-replies" and isinstance(value, int) and value in LOST
 
 
 def text_of(part: Element) -> bytes:

@@ -15,9 +15,9 @@ import re
 import sys
 from typing import Any, Dict, List, NamedTuple, Optional, Sequence, Tuple
 
-from ..command import write_file
-from ..kinds import model_of
+from ..history.kinds import model_of
 from ..program import Options
+from ..tools.command import write_file
 from .batches import Batch, KeyMap
 from .doubt import ShardsError
 from .routing import NUMBERS

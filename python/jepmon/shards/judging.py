@@ -4,11 +4,11 @@ from __future__ import annotations
 import os
 import re
 import subprocess
-from typing import List, NamedTuple, Optional, Sequence, Tuple
+from typing import List, NamedTuple, Optional, Sequence
 
-from ..kinds import model_of
 from ..program import Options, run_check
-from .batches import NOWHERE, Batch, KeyMap, batches_of
+from ..program.report import KeyLine, Place, key_line
+from .batches import NOWHERE, KeyMap, batches_of
 from .by_key import events_of
 from .doubt import Doubt, ShardsError
 from .models import by_model
@@ -16,24 +16,14 @@ from .routing import Source
 from .sizes import Sizes
 
 REFUSED = re.compile(r"refused [0-9]+ [A-Za-z]+ (?:event )?[0-9]+")  # of what stands in a file
-LINE = re.compile(r"key ([0-9]+) model ([a-z-]+) budget ([0-9]+) events ([0-9]+) status (alive|dead|over)(?: ([0-9]+))?")
-
-Found = Tuple[int, int]  # the index of an event, and the key
 
 
 class Status(NamedTuple):
-    """What is known of a key: the index of its first event, and what the report says of it."""
+    """What is known of a key: the index of its first event, and its line of the report, whose status may also be `full` or `wide`: alive up
+    to there, as far as the program's limits let it be judged."""
 
     first: int
-    key: int
-    events: int
-    status: str  # "alive", "dead", "over"; or "full", "wide": alive up to there, where the program's limits are met
-    place: Optional[int]
-    kind: str  # as the program names the model
-
-    def line(self, budget: int) -> str:
-        found = "" if self.place is None else f" {self.place}"
-        return f"key {self.key} model {self.kind} budget {budget} events {self.events} status {self.status}{found}"
+    line: KeyLine
 
 
 class ShardTask(NamedTuple):
@@ -53,8 +43,8 @@ class Judged(NamedTuple):
 
     path: str
     keys: int
-    dead: Optional[Found]
-    undecided: Optional[Found]
+    dead: Optional[Place]
+    undecided: Optional[Place]
 
 
 def judge_shard(task: ShardTask) -> Judged:
@@ -66,7 +56,7 @@ def judge_shard(task: ShardTask) -> Judged:
         for batch in batches_of(of_model, rests, task.sizes):
             report = checked(batch.text, words(options, task), task.program)
             statuses += statuses_of(report, batch.keys, batch.places, options)
-    return write_result(os.path.join(task.folder, task.name + ".result"), statuses, task.options)
+    return write_result(os.path.join(task.folder, task.name + ".result"), statuses)
 
 
 def checked(text: bytes, words: List[str], program: str) -> str:
@@ -91,30 +81,30 @@ def statuses_of(report: str, keys: Sequence[KeyMap], places: Sequence[int], opti
     found: List[Status] = []
     at = 0
     for number, (line, key) in enumerate(zip(lines, keys)):
-        begin = f"key {number} model {options.model} budget {options.budget} events {key.judged} "
-        match = LINE.fullmatch(line)
-        kind = match.group(2) if match is not None else ""
-        if match is None or f"key {match.group(1)} model {model_of(kind)} budget {match.group(3)} events {match.group(4)} " != begin:
-            raise Doubt(f"jepmon's report on a shard has {line!r} in place of {begin!r}")
-        found.append(status_of(key, match.group(5), match.group(6), places[at], places, kind))
+        said = key_line(line)
+        if said is None or said[:4] != (number, options.model, options.budget, key.judged) or said.status not in ("alive", "dead", "over"):
+            raise Doubt(f"jepmon's report on a shard has {line!r} as the line of key {number}, which has {key.judged} events")
+        found.append(status_of(key, said, places[at], places))
         at += key.judged
     return found
 
 
-def status_of(key: KeyMap, status: str, index: Optional[str], first: int, places: Sequence[int], kind: str) -> Status:
-    if status == "alive":
-        return Status(first, key.key, key.events, key.cut or "alive", key.cut_place if key.cut else None, kind)
-    place = places[int(index)] if index is not None and int(index) < len(places) else NOWHERE
+def status_of(key: KeyMap, said: KeyLine, first: int, places: Sequence[int]) -> Status:
+    line = said._replace(key=key.key, events=key.events)
+    if said.status == "alive":
+        return Status(first, line._replace(status=key.cut or "alive", index=key.cut_place if key.cut else None))
+    place = places[said.index] if said.index is not None and said.index < len(places) else NOWHERE
     if place == NOWHERE:
-        raise Doubt(f"jepmon's report on a shard says {status} {index}, which is no event of the history")
-    return Status(first, key.key, key.events, status, place, kind)
+        raise Doubt(f"jepmon's report on a shard says {said.status} {said.index}, which is no event of the history")
+    return Status(first, line._replace(index=place))
 
 
-def write_result(path: str, statuses: List[Status], options: Options) -> Judged:
+def write_result(path: str, statuses: List[Status]) -> Judged:
     """Writes a line for each key, in the order of their first events, which stand in front of each line."""
     statuses.sort()
     with open(path, "w") as file:
-        file.writelines(f"{status.first:020d} {status.line(options.budget)}\n" for status in statuses)
-    dead = [(status.place or 0, status.key) for status in statuses if status.status == "dead"]
-    undecided = [(status.place or 0, status.key) for status in statuses if status.status not in ("alive", "dead")]
+        file.writelines(f"{status.first:020d} {status.line.text}\n" for status in statuses)
+    found = [((line.index or 0, line.key), line.status) for _, line in statuses]
+    dead = [place for place, status in found if status == "dead"]
+    undecided = [place for place, status in found if status not in ("alive", "dead")]
     return Judged(path, len(statuses), min(dead, default=None), min(undecided, default=None))

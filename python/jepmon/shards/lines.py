@@ -11,7 +11,7 @@ import operator
 import re
 from typing import Dict, Iterator, List, Tuple
 
-from ..kinds import PROCESSES
+from ..history.kinds import PROCESSES
 from . import events
 from .doubt import Doubt
 from .reading import Reader, Unreadable

@@ -13,7 +13,7 @@ import operator
 import os
 from typing import Any, BinaryIO, Dict, Iterator, List, NamedTuple, Optional, Sequence
 
-from ..kinds import INDICES
+from ..history.kinds import INDICES
 from .doubt import Doubt
 from .lines import UNSEEN, Heads, Row, idle, rows_of
 from .routing import Router, Source

@@ -4,14 +4,13 @@ from __future__ import annotations
 import contextlib
 import heapq
 import os
-import re
-from typing import IO, BinaryIO, Iterable, Iterator, List, NamedTuple, Optional, Sequence
+from typing import IO, BinaryIO, Iterable, Iterator, List, Sequence
 
-from .judging import Found, Judged
+from ..program.report import Verdict, verdict_of
+from .judging import Judged
 from .sizes import Sizes
 
 PLACE = 21  # bytes in front of each line of a result
-KEY_LINE = re.compile(r"key (\d+) model (\S+) budget (\d+) events (\d+) status (alive|dead|over|full|wide)(?: (\d+))?")
 
 
 def merged(results: Sequence[str], folder: str, sizes: Sizes) -> Iterator[bytes]:
@@ -33,25 +32,12 @@ def lines_of(names: Sequence[str]) -> Iterator[bytes]:
         os.unlink(name)
 
 
-class Verdict(NamedTuple):
+def verdict_on(judged: Iterable[Judged]) -> Verdict:
     """What all results together say."""
-
-    line: str
-    word: str
-    found: Optional[Found]  # the event and the key that it names
-    status: int
-    keys: int  # in the history
-
-
-def verdict_of(judged: Iterable[Judged]) -> Verdict:
     results = list(judged)
-    keys = sum(result.keys for result in results)
-    for word, found, status in (("illegal", [result.dead for result in results], 1),
-                                ("unknown", [result.undecided for result in results], 2)):
-        least = min((one for one in found if one is not None), default=None)
-        if least is not None:
-            return Verdict(f"{word} key {least[1]} index {least[0]}", word, least, status, keys)
-    return Verdict("legal", "legal", None, 0, keys)
+    dead, undecided = (min((place for place in places if place is not None), default=None)
+                       for places in ([result.dead for result in results], [result.undecided for result in results]))
+    return verdict_of(dead, undecided, sum(result.keys for result in results))
 
 
 def write_report(lines: Iterable[bytes], verdict: str, out: BinaryIO) -> None:

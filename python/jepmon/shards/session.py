@@ -6,11 +6,12 @@ written, with which the check goes on.
 from __future__ import annotations
 
 import os
-from typing import Any, BinaryIO, Iterable, Iterator, List, NamedTuple, Optional, Sequence, Tuple
+from typing import BinaryIO, Iterable, Iterator, List, NamedTuple, Optional, Sequence, Tuple
 
 from ..forms.account import Account
 from ..forms.own import GAP
 from ..program import Options
+from ..program.report import Verdict
 from .batches import batches_of
 from .by_key import FIELDS, events_of
 from .doubt import Doubt, ShardsError
@@ -19,7 +20,7 @@ from .lines import of_code
 from .nils import NilsTask, nils_of
 from .progress import Progress
 from .refusal import first_refusal
-from .report import Verdict, merged, verdict_of, write_report
+from .report import merged, verdict_on, write_report
 from .shard import Shard, shards_of
 from .sizes import Sizes
 from .source import File, file_of
@@ -100,7 +101,7 @@ class Session:
 
     def report(self, judged: Sequence[Judged], out: BinaryIO) -> Verdict:
         """Writes the report, and gives the verdict."""
-        verdict = verdict_of(judged)
+        verdict = verdict_on(judged)
         write_report(merged([result.path for result in judged], self.tools.folder, self.tools.sizes), verdict.line, out)
         return verdict
 
@@ -160,12 +161,3 @@ class Session:
 def key_event(part: bytes, code: int, place: int) -> KeyEvent:
     kind, process, name = of_code(code)
     return KeyEvent(place, kind.decode(), process, name.decode(), part.decode())
-
-
-def value_of(part: str) -> Any:
-    """A part in Python: None, an integer, the two of a cas, the set that a read answers."""
-    if part.startswith("#{"):
-        return frozenset(map(int, part[2:-1].split()))
-    if part.startswith("["):
-        return tuple(map(int, part[1:-1].split()))
-    return None if part == "nil" else int(part)

@@ -4,7 +4,7 @@ from __future__ import annotations
 
 from typing import NamedTuple
 
-from .. import kinds
+from ..history import kinds
 
 
 class Sizes(NamedTuple):

@@ -11,6 +11,7 @@ import shutil
 from typing import BinaryIO, Callable, Dict, Iterator, List, NamedTuple, Sequence
 
 from ..program import Options
+from ..program.report import Verdict
 from .batches import batches_of
 from .by_key import events_of
 from .doubt import Doubt, ShardsError
@@ -19,7 +20,7 @@ from .folder import checksum_of, write_report, write_shard
 from .judging import REFUSED, Judged, checked, statuses_of, write_result
 from .models import by_model
 from .refusal import first_refusal
-from .report import Verdict, merged, verdict_of
+from .report import merged, verdict_on
 from .report import write_report as write_whole
 from .routing import Source
 from .session import Refused, Session
@@ -146,7 +147,7 @@ def join(folder: str, scratch: str, out: BinaryIO, sizes: Sizes = Sizes()) -> Ve
         judged = [judged_of(folder, shard, reports[shard.name], manifest.options, scratch) for shard in manifest.shards]
     except Doubt as doubt:
         raise refusal_in(manifest, doubt) from doubt
-    verdict = verdict_of(judged)
+    verdict = verdict_on(judged)
     write_whole(merged([result.path for result in judged], scratch, sizes), verdict.line, out)
     return verdict
 
@@ -168,7 +169,7 @@ def judged_of(folder: str, shard: Written, path: str, options: Options, scratch:
         raise ShardsError(f"{path}: it has changed while it was read")
     keys, places = read_map(folder, shard.name)
     statuses = statuses_of(report, keys, places, options._replace(model=shard.model))
-    return write_result(os.path.join(scratch, shard.name + ".result"), statuses, options)
+    return write_result(os.path.join(scratch, shard.name + ".result"), statuses)
 
 
 def refusal_in(manifest: Manifest, doubt: Doubt) -> Exception:

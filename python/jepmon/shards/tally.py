@@ -4,7 +4,7 @@ from __future__ import annotations
 import collections
 from typing import Counter, Dict, Iterable, List, NamedTuple, Sequence
 
-from ..kinds import MODELS, OPERATIONS, WITHOUT_PART
+from ..history.kinds import MODELS, OPERATIONS, WITHOUT_PART
 from .lines import KIND_BITS, NAME_BITS, of_code
 
 SORT = (1 << KIND_BITS + NAME_BITS) - 1  # of a code: the type and the operation, without the process

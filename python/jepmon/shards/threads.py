@@ -1,9 +1,9 @@
-"""How many threads the processes of a file have, by its front or by all of it (see jepmon.lives)."""
+"""How many threads the processes of a file have, by its front or by all of it (see history/process_lives.py)."""
 from __future__ import annotations
 
 from typing import Dict, Iterable, Optional, Tuple
 
-from ..lives import Lives
+from ..history.process_lives import Lives
 from .doubt import Doubt
 from .lines import HEAD, Row, rows_of
 from .pieces import PieceTask, blocks_of

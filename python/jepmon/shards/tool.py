@@ -11,10 +11,11 @@ import threading
 from types import FrameType
 from typing import TYPE_CHECKING, Callable, Dict, Iterator, Optional
 
-from .. import command, kinds
-from ..errors import ProgramError
 from ..forms import Refused as NoHistory
+from ..history import kinds
 from ..program import find_program
+from ..tools import command
+from ..tools.errors import ProgramError
 from .checking import file_error
 from .doubt import ShardsError
 from .models import EACH
@@ -58,7 +59,8 @@ def words() -> argparse.Namespace:
     of_split.add_argument("--concurrency", type=int, metavar="N", help="the threads of the clients, instead of the number found")
     of_split.add_argument("--model", type=kinds.model_of, choices=tuple(kinds.MODELS), metavar="NAME",
                           help="the object that each key is, instead of the one found")
-    of_split.add_argument("--budget", type=int, default=4096, metavar="N", help="the greatest number of ends (possible outcomes) of a key (4096)")
+    of_split.add_argument("--budget", type=int, default=kinds.BUDGET, metavar="N",
+                          help=f"the greatest number of ends (possible outcomes) of a key ({kinds.BUDGET})")
     command.add_by_ends(of_split)
     of_split.add_argument("--jobs", type=int, metavar="N", help="processes that read the history side by side")
     of_split.add_argument("--temporary", metavar="DIR", help="the folder for temporary files")

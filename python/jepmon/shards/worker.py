@@ -5,7 +5,7 @@ import gc
 import multiprocessing.connection
 from typing import Any, Callable, Optional, Tuple
 
-from ..errors import ProgramError
+from ..tools.errors import ProgramError
 from .doubt import Doubt, ShardsError
 
 TOLD = (Doubt, ShardsError, ProgramError, OSError, MemoryError)  # what a task may raise, and is told as it is

@@ -4,7 +4,7 @@ from __future__ import annotations
 from typing import Callable, Dict, List, Sequence, Tuple
 
 from ..history import Operation
-from ..kinds import MODELS
+from ..history.kinds import MODELS
 from . import mutex, queues, registers, sets
 from .units import Unit
 

@@ -2,10 +2,11 @@
 from __future__ import annotations
 
 import heapq
-from typing import AbstractSet, Any, Dict, Iterable, List, Sequence
+from typing import AbstractSet, Dict, Iterable, List, Sequence
 
 from ..history import Event, Operation
-from ..kinds import KEYS, THREADS
+from ..history.kinds import KEYS, THREADS
+from ..history.line import event_line, part_text
 from ..program import Options
 
 
@@ -19,7 +20,7 @@ def without_values(operation: Operation, values: AbstractSet[int]) -> Operation:
     if completion is None or not isinstance(completion.value, frozenset) or not completion.value & values:
         return operation
     less = completion._replace(value=completion.value - values)
-    return operation._replace(completion=less._replace(text=f"{{{line_of(less, less.process)}}}"))
+    return operation._replace(completion=less._replace(text=line_of(less, less.process)))
 
 
 def events_of(operations: Iterable[Operation]) -> List[Event]:
@@ -33,7 +34,7 @@ def text_of(events: Iterable[Event], concurrency: int) -> str:
     greater by the concurrency: the same as in the history, but for operations that timed out and are not among these. Of a history with
     more clients than one check takes each operation gets a thread that is free."""
     clients: Clients = Clients(concurrency) if concurrency <= THREADS else FreeThreads()
-    return "".join(f"{{{line_of(event, clients.process_of(event))}, :original-index {event.index}}}\n" for event in events)
+    return "".join(line_of(event, clients.process_of(event), f", :original-index {event.index}") + "\n" for event in events)
 
 
 def as_asked(options: Options) -> Options:
@@ -76,17 +77,6 @@ class FreeThreads(Clients):
         return thread
 
 
-def line_of(event: Event, process: int) -> str:
+def line_of(event: Event, process: int, further: str = "") -> str:
     key = event.key if event.key in KEYS else 0  # of a history with more keys than one check takes
-    return f":type :{event.kind}, :process {process}, :f :{event.name}, :value [{key} {spelled(event.value)}]"
-
-
-def spelled(value: Any) -> str:
-    """A part of an event, as docs/FORMATS.md has it."""
-    if value is None:
-        return "nil"
-    if isinstance(value, frozenset):
-        return "#{" + " ".join(map(str, sorted(value))) + "}"
-    if isinstance(value, tuple):
-        return "[" + " ".join(map(str, value)) + "]"
-    return str(value)
+    return event_line(event.kind, process, event.name, key, part_text(event.value), further)

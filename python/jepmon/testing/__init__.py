@@ -15,7 +15,7 @@ from __future__ import annotations
 
 from typing import List, Optional
 
-from ..verdicts import Failed
+from ..live.verdicts import Failed
 from .came import Came
 from .errors import ServerError
 from .node import Node

@@ -13,12 +13,12 @@ import sys
 import time
 from typing import Any, Callable, Dict, Iterator, List, NamedTuple, Optional, Sequence
 
-from .. import aftermath
 from ..history import Event
-from ..kinds import ABSENT
+from ..history.kinds import ABSENT
+from ..live import aftermath
+from ..live.run_folder import AFTER, HISTORY, LOST, write_whole
+from ..live.verdicts import Illegal
 from ..rates.run import Statuses
-from ..run_folder import AFTER, HISTORY, LOST, write_whole
-from ..verdicts import Illegal
 from .cluster import Cluster
 from .crashes import finding
 from .errors import Died

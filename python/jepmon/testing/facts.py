@@ -9,10 +9,10 @@ import subprocess
 import sys
 from typing import TYPE_CHECKING, Dict, Sequence
 
-from .. import command
+from ..live.run_folder import RUN_FACTS, write_whole
 from ..rates import run as page
-from ..run_folder import RUN_FACTS, write_whole
 from ..runs import index
+from ..tools import command
 
 if TYPE_CHECKING:
     from .run import Given

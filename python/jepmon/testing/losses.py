@@ -5,11 +5,11 @@ from __future__ import annotations
 import pathlib
 from typing import Dict, Iterator, List, NamedTuple, Optional, Sequence
 
-from .. import aftermath
-from ..fault_times import ends_a_process, holding, seconds, since, until
 from ..history import Event
-from ..notes import Fault
-from ..run_folder import HISTORY, LOST, write_whole
+from ..history.fault_notes import Fault
+from ..history.fault_times import ends_a_process, holding, seconds, since, until
+from ..live import aftermath
+from ..live.run_folder import HISTORY, LOST, write_whole
 from .messages import Missing
 
 SHOWN = 10  # lines for a terminal

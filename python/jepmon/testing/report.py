@@ -3,7 +3,7 @@ from __future__ import annotations
 
 from typing import Iterator, List
 
-from ..run_folder import CAUSE, PAGE, RUN_PAGE
+from ..live.run_folder import CAUSE, PAGE, RUN_PAGE
 from . import losses
 from .links import NAMESPACES, PROXY
 from .run import Given, Outcome

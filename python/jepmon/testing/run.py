@@ -8,17 +8,17 @@ import sys
 import time
 from typing import TYPE_CHECKING, Any, Callable, Counter, Dict, Iterator, List, NamedTuple, Optional, Tuple, Type
 
-from .. import command
-from ..errors import OutputError
-from ..kinds import BUDGETS
-from ..notes import OVER
-from ..run_folder import VERDICT
-from ..verdicts import NotLegal, Refused
+from ..history.fault_notes import OVER
+from ..history.kinds import BUDGETS
+from ..live.run_folder import VERDICT
+from ..live.verdicts import NotLegal, Refused
+from ..tools import command
+from ..tools.errors import OutputError
 from . import client_log, losses
 from .after import FINDING, after_a_finding
 from .cluster import Cluster
-from .crashes import finding
 from .course import Course, Stage
+from .crashes import finding
 from .crew import Mortal
 from .errors import Crashed, Died, ServerError, where
 from .facts import facts_of, leave_facts, leave_pages
@@ -212,7 +212,7 @@ class Test:
                 while True:
                     number = next(turn) % len(clients)
                     op = attempt(clients[number])
-                    if op.outcome == "ok" or op.value is None or not op.told:
+                    if op.outcome == "ok" or op.value is None or not op.recorded:
                         return op
                     cluster.test_alive()
                     if time.monotonic() > end:
@@ -247,7 +247,7 @@ class Test:
             status = 2
         elif not_judged:
             verdict, status, reason = "unknown", 2, "what was judged is legal, and not all was judged"
-        return Outcome(verdict, reason, status, counts, monitor.length, self.at_work, max(self.ended - self.begun, 0.001), monitor.parts,
+        return Outcome(verdict, reason, status, counts, monitor.length, self.at_work, max(self.ended - self.begun, 0.001), monitor.segments,
                        not_judged, self.struck, work.lost, monitor.folder)
 
 

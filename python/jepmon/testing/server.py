@@ -5,13 +5,13 @@ import shutil
 import time
 from typing import Callable, List, Mapping, NamedTuple, Optional, Sequence, Tuple, Type
 
-from ..endings import Exceptions
+from ..live.outcome_rules import Exceptions
 from .errors import ServerError
 from .node import Node
 from .strikes.kind import Strike
 from .workloads import Work
 
-ALL_STRIKES = ("kill", "pause", "cut", "part", "slow", "halves", "oneway", "ring", "bridge", "loss", "reorder", "corrupt")
+ALL_STRIKES = ("kill", "pause", "cut", "partition", "slow", "halves", "oneway", "ring", "bridge", "loss", "reorder", "corrupt")
 
 
 class Client:

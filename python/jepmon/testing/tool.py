@@ -8,13 +8,13 @@ import threading
 from types import FrameType
 from typing import TYPE_CHECKING, List, Optional, Tuple
 
-from .. import command
-from ..errors import OutputError, ProgramError
-from ..verdicts import NotLegal
-from . import report, words
+from ..live.verdicts import NotLegal
+from ..tools import command
+from ..tools.errors import OutputError, ProgramError
+from . import report, cli_options as words
+from .cli_options import NAME
 from .errors import ServerError, where
 from .run import Given, Test
-from .words import NAME
 
 if TYPE_CHECKING:
     from ..long import LongMonitor

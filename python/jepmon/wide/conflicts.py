@@ -4,9 +4,9 @@ from __future__ import annotations
 
 from typing import AbstractSet, FrozenSet, List, Optional, Sequence
 
-from .. import kinds
-from ..effort import Effort
+from ..causes.effort import Effort
 from ..history import Operation
+from ..history import kinds
 from ..program import Options, check
 from ..shrink import Part, Search
 from ..shrinking.part import as_asked, events_of, text_of

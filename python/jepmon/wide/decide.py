@@ -6,7 +6,7 @@ import bisect
 from typing import Iterator, List, NamedTuple, Optional, Sequence, Union
 
 from ..history import Operation
-from ..kinds import THREADS
+from ..history.kinds import THREADS
 from ..program import Options, ProgramError
 from ..shrink import Part
 from .confirmed import confirmed

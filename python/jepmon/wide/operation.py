@@ -6,7 +6,7 @@ import time
 from typing import Callable, List, NamedTuple, Sequence, Tuple, Union
 
 from ..history import Operation
-from ..kinds import MODELS, REGISTERS
+from ..history.kinds import MODELS, REGISTERS
 from ..objects import Part
 
 NEVER = 1 << 62  # the completion of what need not have taken place

@@ -4,8 +4,8 @@ from __future__ import annotations
 from typing import Dict, Sequence
 
 from ..history import Operation
-from ..kinds import ANSWERED, REGISTERS
-from ..replay import OBJECTS, Wanted
+from ..history.kinds import ANSWERED, REGISTERS
+from ..objects.replay import OBJECTS, Wanted
 
 
 def is_order(operations: Sequence[Operation], model: str, order: Sequence[int]) -> bool:

@@ -67,14 +67,14 @@
      :jepsen-index (:jepsen-index op)
      :cause (when (.exists cause) (slurp cause))}))
 
-(defn- words-of [{:keys [model key budget jobs nil-is-absent initial wide-seconds]}]
+(defn- words-of [{:keys [model key budget jobs nil-is-absent initial decide-seconds wide-seconds]}]
   (cond-> []
     model (into ["--model" (name model)])
     key (into ["--key" (str key)])
     budget (into ["--budget" (str budget)])
     jobs (into ["--jobs" (str jobs)])
     initial (into ["--initial" (str initial)])
-    wide-seconds (into ["--wide-seconds" (str wide-seconds)])
+    (or decide-seconds wide-seconds) (into ["--decide-seconds" (str (or decide-seconds wide-seconds))])
     nil-is-absent (conj "--nil-is-absent")))
 
 (def verdicts
@@ -112,7 +112,7 @@
 
 (defn linearizable
   "A checker. Options: :model, which jepmon-judge else finds out; :key, if values are no tuples; :budget, :jobs, :initial, :nil-is-absent
-  and :wide-seconds as those of jepmon-judge; :program, its path.
+  and :decide-seconds (formerly :wide-seconds) as those of jepmon-judge; :program, its path.
 
   The result has :valid? (true, false or :unknown), :verdict (the last line of the report), :key-count, :failures, :unknown and
   :jepmon-dir, the folder of all that came of it. If :valid? is false, also :key, :index, :op (the first event after which the history

@@ -8,8 +8,8 @@ from __future__ import annotations
 
 from typing import List, Optional
 
-from ...endings import Exceptions
-from ...verdicts import Failed
+from ...live.outcome_rules import Exceptions
+from ...live.verdicts import Failed
 from ..came import Came
 from ..node import At, Node
 from ..server import Client, Plant, Server

@@ -12,7 +12,7 @@ import json
 import uuid
 from typing import Any, Dict, List, Optional, Sequence, Set, Type, Union
 
-from ...endings import Exceptions
+from ...live.outcome_rules import Exceptions
 from ..node import At, Node
 from ..server import Client, Leases, Plant, Server
 from . import etcd_members
@@ -143,7 +143,7 @@ class Etcd(Server):
     strikes = etcd_members.STRIKES
     cannot = {name: "etcd is written in Go, and does not ask the C library for the time" for name in ("bump", "strobe")}
     plants = {
-        "serializable": Plant("reads are serializable: a member answers without asking the others", "cas-register", "pause,part"),
+        "serializable": Plant("reads are serializable: a member answers without asking the others", "cas-register", "pause,partition"),
         "lease": Plant("the lease is shorter than the work", "mutex"),
     }
 

@@ -21,7 +21,6 @@ if TYPE_CHECKING:
 
 TIMEOUT, PAUSE, LAST = 2.0, 0.2, 5.0  # seconds of a call, between two, and at the end
 GONE = "member not found"  # what etcd says where a member was removed before
-Ask = Callable[..., Any]  # of the JSON gateway: its path, and what is asked
 
 
 @contextlib.contextmanager

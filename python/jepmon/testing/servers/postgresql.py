@@ -12,7 +12,7 @@ import pwd
 import shutil
 from typing import Dict, List, Optional, Sequence, Type
 
-from ...endings import Exceptions
+from ...live.outcome_rules import Exceptions
 from ..errors import ServerError
 from ..node import At, Node, completed
 from ..server import Client, Plant, Server

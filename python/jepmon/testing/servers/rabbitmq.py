@@ -19,7 +19,7 @@ import threading
 import time
 from typing import Dict, List, Optional, Sequence, Tuple, Type
 
-from ...verdicts import Failed
+from ...live.verdicts import Failed
 from ..came import Came
 from ..errors import ServerError
 from ..node import At, Node

@@ -9,7 +9,7 @@ from __future__ import annotations
 import uuid
 from typing import Dict, List, Optional, Sequence, Type
 
-from ...endings import Exceptions
+from ...live.outcome_rules import Exceptions
 from ..node import At, Node
 from ..server import ALL_STRIKES, Client, Leases, Plant, Server
 from ..wire.resp import Redis as Connection
@@ -104,10 +104,10 @@ class Redis(Server):
     durabilities = {"always": "each command is synced before it is answered", "everysec": "the file is synced each second, as by default",
                     "no": "the file is never synced"}
     plants = {
-        "replica": Plant("reads at a replica, which is a write behind", "register", "part"),
+        "replica": Plant("reads at a replica, which is a write behind", "register", "partition"),
         "forgetful": Plant("the server keeps nothing on its disk", "register", "kill:n1", 1),
         "early": Plant("a queue acknowledges what it has not kept", "fifo-queue", "kill:n1", 1),
-        "members": Plant("members are read at a replica, which is a write behind", "set", "part"),
+        "members": Plant("members are read at a replica, which is a write behind", "set", "partition"),
         "lease": Plant("the lease is shorter than the work", "mutex", nodes=1),
     }
 

@@ -12,7 +12,7 @@ import pathlib
 import socket
 from typing import Dict, List, Optional, Type
 
-from ...endings import Exceptions
+from ...live.outcome_rules import Exceptions
 from ..errors import ServerError
 from ..node import At, Node
 from ..server import ALL_STRIKES, Client, Plant, Server
@@ -78,7 +78,7 @@ class ZooKeeper(Server):
     size, sizes, survives_power = 3, range(1, 8), True
     # A record of its log that is torn ends a server for good, so `tear` is not among those that it ought to bear.
     bears = {model: (*ALL_STRIKES, "power") for model in CLIENTS}
-    plants = {"own": Plant("reads are of what the client's server has", "register", "pause,part")}
+    plants = {"own": Plant("reads are of what the client's server has", "register", "pause,partition")}
 
     @classmethod
     def test_installed(cls) -> None:

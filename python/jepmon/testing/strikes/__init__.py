@@ -4,7 +4,7 @@ known.py    all of them by name; a server's file adds its own as `strikes`
 kind.py     what a strike is: its text, its lane, its parameters, and what it does
 process.py  kill, pause
 power.py    power, tear                    clock.py  bump, strobe
-links.py    cut, part, slow, partitions, packets
+links.py    cut, partition, slow, partitions, packets
 clients.py  client-pause, client-crash
 told.py     what the history notes of a strike
 plan.py     --nemesis, and what is drawn from a seed

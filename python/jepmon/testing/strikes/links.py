@@ -83,7 +83,7 @@ NEEDS: FrozenSet[str] = frozenset([NEEDS_LINKS])
 SHARE = Parameter(0.02, 0.3, 0.0, 1.0)  # of packets
 STRIKES: Dict[str, Strike] = {
     "cut": Strike("clients are cut off from {node}", cut(to_clients), LINKS, needs=NEEDS),
-    "part": Strike("{node} is cut off from the other nodes", cut(to_others), LINKS, nodes=2, needs=NEEDS),
+    "partition": Strike("{node} is cut off from the other nodes", cut(to_others), LINKS, nodes=2, needs=NEEDS),
     "slow": Strike("all links of {node} are slow, by {delay:.3g} s and up to {jitter:.3g} s more",
                    struck(to_all, lambda values: Effect(delay=values["delay"], jitter=values["jitter"])), LINKS,
                    {"delay": Parameter(0.01, 0.3, 0.0, 60.0), "jitter": Parameter(0.0, 0.1, 0.0, 60.0)}, needs=NEEDS),

@@ -3,7 +3,7 @@
     kill,pause:n1                      these strikes, drawn; of pause only node n1 is struck
     all,power                          all that the server bears, and one more
     slow:delay=0.2:lasting=1..5        parameters: a number, or two between which each strike draws one
-    part:leader                        the node that the server names as its leader (Server.leader)
+    partition:leader                   the node that the server names as its leader (Server.leader)
     pause:n1@2+4,pause:n2@3+1          a schedule: from second 2 on, for 4 seconds; both are down from 3 to 4
 """
 from __future__ import annotations
@@ -20,6 +20,7 @@ ITEM = re.compile(r"(?P<name>[a-z-]+)(?::(?P<node>n[0-9]+|leader))?(?P<given>(?:
                   r"(?:@(?P<begin>[0-9]+(?:\.[0-9]+)?)(?:\+(?P<lasting>[0-9]+(?:\.[0-9]+)?))?)?")
 NUMBER = r"-?[0-9]+(?:\.[0-9]+)?"
 RANGE = re.compile(rf"({NUMBER})(?:\.\.({NUMBER}))?")
+ALIASES = {"part": "partition"}  # former names of strikes
 LASTING = Parameter(0.1, 10.0, 0.01)  # seconds of a strike
 REST = Parameter(0.2, 3.0)  # seconds between two strikes of a lane
 SHARE = 0.15  # of a run: no strike that is drawn lasts longer, and the first one comes before half of it
@@ -70,7 +71,8 @@ class Plan:
         self.nodes, self.known, self.has_leader = nodes, strikes, has_leader
         self._why_not = why_not
         self.left_out: Dict[str, str] = {}
-        items = [item for word in text.split(",") for item in self._items(word, default)]
+        all_of_it = [ALIASES.get(name, name) for name in default]
+        items = [item for word in text.split(",") for item in self._items(word, all_of_it)]
         timed = [item for item in items if item.begin is not None]
         if timed and len(timed) < len(items):
             raise ServerError(f"--nemesis {text}: either each strike has its time, as kill@3, or none has")
@@ -96,9 +98,10 @@ class Plan:
 
     def _item(self, word: str) -> Item:
         found = ITEM.fullmatch(word)
-        if found is None or found["name"] not in self.known:
+        name = ALIASES.get(found["name"], found["name"]) if found is not None else ""
+        if found is None or name not in self.known:
             raise ServerError(f"--nemesis {word}: it takes all, none, or of {', '.join(self.known)} any, as kill,pause or kill:n1@3+0.5")
-        name, node = found["name"], found["node"]
+        node = found["node"]
         reason = self._reason(name)
         if reason is not None:
             left = [one for one in self.known if self._reason(one) is None]

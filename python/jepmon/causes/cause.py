@@ -1,0 +1,163 @@
+"""Why a key is illegal, or unknown, in words.
+
+    cause = explain(events, report, options)    # of what `program.check` said; None where that is no illegal and no unknown
+    print("\n".join(lines(cause)))
+
+The verdict is the program's, and so is what is said of another answer: each is asked of it. What else the sentences say was found
+by the walk (objects/configurations.py), and is not proved. Where the walk gave up, or says another event than the program, only what the program
+said is told, or what is true of the smallest illegal part.
+"""
+from __future__ import annotations
+
+import textwrap
+from typing import Callable, Dict, List, Mapping, NamedTuple, Optional, Protocol, Sequence
+
+from ..history import Event, of_key, operations
+from ..history import names as spelling
+from ..history.fault_notes import Fault
+from ..history.kinds import MODELS
+from ..objects.configurations import follow
+from ..program import Options, Report
+from ..shrink import Part, smallest
+from .beside import of_event
+from .case import Case, Found, Mention, mentions
+from .effort import Effort
+from .failures import of_another_model, of_failure
+from .locks import of_mutex
+from .names import Names, capital, client, ordinal_times
+from .queues import of_queue
+from .registers import of_register
+from .sets import of_set
+from .unknown import Over, of_unknown
+
+NOT_PROVED = "Proved are the verdict, and what jepmon was asked. The other sentences are not."
+BY_MODEL: Dict[str, Callable[[Case], Found]] = {
+    "register": of_register,
+    "cas-register": of_register,
+    "mutex": of_mutex,
+    "fifo-queue": of_queue,
+    "unordered-queue": of_queue,
+    "set": of_set,
+}
+LISTED = 24  # events that are listed
+
+
+class Cause(NamedTuple):
+    """A cause, ready to be shown: plain text throughout, without line ends."""
+
+    verdict: str  # the program's own line
+    key: int
+    headline: str  # one sentence, which says all that matters
+    sentences: List[str]  # what else there is to say
+    mentions: List[Mention]  # events that the sentences speak of, with a few words or none, in the order of the history
+    part: Optional[Part]  # the smallest illegal part, where it was looked for and found
+    names: Names = Names()
+    proviso: str = NOT_PROVED
+
+
+class Named(Protocol):
+    """What numbered keys and values stand for, by number: as history.names.Names has it, or causes.names.Names."""
+
+    @property
+    def keys(self) -> Mapping[int, str]: ...
+
+    @property
+    def values(self) -> Mapping[int, str]: ...
+
+
+def explain(events: Sequence[Event], report: Report, options: Options, names: Named = Names(), program: Optional[str] = None,
+            effort: Optional[Effort] = None, shrink: bool = True, known: Optional[Part] = None,
+            faults: Sequence[Fault] = ()) -> Optional[Cause]:
+    """The cause of a verdict: the events are those of the whole history, report is what the program said of them with these
+    options. Most of the effort is for the smallest part; `shrink=False` leaves that out, and a part that is known to be illegal at the
+    same event takes its place. Of `faults` those are named that came before what it speaks of. None where the verdict is neither illegal nor unknown. A ProgramError comes where the program can't be
+    asked."""
+    line = next((line for line in report.keys if line.key == report.key), None)
+    if line is None or line.index is None or report.word not in ("illegal", "unknown"):
+        return None
+    own, named = Options(options.concurrency, line.model, line.budget, by_ends=options.by_ends), Names(names.values, names.keys)
+    whole = of_key(events, line.key)
+    front = [event for event in whole if event.index <= (line.index or 0)]
+    effort = effort or Effort()
+    part: Optional[Part] = None
+    if report.word == "unknown":
+        found = of_unknown(Over(line.model, line.key, front, whole, own, named, program, effort))
+    else:
+        later = whole[len(front):]
+        walked = of_illegal(own, front, later, named, program, effort, faults)
+        part = known
+        if shrink and known is None:
+            hints = [mention.event.index for mention in walked.mentions] if walked is not None else []
+            part = smallest(events, report, options, program, effort, hints)
+        if walked is None and part is not None:
+            walked = of_part_alone(of_illegal(own, part.events, later, named, program, effort, faults))
+        found = walked or untold(own, front, named)
+        found = found._replace(sentences=[*found.sentences, of_event(faults, front[-1])])
+    told = {mention.event.index: mention for mention in sorted(found.mentions, key=lambda mention: bool(mention.note))}
+    sentences = [sentence for sentence in [*found.sentences, effort.said] if sentence]
+    return Cause(report.verdict, line.key, found.headline, sentences, [told[index] for index in sorted(told)], part, named)
+
+
+def of_illegal(options: Options, front: List[Event], later: List[Event], names: Names, program: Optional[str],
+               effort: Effort, faults: Sequence[Fault]) -> Optional[Found]:
+    """What there is to say of a key that is illegal at the last of these events; None where the walk does not come to that."""
+    made = operations(front, options.concurrency)
+    fatal = next(operation for operation in made if operation.completion is front[-1])
+    walked = follow(front, options, program, effort.work)
+    effort.learn(walked, options.is_wide(program))
+    if walked.status != "dead" or walked.fatal != front[-1]:
+        return None
+    case = Case(options.model, front[-1].key, front, made, fatal, later, walked, options, names, program, effort, faults)
+    if fatal.invocation.name not in MODELS[options.model]:
+        return of_another_model(case)
+    return of_failure(case) if fatal.outcome == "fail" else BY_MODEL[options.model](case)
+
+
+def of_part_alone(found: Optional[Found]) -> Optional[Found]:
+    """What is said of the smallest part, where the whole has too many orders."""
+    if found is None:
+        return None
+    proviso = "There were too many orders of the whole history to try within the limit of work: what follows is true of the part below by itself."
+    return found._replace(sentences=[proviso] + found.sentences)
+
+
+def untold(options: Options, front: List[Event], names: Names) -> Found:
+    """Where the walk gave up: what the program said, and no more."""
+    fatal = next(operation for operation in operations(front, options.concurrency) if operation.completion is front[-1])
+    where = names.object(options.model, front[-1].key)
+    said = f"{capital(client(fatal))}'s {names.operation(fatal)} on {where} fits no order of the operations."
+    return Found(said, ["There were too many orders to try within the limit of work: which it might have fitted can't be told."], mentions([fatal]))
+
+
+# --- As text ---
+
+
+def lines(cause: Cause, width: int = 110) -> List[str]:
+    """The cause as text for a terminal: the sentences, and the events of the smallest part, or else those that they speak of."""
+    said = textwrap.wrap(cause.headline, width)
+    for sentence in cause.sentences:
+        said += textwrap.wrap(sentence, width, initial_indent="  ", subsequent_indent="  ")
+    notes = {mention.event.index: mention.note for mention in cause.mentions}
+    events = cause.part.events if cause.part is not None else [mention.event for mention in cause.mentions]
+    said += of_part(cause.part) if cause.part is not None else []
+    if len(events) > LISTED:
+        said.append(f"    (the first {len(events) - LISTED} events are left out here)")
+    return said + [f"    {shown(event, cause.names, notes.get(event.index, ''))}" for event in events[-LISTED:]] + [cause.proviso]
+
+
+def of_part(part: Part) -> List[str]:
+    """What the part is."""
+    if part.operations == part.of:
+        what = {1: "The only operation", 2: "Both operations"}.get(part.of, f"All {part.of} operations")
+        return [f"{what} of the key up to there:"]
+    which, verb = ("This one", "is") if part.operations == 1 else (f"These {part.operations}", "are")
+    asked = f"jepmon was asked {ordinal_times(part.checks)}{'' if part.finished else '; the limit of the search was met, and more might go out'}"
+    said = [f"{which} of the key's {part.of} operations up to there {verb} illegal alone ({asked}):"]
+    return said + ["    (of sets only the members that matter are shown)"] if part.values else said
+
+
+def shown(event: Event, names: Names, note: str) -> str:
+    """The event as it stands in the file. One that stands in no file has no line."""
+    line = f", line {event.line}" if event.line else ""
+    text = spelling.Names(names.keys, names.values).event(event.text)[:200]
+    return f"event {event.index}{line}: {text}{'    <-- ' + note if note else ''}"

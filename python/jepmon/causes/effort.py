@@ -1,0 +1,48 @@
+"""How much work the cause of a verdict may take. It is counted in steps and never by a clock, so that one history has one cause, on
+whatever machine and beside whatever else that does; and what was left out for it is said."""
+from __future__ import annotations
+
+from typing import List
+
+from ..objects.configurations import WORK, Walk
+
+WHOLE = 10_000_000  # for one key: about as many microseconds on a machine that does nothing else
+ASKING = 3_000  # for the start of the program
+CHARACTER = 0.2  # of the text that it is asked about
+OUTCOME = 0.1  # that it tries
+LEAN = 500.0  # outcomes that an event of a wide kind brings it to try: in loads of twelve clients without think time some fifty
+WALKED = 0.5  # outcome that a walk of this package tries
+GAVE_UP = "Left out, since the limit of work was met: {}."
+
+
+class Effort:
+    """What is left of it for one key."""
+
+    def __init__(self, whole: float = WHOLE, work: int = WORK) -> None:
+        self.left = whole
+        self.work = work  # of one walk
+        self.left_out: List[str] = []  # what was not looked for, or not to its end, in a few words each
+        self._outcomes = 1.0  # that an event of the key brings the program to try
+
+    def learn(self, walked: Walk, is_wide: bool = False) -> None:
+        """How much an event costs, by a walk through the key's events, which is counted. A wide kind costs the program LEAN at most, however
+        many ends a walk tries."""
+        self.left -= WALKED * walked.tried
+        self._outcomes = min(max(1.0, walked.tried / max(1, len(walked.steps))), LEAN if is_wide else float("inf"))
+
+    def may_ask(self, text: str, events: int) -> bool:
+        """Whether the program may be asked about this text, of so many events; that it is then asked is counted."""
+        cost = ASKING + CHARACTER * len(text) + OUTCOME * self._outcomes * events
+        if cost > self.left:
+            return False
+        self.left -= cost
+        return True
+
+    def leave_out(self, what: str) -> None:
+        if what not in self.left_out:
+            self.left_out.append(what)
+
+    @property
+    def said(self) -> str:
+        """What was left out, as a sentence; nothing where nothing was."""
+        return GAVE_UP.format("; ".join(self.left_out)) if self.left_out else ""

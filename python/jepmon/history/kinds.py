@@ -1,0 +1,53 @@
+"""The six kinds of objects that jepmon judges (its models), their operations, and the limits of what it takes."""
+from __future__ import annotations
+
+from typing import Dict, FrozenSet, Tuple
+
+# Each model and its operations. Of two models with the same operations the stricter one comes first.
+MODELS: Dict[str, FrozenSet[str]] = {
+    "register": frozenset({"read", "write"}),
+    "cas-register": frozenset({"read", "write", "cas"}),
+    "mutex": frozenset({"acquire", "release"}),
+    "fifo-queue": frozenset({"enqueue", "dequeue"}),
+    "unordered-queue": frozenset({"enqueue", "dequeue"}),
+    "set": frozenset({"add", "read"}),
+}
+# Models of which the program has a second kind, and its name: the same object, counted otherwise, so that less is over the budget.
+WIDE: Dict[str, str] = {"register": "wide-register", "set": "wide-set"}
+NAMES: Tuple[str, ...] = (*MODELS, *WIDE.values())  # by which a model may be named
+OPERATIONS: FrozenSet[str] = frozenset().union(*MODELS.values())
+REGISTERS: Tuple[str, ...] = ("register", "cas-register")
+QUEUES: Tuple[str, ...] = ("fifo-queue", "unordered-queue")
+
+ANSWERED = frozenset({"read", "dequeue"})  # operations whose ok tells an answer
+WITHOUT_PART = frozenset({"read", "dequeue", "acquire", "release"})  # operations that are invoked with nil
+BROUGHT = {"write": "written", "cas": "set", "add": "added", "enqueue": "enqueued"}  # operations that bring a value in, and the verb of it
+EVENT_TYPES: Tuple[str, ...] = ("invoke", "ok", "fail", "info")
+
+NOT_JUDGED = {  # other operations that tests have, and what they are
+    "txn": "is a transaction over several keys, which jepmon does not judge (Elle does)",
+    "transfer": "moves an amount between the accounts of a bank, which jepmon does not judge: such a test looks at the sum of all "
+                "accounts in each read (Jepsen's own jepsen.tests.bank does)",
+}
+
+KEYS = range(0, 1 << 16)
+VALUES = range(-(1 << 63), 1 << 63)
+PROCESSES = range(0, 1 << 32)
+INDICES = range(0, 1 << 32)
+THREADS = 64  # the greatest concurrency
+EVENTS = 1 << 20  # of a history at most
+BUDGETS = range(1, (1 << 16) + 1)
+BUDGET = 4096  # if none is given
+
+ABSENT = -(1 << 63)  # the value by which a Monitor tells that a register's key is missing
+
+
+def model_of(name: str) -> str:
+    """The model that a kind of the program is; another name stays as it is."""
+    return next((model for model, wide in WIDE.items() if wide == name), name)
+
+
+def kind_of(model: str, by_ends: bool) -> str:
+    """The kind by which the program judges a model: the wide one, if there is one, or by ends the one of the model's name."""
+    model = model_of(model)
+    return model if by_ends else WIDE.get(model, model)

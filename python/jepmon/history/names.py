@@ -1,0 +1,55 @@
+"""What numbers stand for in a history whose keys or values were numbered, as its own comments say.
+
+A history in jepmon's form has integers alone. What makes one of other keys and values numbers them, and says so in comments, a
+line each: `; key 0 is :x`, `; value 3 is "blue"`. By these they are turned back where a person reads them.
+"""
+from __future__ import annotations
+
+import re
+from typing import Dict, Iterator, Mapping, Optional
+
+from ..tools.command import printable
+from . import kinds
+
+COMMENT = r"^; (key|value) ([+-]?[0-9]{1,20}) is ([^\n\r]*)"
+IN_EVENT = r"(:value \[)([+-]?[0-9]+)(\s[^\]]*)"
+NUMBER = r"(?<![\w.+-])[+-]?[0-9]+(?![\w.])"
+MOST = 400  # characters of a name that are written
+ABSENT = "ABSENT"  # a missing key
+
+
+class Names:
+    """The names of numbered keys and values. A number without a name is its own."""
+
+    def __init__(self, keys: Optional[Mapping[int, str]] = None, values: Optional[Mapping[int, str]] = None) -> None:
+        self.keys: Dict[int, str] = dict(keys or {})
+        self.values: Dict[int, str] = {kinds.ABSENT: ABSENT, **(values or {})}
+
+    @classmethod
+    def read(cls, text: str) -> Names:
+        """The names that the comments of a history tell."""
+        names = cls()
+        for what, number, name in re.findall(COMMENT, text, re.M):
+            (names.keys if what == "key" else names.values)[int(number)] = name
+        return names
+
+    def comments(self) -> Iterator[str]:
+        """The lines that tell them."""
+        for what, names in (("key", self.keys), ("value", self.values)):
+            for number, name in names.items():
+                if (number, name) != (kinds.ABSENT, ABSENT):
+                    yield f"; {what} {number} is {printable(name)[:MOST]}\n"
+
+    def key(self, number: int) -> str:
+        return self.keys.get(number, str(number))
+
+    def value(self, number: int) -> str:
+        return self.values.get(number, str(number))
+
+    def event(self, text: str) -> str:
+        """The text of an event with the key and the values by their names."""
+        return re.sub(IN_EVENT, lambda found: found[1] + self.key(int(found[2])) + self.part(found[3]), text)
+
+    def part(self, text: str) -> str:
+        """A text with the integers in it as values."""
+        return re.sub(NUMBER, lambda found: self.value(int(found[0])), text)

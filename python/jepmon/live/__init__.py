@@ -1,0 +1,1 @@
+"""Live tests: the Monitor, and the modules that it imports."""

@@ -1,0 +1,106 @@
+"""The cause and the page of a key that is illegal or unknown in a live test, from the history in the folder of its run."""
+from __future__ import annotations
+
+import pathlib
+import sys
+from typing import List, NamedTuple, Tuple
+
+from ..history import Event, read_history
+from ..history.fault_notes import Fault, faults_of
+from ..history.line import LINE, TIME, part_of_text
+from ..program import ProgramError, Report
+from ..program.report import KeyLine, Verdict, report_on
+from .run_folder import AFTER, HISTORY, RunFolder
+
+
+
+class Bad(NamedTuple):
+    """A key that is not legal."""
+
+    reply: str
+    key: int
+    at: int  # the event
+    model: str
+    budget: int
+
+
+class Told(NamedTuple):
+    """What there is to say of it; empty where a fault of this package was in the way, which is said on standard error."""
+
+    cause: List[str]
+    page: str
+
+
+def told(folder: RunFolder, bad: Bad) -> Told:
+    """The verdict stands whatever comes of this, so that nothing is raised."""
+    try:
+        return _told(folder, bad)
+    except (ProgramError, OSError) as fault:
+        say(f"{folder.name} has no cause and no page: {fault}")
+    except Exception as fault:
+        say(f"{folder.name} has no cause and no page, by a fault of jepmon itself: {fault!r}")
+    return Told([], "")
+
+
+def _told(folder: RunFolder, bad: Bad) -> Told:
+    from ..causes import cause  # here, since no test that is legal needs them
+    from .. import page  # here, since no test that is legal needs them
+    from ..objects import configurations as walk  # here, since no test that is legal needs them
+
+    events, faults = read(folder.path / HISTORY, bad.key)
+    own = folder.options._replace(model=bad.model, budget=bad.budget)
+    report = report_of(bad, len(events), own.is_wide(folder.program))
+    found = cause.explain(events, report, folder.options, program=folder.program, faults=faults)
+    found = found._replace(sentences=[*read_again(folder), *found.sentences]) if found is not None else None
+    is_uncounted = report.word == "unknown" and own.is_wide(folder.program)  # by a walk
+    walked = None if is_uncounted else page.walked(walk.follow(events, own, folder.program), {})
+    drawn = page.render(page.PageInput(
+        verdict=bad.reply, key=bad.key, events=events, model=bad.model, concurrency=folder.options.concurrency, budget=bad.budget,
+        report=report.text.split("\n")[0], file=f"{folder.name}/{HISTORY}", walked=walked, faults=faults, again=f"jepmon {folder.again}",
+        headline=found.headline if found is not None else "", sentences=found.sentences if found is not None else (),
+        smallest=found.part.events if found is not None and found.part is not None else ()))
+    return Told(cause.lines(found) if found is not None else [], drawn)
+
+
+def read_again(folder: RunFolder) -> List[str]:
+    """What the test has found as it read the key once more."""
+    try:
+        return (folder.path / AFTER).read_text("utf-8").splitlines()
+    except OSError:
+        return []
+
+
+def read(history: pathlib.Path, key: int) -> Tuple[List[Event], List[Fault]]:
+    """The events of the key, with their places in the whole history, and the faults that the history notes. The history is one that
+    was written here: an event a line."""
+    with open(history, encoding="utf-8", newline="\n") as file:
+        lines = file.read().split("\n")
+    events: List[Event] = []
+    index, wanted = -1, f":value [{key} "
+    for number, line in enumerate(lines, 1):
+        if line.startswith("{"):
+            index += 1
+            if wanted in line:
+                events.append(event_of(line, index, number))
+    return events, faults_of(lines)
+
+
+def event_of(line: str, index: int, number: int) -> Event:
+    """The event of a line that was written here, fast: a key may have a hundred thousand."""
+    found = LINE.fullmatch(line)
+    time = TIME.fullmatch(found[6] or "") if found is not None else None
+    if found is None or time is None:
+        return read_history(line)[0]._replace(index=index, line=number)
+    kind, process, name, key, part, _ = found.groups()
+    return Event(index, kind, int(process), name, int(key), part_of_text(part), number, line, {"time": int(time[1])})
+
+
+def report_of(bad: Bad, events: int, is_wide: bool) -> Report:
+    """What `jepmon check` says of this key, as far as the reply has it."""
+    verdict = Verdict(bad.reply.split(" ")[0], (bad.at, bad.key))
+    status = "dead" if verdict.word == "illegal" else "over"
+    return report_on([KeyLine(bad.key, bad.model, bad.budget, events, status, bad.at, is_wide)], verdict)
+
+
+def say(text: str) -> None:
+    print(f"jepmon: {text}", file=sys.stderr)

@@ -1,0 +1,73 @@
+"""What a run of a live test leaves in its folder: the verdict as soon as it has fallen, and at the end the cause and the page."""
+from __future__ import annotations
+
+import sys
+from typing import Counter, Dict, List, Mapping, NamedTuple, Optional
+
+from . import aftermath
+from .run_folder import CAUSE, COUNTS, NAMES, PAGE, VERDICT, RunFolder
+from .verdicts import NotLegal, Unknown
+
+
+class Conclusion(NamedTuple):
+    """What came of a run."""
+
+    failure: Optional[NotLegal]  # None: legal
+    length: int
+    counts: Dict[str, Counter[str]]  # of outcomes, by operation
+    dropped: Dict[int, Unknown]
+    ended_by: Optional[BaseException]  # that the test raised, where it did not come to its end
+    model: str  # of the key that is not legal
+    budget: int
+    names: Mapping[int, object]  # what numbers stand for
+
+
+def leave_verdict(folder: RunFolder, conclusion: Conclusion) -> None:
+    folder.put(COUNTS, counts_text(conclusion, folder.lost))
+    if conclusion.names:
+        folder.put(NAMES, "".join(f"{number} is {thing!r}\n" for number, thing in conclusion.names.items()))
+    folder.put(VERDICT, (conclusion.failure.reply if conclusion.failure is not None else "legal") + "\n")
+
+
+def leave_cause(folder: RunFolder, conclusion: Conclusion) -> None:
+    """Why it is illegal or unknown, in words and as a page. Nothing where the history does not have it, and says so elsewhere."""
+    failure = conclusion.failure
+    if failure is None or failure.key is None or failure.index is None or folder.lost is not None:
+        return
+    bad = aftermath.Bad(failure.reply, failure.key, failure.index, conclusion.model, conclusion.budget)
+    told = aftermath.told(folder, bad)
+    folder.put(CAUSE, "".join(line + "\n" for line in [*told.cause, *failure.hint.split("\n")] if line))
+    if told.page:
+        folder.put(PAGE, told.page)
+
+
+def leave_page(folder: RunFolder) -> None:
+    """The page of the whole run, legal or not; of a part the run has it."""
+    if not folder.is_part:
+        from ..rates.run import leave  # here, since a test without a folder needs no page
+
+        leave(folder.path, folder.lost is not None)
+
+
+def counts_text(conclusion: Conclusion, lost: Optional[str]) -> str:
+    """How many operations ended how, and what else is to be known of the run."""
+    lines: List[str] = [f"events: {conclusion.length}", *count_lines(conclusion.counts)]
+    lines += [f"dropped: {unknown.reply}" for unknown in conclusion.dropped.values()]
+    if conclusion.ended_by is not None and not isinstance(conclusion.ended_by, NotLegal):
+        lines.append(f"the test was ended by {conclusion.ended_by!r}")
+    if lost is not None:
+        lines.append(lost)
+    return "\n".join(lines) + "\n"
+
+
+def say_if_idle(counts: Dict[str, Counter[str]]) -> None:
+    """Says on standard error that nothing worked: that is legal, and says nothing of the store."""
+    total = sum(sum(counted.values()) for counted in counts.values())
+    if total and not any(counted["ok"] for counted in counts.values()):
+        print(f"jepmon: none of {total} operations was ok, so nothing was judged", file=sys.stderr)
+
+
+def count_lines(counts: Dict[str, Counter[str]]) -> List[str]:
+    """How many operations ended how, a line for each name."""
+    return [f"{name}: " + ", ".join(f"{counted[outcome]} {outcome}" for outcome in ("ok", "fail", "info"))
+            for name, counted in sorted(counts.items())]

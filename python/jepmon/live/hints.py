@@ -1,0 +1,47 @@
+"""What may be done about a reply that is not `legal`, beside it: for people, and not proved."""
+from __future__ import annotations
+
+from typing import AbstractSet, Callable
+
+from ..history.kinds import BUDGETS, EVENTS, MODELS, THREADS
+
+HINTS = {  # beside a refusal, by its name
+    "HistoryFull": f"a history has {EVENTS} events at most; a LongMonitor goes on with one after another",
+    "BadBudget": f"a budget is a number from {BUDGETS.start} to {BUDGETS.stop - 1}",
+    "BadConcurrency": f"the concurrency is a number from 1 to {THREADS}",
+    "NoMemory": "the memory did not suffice: take a smaller budget, or a LongMonitor with fewer events of a part",
+    "TooLong": "a line has 65536 bytes at most: let the sets that are read be smaller",
+}
+UNKNOWN = (
+    "let fewer clients use one key, let writes go on at a new key after some timeouts while reads stay (Monitor.keys), "
+    "or raise the budget"
+)
+UNKNOWN_WIDE = (
+    "many writes were open or had timed out that answers need: let fewer clients write to one key, let writes go on at a new key after some "
+    "timeouts while reads stay (Monitor.keys), or raise the budget"
+)
+UNKNOWN_QUEUE = (
+    "{} enqueues and {} dequeues had completed: let the queue be shorter, let fewer consumers wait on it and fewer producers "
+    "send at once, split it into several keys, or raise the budget"
+)
+
+
+def hint_of_refusal(refusal: str) -> str:
+    return next((hint for name, hint in HINTS.items() if name in refusal.split()), "")
+
+
+def hint_of_unknown(names: AbstractSet[str], enqueues: int, dequeues: int, is_wide: bool) -> str:
+    """Of a key over its budget that has seen operations of these names, of which so many had completed."""
+    return UNKNOWN_QUEUE.format(enqueues, dequeues) if "enqueue" in names else UNKNOWN_WIDE if is_wide else UNKNOWN
+
+
+def hint_of_model(key: int, model: str, names: AbstractSet[str], is_legal_as: Callable[[str], bool]) -> str:
+    """Which model may have been meant for a key that is illegal, if any: its own lacks an operation that the key has seen, or
+    what the key has seen is legal by another one."""
+    others = [other for other in MODELS if other != model and names <= MODELS[other]]
+    strange = sorted(names - MODELS.get(model, frozenset(names)))
+    if strange:
+        meant = f"was {' or '.join(others)} meant?" if others else f"no model has {' and '.join(sorted(names))} together"
+        return f"key {key} is judged as a {model}, where no {' and no '.join(strange)} can take place: {meant}"
+    fitting = " or ".join(other for other in others if is_legal_as(other))
+    return f"key {key} is judged as a {model}, and is legal as {fitting}: was that meant?" if fitting else ""

@@ -1,0 +1,87 @@
+"""Keys for a test with faults: writes leave a key after some timeouts, and reads stay on it."""
+from __future__ import annotations
+
+import random
+import threading
+from typing import TYPE_CHECKING, List, Optional
+
+from ..history.kinds import KEYS
+from .values import key_of
+
+if TYPE_CHECKING:
+    from .monitor import Monitor
+
+TRIES = 8  # to draw a key that has room
+
+
+class Keys:
+    """The keys that a test writes to, and those that it reads; Monitor.keys makes it. Any number of threads may use it.
+
+    A write that timed out may take place at any later moment, so each one adds possible outcomes to the key, until they exceed its
+    budget. So writes leave a key after `limit` of them, and a new key replaces it. **Reads must stay.** A fault that loses data, such
+    as the kill of a server that keeps nothing, makes requests to each key time out. A test that leaves these keys never reads
+    the lost values again, and passes. So read at read_key, which also gives keys that writes have left, and read all of `used`
+    at the end.
+
+    A key has room for another operation if fewer than `most` of its operations are open or have timed out (six, for the default
+    budget), or if none is open. A key without room is given only if there is no other.
+
+    Use queues in the same way: enqueue at write_key, and dequeue at read_key. Each operation of a lock is a change: acquire at
+    write_key, with limit=8 and most=12, so that clients try again a lock that was held while its server died.
+    """
+
+    def __init__(self, monitor: Monitor, count: int = 1, limit: int = 3, first: int = 0, most: int = 6) -> None:
+        if count < 1 or limit < 1 or most < 1:
+            raise ValueError(f"count, limit and most are numbers from 1 on, not {count}, {limit} and {most}")
+        key_of(first)
+        key_of(first + count - 1)
+        self._monitor, self._limit, self._most, self._first = monitor, limit, most, first
+        self._lock = threading.Lock()
+        self._draws = random.Random(first)  # where the caller brings none
+        self._open = list(range(first, first + count))  # to writes
+        self._left: List[int] = []
+        self._next = first + count
+
+    def write_key(self, draws: Optional[random.Random] = None) -> int:
+        """One of the `count` keys that are open to writes."""
+        with self._lock:
+            for place, key in enumerate(self._open):
+                if key in self._monitor.set_aside or self._monitor.timeouts(key) >= self._limit:
+                    self._leave(place)
+            return self._drawn(self._open, draws or self._draws)
+
+    def read_key(self, draws: Optional[random.Random] = None) -> int:
+        """Any key that was ever used: half the time one of those open to writes, else one that writes have left, if there is
+        one. A key that the monitor has dropped is no longer judged, and is given only if there is no other."""
+        drawn = draws or self._draws
+        with self._lock:
+            still_open, left = self._judged(self._open), self._judged(self._left)
+            return self._drawn(left if left and drawn.random() < 0.5 else still_open or left or self._open, drawn)
+
+    @property
+    def used(self) -> List[int]:
+        """Each key that was ever open to writes: read them all at the end of the test, when its faults are over."""
+        with self._lock:
+            return sorted(self._left + self._open)
+
+    def _drawn(self, keys: List[int], draws: random.Random) -> int:
+        """One of the keys, with room if possible."""
+        for _ in range(TRIES):
+            key = keys[draws.randrange(len(keys))]
+            if self._monitor.pending(key) == 0 or self._at_once(key) < self._most:
+                return key
+        return min(keys, key=self._at_once)
+
+    def _at_once(self, key: int) -> int:
+        return self._monitor.pending(key) + self._monitor.timeouts(key)
+
+    def _judged(self, keys: List[int]) -> List[int]:
+        dropped = self._monitor.set_aside
+        return [key for key in keys if key not in dropped] if dropped else keys
+
+    def _leave(self, place: int) -> None:
+        if self._next not in KEYS:
+            raise ValueError(f"each key from {self._first} to {KEYS.stop - 1} has had {self._limit} timeouts: no new one is left")
+        self._left.append(self._open[place])
+        self._open[place] = self._next
+        self._next += 1

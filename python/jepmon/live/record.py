@@ -1,0 +1,49 @@
+"""Writes down what a live test tells, with the time of each event: to a log, and to the folder of the run."""
+from __future__ import annotations
+
+import time
+from typing import Optional, TextIO
+
+from ..history.fault_notes import note_line
+from .run_folder import RunFolder
+
+
+class Record:
+    """The caller has a lock, so that times rise from line to line."""
+
+    def __init__(self, log: Optional[TextIO], folder: Optional[RunFolder], begun: int) -> None:
+        self.log, self.folder = log, folder
+        self._begun = begun  # by time.monotonic_ns
+
+    @property
+    def name(self) -> str:
+        """The folder, where there is one."""
+        return self.folder.name if self.folder is not None else ""
+
+    def write(self, line: str, kept: str) -> None:
+        """A line that is sent: it goes to the log. What is kept of it, where that is not empty, goes to the folder."""
+        if self.log is None and self.folder is None:
+            return
+        now = time.monotonic_ns() - self._begun
+        if self.log is not None:
+            self.log.write(timed(line, now) + "\n")
+        if self.folder is not None and kept:
+            self.folder.append(timed(kept, now))
+
+    def needs_script(self) -> None:
+        """A command follows, which `jepmon check` does not take."""
+        if self.folder is not None:
+            self.folder.needs_script()
+
+    def note(self, kind: str, text: str) -> None:
+        """A note of a fault, which is not sent."""
+        line = note_line(kind, text, time.monotonic_ns() - self._begun)
+        if self.log is not None:
+            self.log.write(line + "\n")
+        if self.folder is not None:
+            self.folder.append(line)
+
+
+def timed(line: str, now: int) -> str:
+    """An event has its time; a command has none."""
+    return f"{line[:-1]}, :time {now}}}" if line.startswith("{") else line

@@ -1,0 +1,173 @@
+"""The folder of a run of a live test: its history, the options, the verdict, and what came of it.
+
+    runs/20261127T193005.123/history.edn   what the clients did, an event a line, with :time; written as it happens
+                             judge-again   a script with the command that judges it again
+                             verdict.txt   the verdict
+                             counts.txt    how many operations ended how, which keys were dropped, what else ended the test
+                             names.txt     what the numbers of Monitor.number stand for, where there are any
+                             cause.txt     why it is illegal or unknown, in words
+                             page.html     and as a picture
+                             run.html      rates, latencies and faults over time, and all keys (docs/guide/PAGE.md); made at the end
+    runs/latest                            a link to the newest
+
+`jepmon check` on the history, with these options, gives the verdict of the run. Notes of faults stand in it where they were taken
+(history/fault_notes.py), and check passes over them. Only where a key was given another model or budget the history has lines that are commands,
+and is judged by `jepmon script`; then judge-again does that.
+"""
+from __future__ import annotations
+
+import contextlib
+import datetime
+import os
+import pathlib
+import shlex
+import shutil
+import sys
+from typing import Iterator, Optional, Union
+
+from ..program import Options
+
+HISTORY, AGAIN, VERDICT, COUNTS, NAMES = "history.edn", "judge-again", "verdict.txt", "counts.txt", "names.txt"
+CAUSE, PAGE, LATEST = "cause.txt", "page.html", "latest"
+RUN_PAGE, RUN_FACTS = "run.html", "run.json"  # the facts are those of the test that knows more of a run, as jepmon-test
+AFTER, LOST = "after.txt", "lost.txt"  # what jepmon-test has learned after a finding: of the bad key, and of messages
+PART = "part-"  # how the folders of parts begin, in that of a run without an end
+SCRIPT = """#!/bin/sh
+# Judges history.edn, beside this file, again by the proved program. The run began at {begun}, by {program!r}
+cd "$(dirname "$0")" || exit 3
+here={path}
+[ -n "$JEPMON" ] || ! [ -x "$here" ] || JEPMON=$here
+exec "${{JEPMON:-jepmon}}" {again}
+"""
+
+
+class RunFolder:
+    """A folder that is there already, and empty. An OSError says that it can't be begun. After that, what can't be written is lost, and
+    that is said once, on standard error: a test goes on without."""
+
+    def __init__(self, path: pathlib.Path, begun: datetime.datetime, options: Options, program: str, is_part: bool = False) -> None:
+        self.options, self.program, self.begun = options, program, begun
+        self.is_part = is_part  # of a run without an end, which has a page of its own
+        self.lost: Optional[str] = None  # what could not be written first, and why
+        self.is_script = False  # whether the history has lines that `jepmon check` does not take
+        self._size = 0  # of the history, in whole lines
+        self.name = str(path)  # as it is shown
+        self.path = path.absolute()  # the test may go to another folder
+        with contextlib.ExitStack() as on_fault:
+            self._history = on_fault.enter_context(open(self.path / HISTORY, "xb", buffering=0))
+            self._append(f"; what clients did in a live test, from {self.begun.isoformat()} on; :time is in nanoseconds from then")
+            write_whole(self.path / AGAIN, self._script(), executable=True)
+            on_fault.pop_all()
+
+    # --- The history ---
+
+    def append(self, line: str) -> None:
+        """Writes a line of the history; it is whole in the file when this returns."""
+        if self._history.closed:
+            return
+        try:
+            self._append(line)
+        except OSError as fault:
+            self._cut()
+            self._lose(HISTORY, fault)
+
+    def _append(self, line: str) -> None:
+        data = line.encode("utf-8", "replace") + b"\n"
+        written = 0
+        while written < len(data):
+            written += self._history.write(data[written:]) or 0
+        self._size += len(data)
+
+    def _cut(self) -> None:
+        """Lets the history end with a whole line, and be written no further, since a history with a gap says something else."""
+        try:
+            self._history.truncate(self._size)
+        except OSError:
+            pass  # then the line that is cut off stays, and it is said all the same that the history is lost
+        self._history.close()
+
+    # --- The other files ---
+
+    def needs_script(self) -> None:
+        """Says that lines follow in the history which are no events."""
+        if not self.is_script:
+            self.is_script = True
+            self.put(AGAIN, self._script(), executable=True)
+
+    @property
+    def again(self) -> str:
+        """The words after `jepmon` that judge the history again, in this folder."""
+        words = " ".join(self.options.words(self.program))
+        return f"script {words} < {HISTORY}" if self.is_script else f"check {HISTORY} {words}"
+
+    def _script(self) -> str:
+        path = shlex.quote(os.path.abspath(self.program) if os.sep in self.program else self.program)
+        return SCRIPT.format(begun=self.begun.isoformat(), program=self.program, path=path, again=self.again)
+
+    def put(self, name: str, text: str, executable: bool = False) -> None:
+        """Writes a file as a whole, under its name only once it is whole."""
+        try:
+            write_whole(self.path / name, text, executable)
+        except OSError as fault:
+            self._lose(name, fault)
+
+    def close(self) -> None:
+        self._history.close()
+
+    def _lose(self, name: str, fault: OSError) -> None:
+        if self.lost is None:
+            self.lost = f"{self.name}/{name} can't be written: {fault.strerror}"
+            print(f"jepmon: {self.lost}; the test goes on without", file=sys.stderr)
+
+
+@contextlib.contextmanager
+def new_folder(out: Union[str, os.PathLike[str]], begun: datetime.datetime) -> Iterator[pathlib.Path]:
+    """A folder named by the time, which no other run has, for the block to fill; then `latest` names it. An OSError of the block leaves
+    none."""
+    try:
+        path = _made_folder(pathlib.Path(out), begun)
+        try:
+            yield path
+            link_latest(path)
+        except OSError:
+            shutil.rmtree(path, ignore_errors=True)
+            raise
+    except OSError as fault:
+        raise OSError(fault.errno, f"the folder of a run can't be made: {fault.strerror}", os.fspath(out)) from None
+
+
+def _made_folder(out: pathlib.Path, begun: datetime.datetime) -> pathlib.Path:
+    out.mkdir(parents=True, exist_ok=True)
+    stem = begun.strftime("%Y%m%dT%H%M%S.") + f"{begun.microsecond // 1000:03}"
+    number = 1
+    while True:
+        path = out / (stem if number == 1 else f"{stem}-{number}")
+        try:
+            path.mkdir()
+            return path
+        except FileExistsError:
+            number += 1
+
+
+def link_latest(path: pathlib.Path) -> None:
+    """Lets the link `latest` beside the folder name it."""
+    path = path.absolute()
+    made = path.parent / f".{LATEST}-{path.name}"
+    made.symlink_to(path.name)
+    try:
+        made.replace(path.parent / LATEST)
+    except OSError:
+        made.unlink()
+        raise
+
+
+def write_whole(path: pathlib.Path, text: str, executable: bool = False) -> None:
+    """Writes a file beside its place, and moves it there."""
+    made = path.with_name(f".{path.name}.new")
+    try:
+        with open(os.open(made, os.O_CREAT | os.O_TRUNC | os.O_WRONLY, 0o777 if executable else 0o666), "wb") as file:
+            file.write(text.encode("utf-8", "replace"))
+        made.replace(path)
+    except OSError:
+        made.unlink(missing_ok=True)
+        raise

@@ -1,0 +1,342 @@
+"""Tells the events of a live test to the running program, in one order, and stops at the first reply that is not `legal`."""
+from __future__ import annotations
+
+import copy
+from typing import Dict, List, Optional, Set, Tuple
+
+from ..history.fault_notes import BEGIN
+from ..history.kinds import REGISTERS, model_of
+from ..history.line import event_line
+from ..program import Options
+from ..program.report import verdict_in
+from .conclusion import Conclusion, leave_cause, leave_page, leave_verdict
+from .exchange import Exchange
+from .hints import hint_of_model, hint_of_refusal, hint_of_unknown
+from .key_events import Told
+from .lines import End, Line, LineQueue
+from .outcome_rules import Endings
+from .owner import OwnedLock
+from .processes import Processes
+from .record import Record
+from .values import Missing
+from .verdicts import Illegal, NotLegal, Refused, Unknown
+
+BROKEN_OFF = "the exchange with jepmon was broken off"
+
+
+def test_unknown(unknown: str) -> None:
+    """Tests what a monitor is to do where it does not know."""
+    if unknown not in ("raise", "drop"):
+        raise ValueError(f"unknown is 'raise' or 'drop', not {unknown!r}")
+
+
+class Telling:
+    """One pipe, and so one lock: the order of its lines is the history. The lock is free while replies are awaited. Monitor is its face
+    to the test."""
+
+    def __init__(self, exchange: Exchange, record: Record, options: Options, unknown: str, endings: Endings,
+                 homes: Optional[Dict[int, int]] = None, missing: Missing = Missing()) -> None:
+        self.lock = OwnedLock()
+        self.unknown, self.endings, self.missing = unknown, endings, missing
+        self.told = Told()
+        self.dropped: Dict[int, Unknown] = {}  # keys over their budget that are not told any more, and what was said of them
+        self.length = 0  # events that were told
+        self.failure: Optional[NotLegal] = None
+        self.broken_off: Optional[Refused] = None  # while clients are waited for, of which one has raised an exception
+        self.verdict: Optional[str] = None
+        self._exchange, self._record, self._options = exchange, record, options
+        self._queue = LineQueue(self.lock)
+        self._closing, self._is_closing = OwnedLock(), False
+        self._processes = Processes(options.concurrency, homes)
+        self.names: Dict[int, object] = {}  # what numbers stand for
+        self._models: Dict[int, str] = {}  # of keys that have another one
+        self._budgets: Dict[int, int] = {}  # likewise
+        self._begun: Set[int] = set()
+        self._behind: Dict[int, int] = {}  # of a thread: how far its process in the run's folder is behind, by dropped keys
+
+    @property
+    def is_closed(self) -> bool:
+        return self.verdict is not None
+
+    # --- Operations ---
+
+    def settle(self, number: int) -> None:
+        """Lets the operations of this thread be those of the client of this number, as far as it is free."""
+        with self.lock:
+            self._processes.settle(number)
+
+    def invoke(self, name: str, key: int, part: str) -> Optional[int]:
+        """Tells an invocation, and gives the thread of jepmon that it is on; none where the key was dropped."""
+        with self.lock:
+            self._test_running()
+            if key not in self.dropped and self.is_register(key):
+                self._begin(key, str(self.missing.initial))
+            if key in self.dropped:
+                return None
+            thread = self._processes.take()
+            self.told.begin(key, name)
+            self._invoke(thread, name, key, part)
+            return thread
+
+    def complete(self, kind: str, thread: int, name: str, key: int, part: str, invoked: str) -> None:
+        with self.lock:
+            self._complete(kind, thread, name, key, part, invoked)
+
+    def begin(self, key: int, part: str) -> None:
+        with self.lock:
+            if key in self._begun:
+                raise ValueError(f"key {key} has begun already: say what it holds before the first operation on it")
+            self._begin(key, part)
+
+    def is_register(self, key: int) -> bool:
+        return self.model_of(key) in REGISTERS
+
+    def model_of(self, key: int) -> str:
+        return self._models.get(key, self._options.model)
+
+    def _begin(self, key: int, part: str) -> None:
+        if key not in self._begun:
+            self._begun.add(key)
+            thread = self._processes.take()
+            self._invoke(thread, "write", key, part)
+            self._complete("ok", thread, "write", key, part, part, counts=False)
+
+    def _invoke(self, thread: int, name: str, key: int, part: str) -> None:
+        """An invocation is sent with the next completion: it changes no verdict, so nothing is found later by it."""
+        self._queue.put(self._event("invoke", self._processes.process(thread), name, key, part))
+
+    def _complete(self, kind: str, thread: int, name: str, key: int, part: str, invoked: str, counts: bool = True) -> None:
+        """Tells a completion, and waits for its reply. Its thread is free only then, so that no event of it follows in the queue."""
+        process = self._processes.process(thread)
+        end = End(kind, thread, process, name, invoked, counts)
+        line = self._event(kind, process, name, key, part, end)
+        self._ask(line)
+
+    # --- Keys over their budget ---
+
+    def _is_dropped(self, at_key: int, index: int, line: Line) -> bool:
+        """Whether an `unknown` of at_key is that of this line's event, and ends nothing."""
+        return self.unknown == "drop" and (at_key, index) == (line.key, line.index)
+
+    def _drop(self, unknown: Unknown, lines: List[Line]) -> List[Line]:
+        """Takes back the ok that met too many outcomes, the first of the lines, and what was told behind it; gives what is to be told
+        in its place. So the key is legal up to there, with its operation open, and the verdict is that of the other keys again."""
+        assert unknown.key is not None
+        self.dropped[unknown.key] = unknown
+        for line in [*lines, *self._queue.lines]:
+            if line.end is not None and line.end.kind == "ok" and line.key == unknown.key:
+                self._lose(line, line.end)
+        again = [Line(f"[:rewind {lines[0].index}]"), *lines]
+        for line in [*again, *self._queue.lines]:  # those in the queue stand in the log already, and were taken back there too
+            self._record.write(line.text, "")
+        return again
+
+    def _lose(self, line: Line, end: End) -> None:
+        """Of a key that was dropped an ok is told as an :info, which brings no further outcomes. The run's folder has the ok, as
+        it happened, in which the process goes on."""
+        assert line.key is not None
+        end.kind, end.is_lost = "info", True
+        line.text = event_line("info", end.process, end.name, line.key, end.invoked)
+        self.told.replace(line.key, line.index, line.text)
+
+    def _kept(self, process: int) -> int:
+        """The process as the run's folder has it."""
+        return process - self._behind.get(process % self._processes.concurrency, 0)
+
+    # --- What is said of a key, and of faults ---
+
+    def set_model(self, key: int, model: str) -> None:
+        with self.lock:
+            self._models[key] = model_of(model)
+            self._command(self._exchange.model_line(key, model))
+
+    def set_budget(self, key: int, budget: int) -> None:
+        with self.lock:
+            self._budgets[key] = budget
+            self._command(f"[:budget {key} {budget}]")
+
+    def note(self, kind: str, text: str) -> None:
+        """No fault begins once the test has ended; that one has ended is noted as long as the monitor is not closed."""
+        with self.lock:
+            if kind == BEGIN:
+                self._test_running()
+            if self.verdict is None:
+                self._record.note(kind, text)
+
+    # --- The exchange with the program: the caller has the lock ---
+
+    def _test_running(self) -> None:
+        """Raises why no operation may begin, if so."""
+        self._test_not_ended()
+        if self.broken_off is not None:
+            raise copy.copy(self.broken_off)
+
+    def _test_not_ended(self) -> None:
+        if self.verdict is not None or self._is_closing and self.failure is None:
+            raise ValueError("the monitor is closed")
+        if self.failure is not None:
+            raise copy.copy(self.failure)
+
+    def _event(self, kind: str, process: int, name: str, key: int, part: str, end: Optional[End] = None) -> Line:
+        """The line of the next event, once it is written down."""
+        self._test_not_ended()
+        line = Line(event_line(kind, process, name, key, part), key, self.length, end)
+        kept = event_line(kind, self._kept(process), name, key, part) if self._behind else line.text
+        self.told.tell(kind, process, name, key, part, line.index, line.text)
+        self.length += 1
+        if end is not None and kind == "ok" and key in self.dropped:
+            self._lose(line, end)
+        self._write_down(line.text, kept)
+        return line
+
+    def _command(self, text: str) -> None:
+        self._test_not_ended()
+        self._record.needs_script()
+        self._write_down(text, text)
+        self._ask(Line(text))
+
+    def _write_down(self, text: str, kept: str) -> None:
+        try:
+            self._record.write(text, kept)
+        except BaseException:  # as Ctrl-C: it is not known what of the line stands where
+            self.failure = Refused(BROKEN_OFF, folder=self._record.name)
+            raise
+
+    def _ask(self, line: Line) -> None:
+        """Has the line sent, with all that is queued, and waits for its reply. Raises what is not legal, also where it was found
+        before."""
+        self._queue.ask(line, self._answer)
+        if self.failure is not None:
+            raise copy.copy(self.failure)
+
+    def _answer(self, lines: List[Line]) -> None:
+        """Has lines judged that are to be told together, and ends what they complete."""
+        while lines and self.failure is None:
+            replies = self._replies(lines)
+            legal = next((place for place, reply in enumerate(replies) if reply != "legal"), len(replies))
+            for line in lines[:legal]:
+                self._end(line)
+            lines = self._not_legal(lines[legal:], replies[legal:]) if legal < len(replies) else []
+
+    def _replies(self, lines: List[Line]) -> List[str]:
+        """The replies, for which it waits without the lock; none where the exchange fails."""
+        failure: Optional[NotLegal] = None
+        self.lock.release()
+        try:
+            return self._exchange.replies([line.text for line in lines])
+        except Refused as refused:
+            failure = copy.copy(refused)  # without the frames that it was raised in
+            return []
+        except BaseException:  # as Ctrl-C: no later reply can be told from those that may come yet
+            failure = Refused(BROKEN_OFF)
+            raise
+        finally:
+            self.lock.acquire()
+            if failure is not None and self.failure is None:
+                self._fail(failure)
+
+    def _end(self, line: Line) -> None:
+        """A completion was judged: its thread is free again."""
+        end = line.end
+        if end is None or line.key is None:
+            return
+        if end.kind == "info":
+            self._processes.go_on(end.thread)
+        elif end.kind == "fail":
+            self.told.forget(line.key, end.process)
+        if end.is_lost:
+            self._behind[end.thread] = self._behind.get(end.thread, 0) + self._processes.concurrency
+        self._processes.give_back(end.thread)
+        if end.counts:
+            self.told.end(line.key, end.name, end.kind)
+
+    # --- What is not legal ---
+
+    def _not_legal(self, lines: List[Line], replies: List[str]) -> List[Line]:
+        """The first of these replies is not legal. Gives what is to be told now, where it is of a key that is dropped; else the test
+        ends."""
+        line, reply = lines[0], replies[0]
+        verdict = verdict_in(reply)
+        if verdict is None or verdict.found is None:
+            events = self.told.last_events(line.key, line.index)
+            self._fail(Refused(f"{reply}: {line.text[:200]}", line.key, None, events, hint_of_refusal(reply)))
+            return []
+        index, key = verdict.found
+        events = self.told.last_events(key, index)
+        if verdict.word == "illegal":
+            self.failure = Illegal(reply, key, index, events, folder=self._record.name)
+            self._fail(Illegal(reply, key, index, events, self._hint_of_illegal(key, index, line.text)))
+            return []
+        unknown = Unknown(reply, key, index, events, self._hint_of_unknown(key), self._record.name)
+        if self._is_dropped(key, index, line):
+            return self._drop(unknown, lines)
+        self.failure = unknown  # so nothing is told any more
+        lines, replies = self._illegal_behind(lines, replies)
+        if lines:
+            return self._not_legal(lines, replies)
+        self._fail(unknown)
+        return []
+
+    def _illegal_behind(self, lines: List[Line], replies: List[str]) -> Tuple[List[Line], List[str]]:
+        """From the first reply on that is `illegal`, also to what was written down behind these lines, and not sent yet: the verdict on all
+        that was written down is that one. Nothing, where there is none."""
+        rest = list(self._queue.lines)
+        lines, replies = lines + rest, replies + (self._replies(rest) if rest else [])
+        place = next((place for place, reply in enumerate(replies) if reply.startswith("illegal")), len(lines))
+        return lines[place:], replies[place:]
+
+    def _fail(self, failure: NotLegal) -> None:
+        """What is not legal is raised by each operation that waits, and by each later one. The run's folder has it before."""
+        failure.folder = self._record.name
+        self.failure = failure
+        if self._record.folder is not None:
+            leave_verdict(self._record.folder, self._conclusion(None))
+
+    def _conclusion(self, ended_by: Optional[BaseException]) -> Conclusion:
+        failure = self.failure or next(iter(self.dropped.values()), None)
+        key = failure.key if failure is not None and failure.key is not None else -1
+        model, budget = self.model_of(key), self._budgets.get(key, self._options.budget)
+        return Conclusion(failure, self.length, self.told.counts(), self.dropped, ended_by, model, budget, self.names)
+
+    def _conclude(self, ended_by: Optional[BaseException]) -> None:
+        """Leaves in the run's folder what came of it."""
+        if self._record.folder is not None:
+            conclusion = self._conclusion(ended_by)
+            self._record.folder.close()
+            leave_verdict(self._record.folder, conclusion)
+            leave_cause(self._record.folder, conclusion)
+            leave_page(self._record.folder)
+
+    def _hint_of_illegal(self, key: int, index: int, line: str) -> str:
+        model, names = self.model_of(key), self.told.names(key)
+        other = hint_of_model(key, model, names, lambda other: self._exchange.is_legal_as(key, index, other))
+        return "\n".join(hint for hint in (self.told.sources.hint(line), other) if hint)
+
+    def _hint_of_unknown(self, key: int) -> str:
+        counts = (self.told.ended(key, name, "ok") for name in ("enqueue", "dequeue"))
+        model = self.model_of(key)
+        note = self._exchange.by_ends_note(model)
+        hint = hint_of_unknown(self.told.names(key), *counts, is_wide=self._exchange.is_wide(model))
+        return f"{hint}\n{note}" if note else hint
+
+    # --- The end ---
+
+    def close(self, ended_by: Optional[BaseException]) -> str:
+        """Ends the program, and gives the final verdict."""
+        with self._closing, self.lock:
+            if self.verdict is None:
+                self._is_closing = True  # no other line follows
+                try:
+                    self.verdict = self._last_verdict()
+                finally:
+                    self._exchange.end()
+                    self._conclude(ended_by)
+            return self.verdict
+
+    def _last_verdict(self) -> str:
+        if self.failure is None:
+            self._write_down("[:verdict]", "")
+            self._queue.ask(Line("[:verdict]"), self._answer)
+        if self.failure is not None:
+            return self.failure.reply
+        return next((unknown.reply for unknown in self.dropped.values()), "legal")

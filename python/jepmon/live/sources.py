@@ -1,0 +1,53 @@
+"""Where a value that a key answers may come from: which operations of it brought which values in, and which of them failed."""
+from __future__ import annotations
+
+import collections
+import re
+from typing import Counter, Dict, Tuple
+
+from ..history.kinds import ABSENT, ANSWERED, BROUGHT
+from ..history.line import LINE
+
+MOST_HINTS = 16
+
+
+class Sources:
+    """Learns each event as it is told, and says of an answer that is illegal what is strange in it."""
+
+    def __init__(self) -> None:
+        self.are_new = False  # whether no store can have held anything under its keys before
+        self._brought: Counter[Tuple[int, str]] = collections.Counter()  # how often, by what did not fail
+        self._failed: Dict[Tuple[int, str], str] = {}  # the last operation that failed, in words
+        self._began: Dict[int, int] = {}  # the index at which a process has invoked
+
+    def tell(self, kind: str, process: int, name: str, key: int, part: str, index: int) -> None:
+        began = self._began.pop(process, index)
+        if kind == "invoke":
+            self._began[process] = index
+        if name not in BROUGHT or kind not in ("invoke", "fail"):
+            return
+        brought = key, part.strip("[]").split()[-1]
+        self._brought[brought] += 1 if kind == "invoke" else -1
+        if kind == "fail":
+            self._failed[brought] = f"{BROUGHT[name]} by process {process} in events {began}-{index}, recorded as a fail"
+
+    def hint(self, line: str) -> str:
+        """What is strange in the answer that this line tells, if anything."""
+        event = LINE.fullmatch(line)
+        if event is None or event[1] != "ok" or event[3] not in ANSWERED:
+            return ""
+        name, key, values = event[3], int(event[4]), re.findall("-?[0-9]+", event[5])
+        if event[5].startswith("#"):  # of many members those alone that no other operation brought in
+            values = [value for value in values if self._brought[key, value] == 0]
+        hints = (self._hint_of_value(name, key, value) for value in values)
+        return "\n".join([hint for hint in hints if hint][:MOST_HINTS])
+
+    def _hint_of_value(self, name: str, key: int, value: str) -> str:
+        if (key, value) in self._failed:
+            return f"{value} was {self._failed[key, value]}: did it take place? Then it is an info, or the store's fault"
+        if self._brought[key, value] > 0 or value == str(ABSENT):
+            return ""
+        if self.are_new:
+            return f"no recorded operation wrote {value}"
+        begin = "" if name == "dequeue" else f" monitor.begin({key}, value)"
+        return f"no recorded operation wrote {value}: did key {key} hold it before?{begin}"

@@ -1,0 +1,59 @@
+"""Keys and values of a live test, as they are told to jepmon: integers, and ABSENT for what a missing key answers."""
+from __future__ import annotations
+
+from typing import Any, Iterable, NamedTuple, Tuple, Union
+
+from ..history.kinds import ABSENT, KEYS, VALUES
+
+Value = Union[None, int, Iterable[int]]
+
+
+def key_of(key: Any) -> int:
+    """The key, where it is one."""
+    if isinstance(key, bool) or not isinstance(key, int) or not KEYS.start <= key < KEYS.stop:
+        raise ValueError(f"a key is an integer from 0 to {KEYS.stop - 1}, not {key!r}; Monitor.number gives one")
+    return key
+
+
+def told(value: Any) -> Any:
+    """None stands for a missing key."""
+    return ABSENT if value is None else value
+
+
+class Missing(NamedTuple):
+    """What a register holds before its first operation, and which answer beside None means that a key is missing."""
+
+    initial: int = ABSENT
+    answers: Tuple[Any, ...] = ()  # none or one, which may be of any type
+
+    def seen(self, value: Any) -> Any:
+        """None for an answer that means a missing key. False and 0 are two answers, as 1 and 1.0 are."""
+        return None if any(type(value) is type(answer) and value == answer for answer in self.answers) else value
+
+
+def integer(value: Any) -> str:
+    """The text of an integer of 64 bits."""
+    if isinstance(value, bool) or not isinstance(value, int):
+        raise TypeError(f"jepmon takes integers, not {value!r}; Monitor.number gives one")
+    if not VALUES.start <= value < VALUES.stop:
+        raise ValueError(f"jepmon takes integers of 64 bits, not {value}; Monitor.number gives one")
+    return str(value)
+
+
+def members(value: Any) -> str:
+    """The text of a set of integers; None stands for the empty one."""
+    return "#{" + " ".join(sorted({integer(member) for member in value or ()})) + "}"
+
+
+def readable(line: str) -> str:
+    """A line of a history, for people."""
+    return line.replace(str(ABSENT), "ABSENT")
+
+
+NONE: Any = object()  # no answer but None means a missing key
+
+
+def missing(initial: Any, absent: Any) -> Missing:
+    """What the options of a monitor say."""
+    answers = () if absent is NONE else (absent,)
+    return Missing(int(integer(told(Missing(answers=answers).seen(initial)))), answers)

@@ -1,0 +1,337 @@
+"""Walks through the events of one key, and keeps what can be after each: its ends.
+
+An end is what one possible order of the operations leaves: the state, the open operations that have taken place in it, with what
+each found, and the timed-out ones that have (but reads, which decide nothing). The words are those of docs/guide/BUDGETS.md.
+Where no end goes on the key is dead; where an ok meets more ends than the budget it is over. The proved program says
+both, and this walk must say the same: it is there to show what the program only counts. Of the kinds wide-register and wide-set the
+program counts something else, so there `follow` gives up in place of that. It is tested against the program, and not
+proved. Where it would take too long it gives up, and then nothing that it has found may be shown.
+
+    walked = walk(of_key(events, 7), "register", 4096)
+    walked.status            # "alive", "dead", "over", or "gave up"
+    walked.index             # of the event where it is dead or over, as `jepmon check` says
+    walked.steps[-1].ends    # how many ends there were just before the last event, where that is an ok
+    walked.ends()            # where it is dead those just before the fatal event, none of which goes on; else those at its end
+    walked.ends()[0].order   # one order that leads to this end
+
+An operation is named by the index of its invocation throughout.
+"""
+from __future__ import annotations
+
+import dataclasses
+from typing import Any, Callable, Dict, FrozenSet, Iterable, List, Mapping, NamedTuple, Optional, Set, Tuple
+
+from ..history import Event
+from ..history.kinds import BUDGETS, REGISTERS
+from ..program import Options
+from . import START, Found, Outcome, Part, Rule, State, rule
+
+WORK = 4_000_000  # outcomes that a walk tries at most before it gives up: some seconds
+MEMBERS = 32  # of a state, as a set or a queue, that cost as much as one outcome
+
+Link = Optional[Tuple[int, Any]]  # an order, backwards: the last operation, and the link of those before it
+Find = Tuple[int, Found]  # what the operation in this seat found
+Place = Tuple[State, int, FrozenSet[Find]]  # an end: the state, the seats of those that took place, what those found that answer
+Move = Tuple[int, int, State, FrozenSet[Find]]  # an operation's seat and id, the state after it, and what it finds
+NOTHING: FrozenSet[Find] = frozenset()
+UNBOUNDED = 1 << 62
+GREATEST = BUDGETS[-1]
+BETWEEN = 2000  # steps between two stops
+
+
+class GaveUp(Exception):
+    """There was too much to try."""
+
+
+class TooMany(Exception):
+    """There are more ends than the budget."""
+
+
+class Step(NamedTuple):
+    """An event, and how many ends there were just before it, where it is an ok: this is what the budget bounds."""
+
+    event: Event
+    ends: Optional[int]
+
+
+class End(NamedTuple):
+    """What one possible order leaves."""
+
+    state: State
+    taken: Mapping[int, Found]  # of the operations that are open or have timed out those that took place, with what each found
+    link: Link
+
+    @property
+    def order(self) -> List[int]:
+        """One order of operations that leads to this end."""
+        order: List[int] = []
+        link = self.link
+        while link is not None:
+            order.append(link[0])
+            link = link[1]
+        return order[::-1]
+
+
+class Live(NamedTuple):
+    """An operation that may still take place: it is open, or has timed out and is no read."""
+
+    id: int  # the index of its invocation
+    name: str
+    part: Part
+    seat: int  # its bit
+    answers: bool  # what it finds tells ends apart: it is an open read or dequeue
+    rule: Rule
+
+
+class Walker:
+    """The walk, event by event. Where an event kills the key, the ends just before it are kept, and the walk goes no further. A
+    probe is an invocation that is taken for an operation that changes nothing and finds the state. It gives up when too much was
+    tried."""
+
+    def __init__(self, model: str, budget: int, work: int = WORK) -> None:
+        self.model, self.budget, self.work = model, budget, work
+        self._probe: Optional[int] = None
+        self.dead = False
+        self.live: Dict[int, Live] = {}
+        self._open: Dict[int, int] = {}  # the operation that a process has open
+        self._ends: Dict[Place, Link] = {(START[model], 0, NOTHING): None}
+        self._fresh: List[Live] = []  # invoked since the ends were last complete
+        self._seats: List[int] = []  # that are free again
+        self._seated = 0
+
+    def copy(self, budget: int, work: int = WORK, probe: Optional[int] = None) -> Walker:
+        """A walker that stands where this one does."""
+        other = Walker(self.model, budget, work)
+        other.dead, other.live, other._open, other._ends = self.dead, dict(self.live), dict(self._open), dict(self._ends)
+        other._fresh, other._seats, other._seated, other._probe = list(self._fresh), list(self._seats), self._seated, probe
+        return other
+
+    def take(self, event: Event) -> Optional[int]:
+        """Goes on by an event of the key: the number of ends just before it, where it is an ok. TooMany where these are more than
+        the budget."""
+        if event.kind == "invoke":
+            self._invoke(event)
+            return None
+        operation = self.live[self._open[event.process]]
+        count = len(self.complete(self.budget)) if event.kind == "ok" else None
+        after = self._after(event, operation)
+        self.work -= len(after)
+        if not after:
+            self.dead = True
+            return count
+        del self._open[event.process]
+        self._ends = after
+        if event.kind == "info" and event.name != "read":
+            self._put(operation._replace(answers=False))
+        else:
+            self._leave(operation)
+        return count
+
+    def can_have(self, operation: int, test: Callable[[State], bool]) -> bool:
+        """Whether the state passes the test in one of the ends that are held, or this operation has taken place in one, and passes
+        the test by what it found, if it finds anything."""
+        live = self.live.get(operation)
+        if any(map(test, {state for state, _, _ in self._ends})):
+            return True
+        if live is None:
+            return False
+        if not live.answers:
+            return any(seats & live.seat for _, seats, _ in self._ends)
+        return any(map(test, {found for _, _, finds in self._ends for seat, found in finds if seat == live.seat}))
+
+    def is_forced(self, operation: int) -> bool:
+        """Whether this operation has taken place in each end."""
+        live = self.live.get(operation)
+        return live is not None and all(seats & live.seat for _, seats, _ in self._ends)
+
+    def count_without(self, operation: int) -> int:
+        """In how many of the ends that are held it has not taken place."""
+        live = self.live[operation]
+        return sum(not seats & live.seat for _, seats, _ in self._ends)
+
+    def _after(self, event: Event, operation: Live) -> Dict[Place, Link]:
+        """The ends that go on with this completion or crash of an operation."""
+        if event.kind == "ok":
+            return self.after_ok(operation, event.value)
+        if event.kind == "fail":
+            return {place: link for place, link in self._ends.items() if not place[1] & operation.seat}
+        if event.name == "read":
+            return self._without(operation, self._ends)
+        if operation.answers:
+            return {(state, seats, _without_seat(finds, operation.seat)): link
+                    for (state, seats, finds), link in self._ends.items()}
+        return self._ends
+
+    def complete(self, most: int = UNBOUNDED) -> Dict[Place, Link]:
+        """All ends that there are now, those by what was invoked since the last ok too. TooMany where they are more than most."""
+        if self._fresh:
+            new = self._reach(self._fresh, list(self._ends), {}, most)
+            everything, moves = list(self.live.values()), {}  # type: Tuple[List[Live], Dict[State, List[Move]]]
+            while new:
+                new = self._reach(everything, new, moves, most)
+            self._fresh = []
+        if len(self._ends) > most:
+            raise TooMany
+        return self._ends
+
+    def after_ok(self, operation: Live, answer: Part) -> Dict[Place, Link]:
+        """The ends that go on where the operation completes with this answer. The ends are complete before. nil agrees with whatever
+        a register holds; what finds nothing agrees with every answer."""
+        seat = operation.seat
+        if not operation.answers:
+            return {(state, seats ^ seat, finds): link for (state, seats, finds), link in self._ends.items() if seats & seat}
+        if answer is None and self.model in REGISTERS:
+            return self._without(operation, {place: link for place, link in self._ends.items() if place[1] & seat})
+        found = frozenset(((seat, answer),))
+        return {(state, seats ^ seat, finds - found): link for (state, seats, finds), link in self._ends.items() if finds >= found}
+
+    def ends(self) -> List[End]:
+        """All ends that there are now."""
+        seated = [(live.seat, live.id) for live in self.live.values()]
+        ends: List[End] = []
+        for (state, seats, finds), link in self.complete().items():
+            found = dict(finds)
+            ends.append(End(state, {id: found.get(seat) for seat, id in seated if seats & seat}, link))
+        return ends
+
+    # --- How it goes on ---
+
+    def _invoke(self, event: Event) -> None:
+        seat = self._seats.pop() if self._seats else self._new_seat()
+        live = Live(event.index, event.name, event.value, seat, event.name in ("read", "dequeue"), rule(self.model, event.name))
+        if event.index == self._probe:
+            live = live._replace(answers=True, rule=_probing)
+        self._put(live)
+        self._fresh.append(live)
+        self._open[event.process] = live.id
+
+    def _new_seat(self) -> int:
+        self._seated += 1
+        return 1 << (self._seated - 1)
+
+    def _put(self, operation: Live) -> None:
+        self.live[operation.id] = operation
+        self._fresh = [operation if fresh.id == operation.id else fresh for fresh in self._fresh]
+
+    def _leave(self, operation: Live) -> None:
+        """The operation can't take place any more."""
+        del self.live[operation.id]
+        self._fresh = [fresh for fresh in self._fresh if fresh.id != operation.id]
+        self._seats.append(operation.seat)
+
+    def _without(self, operation: Live, before: Dict[Place, Link]) -> Dict[Place, Link]:
+        """These ends, whether or not the operation took place in them, and whatever it found: one that changes nothing."""
+        seat = operation.seat
+        ends: Dict[Place, Link] = {}
+        for (state, seats, finds), link in before.items():
+            ends.setdefault((state, seats & ~seat, _without_seat(finds, seat)), link)
+        return ends
+
+    def _reach(self, operations: List[Live], places: List[Place], moves: Dict[State, List[Move]], most: int) -> List[Place]:
+        """Puts in the ends that one of the operations reaches from these, and gives those that are new."""
+        ends, new = self._ends, []
+        for place in places:
+            state, seats, finds = place
+            if state not in moves:
+                moves[state] = _moves(operations, state)
+                self.work -= len(moves[state]) * (len(state) // MEMBERS) if isinstance(state, (tuple, frozenset)) else 0
+            for seat, id, after, find in moves[state]:
+                if not seats & seat:
+                    reached = (after, seats | seat, finds | find)
+                    if reached not in ends:
+                        ends[reached] = (id, ends[place])
+                        new.append(reached)
+            self.work -= 1 + len(moves[state])
+            if len(ends) > most:
+                raise TooMany
+            if self.work < 0:
+                raise GaveUp
+        return new
+
+
+def _moves(operations: List[Live], state: State) -> List[Move]:
+    """What each operation may do in this state."""
+    return [(live.seat, live.id, after, frozenset(((live.seat, found),)) if live.answers else NOTHING)
+            for live in operations for after, found in live.rule(state, live.part)]
+
+
+class Stop(NamedTuple):
+    """Where a walk was after so many steps."""
+
+    steps: int
+    walker: Walker
+
+
+@dataclasses.dataclass(frozen=True)
+class Walk:
+    """What a walk has come to."""
+
+    model: str
+    budget: int
+    status: str  # "alive", "dead", "over" or "gave up"
+    steps: List[Step]  # up to the event at which it is dead or over, or gave up
+    stops: List[Stop]  # on the way, from its beginning on
+    walker: Walker
+    tried: int  # outcomes
+
+    @property
+    def index(self) -> Optional[int]:
+        """Of the event at which it is dead or over."""
+        return self.steps[-1].event.index if self.status in ("dead", "over") else None
+
+    @property
+    def fatal(self) -> Optional[Event]:
+        """The event with which no end goes on."""
+        return self.steps[-1].event if self.status == "dead" else None
+
+    def ends(self) -> List[End]:
+        """The ends at its end: where it is dead those just before the fatal event. None where it is over or gave up. GaveUp comes
+        where there are too many, which the budget does not bound where the last event is no ok."""
+        return self.walker.ends() if self.status in ("alive", "dead") else []
+
+    def while_open(self, invocation: int, work: int = WORK) -> Optional[Set[State]]:
+        """What the object may have held while the operation of the fatal event was open, in any order that is possible just before
+        that event. None where there would be too much to try."""
+        begun = next(place for place, step in enumerate(self.steps) if step.event.index == invocation)
+        stop = next(stop for stop in reversed(self.stops) if stop.steps <= begun)
+        walker = stop.walker.copy(UNBOUNDED, work, invocation)
+        try:
+            for step in self.steps[stop.steps:-1]:
+                walker.take(step.event)
+            return {end.taken[invocation] for end in walker.ends() if invocation in end.taken}
+        except GaveUp:
+            return None
+
+
+def walk(events: Iterable[Event], model: str, budget: int, work: int = WORK) -> Walk:
+    """Walks through the events of one key, up to the one at which it is dead or over, or to the end. It gives up after so much work."""
+    walker = Walker(model, budget, work)
+    steps: List[Step] = []
+    stops = [Stop(0, walker.copy(UNBOUNDED))]
+    for event in events:
+        if len(steps) >= stops[-1].steps + BETWEEN:
+            stops.append(Stop(len(steps), walker.copy(UNBOUNDED)))
+        try:
+            steps.append(Step(event, walker.take(event)))
+        except TooMany:
+            return Walk(model, budget, "over", steps + [Step(event, None)], stops, walker, work - walker.work)
+        except GaveUp:
+            return Walk(model, budget, "gave up", steps + [Step(event, None)], stops, walker, work - walker.work)
+        if walker.dead:
+            return Walk(model, budget, "dead", steps, stops, walker, work - walker.work)
+    return Walk(model, budget, "alive", steps, stops, walker, work - walker.work)
+
+
+def follow(events: Iterable[Event], options: Options, program: Optional[str] = None, work: int = WORK) -> Walk:
+    """A walk through the events of a key that the program has judged with these options. With more ends than the budget it gave up, if the
+    program has counted something else: the outcomes of a wide kind."""
+    walked = walk(events, options.model, options.budget, work)
+    return dataclasses.replace(walked, status="gave up") if walked.status == "over" and options.is_wide(program) else walked
+
+
+def _probing(state: State, _part: Part) -> List[Outcome]:
+    return [(state, state)]
+
+
+def _without_seat(finds: FrozenSet[Find], seat: int) -> FrozenSet[Find]:
+    return frozenset(find for find in finds if find[0] != seat) if finds else finds

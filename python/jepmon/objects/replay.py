@@ -1,0 +1,130 @@
+"""One order of operations, one after another, on an object that is changed in place: what jepmon.objects says of each, in about the time
+that the operation itself takes. An outcome of jepmon.objects is a whole new state, and a long queue has many."""
+from __future__ import annotations
+
+import collections
+from typing import Callable, Counter, Deque, Dict, Optional, Set, Tuple, cast
+
+from . import Found, Part, State
+
+Wanted = Optional[Tuple[Found]]  # the answer that a read or a dequeue has to find; None: any one
+Taken = Optional[Tuple[Found]]  # what was found; None where the operation can't take place so
+
+
+class Object:
+    """An object at its start."""
+
+    def take(self, name: str, part: Part, wanted: Wanted = None) -> Taken:
+        """The operation takes place, where it can; else nothing is changed. Where several answers are right it finds the least."""
+        raise NotImplementedError
+
+    def state(self) -> State:
+        """The state, as jepmon.objects has it."""
+        raise NotImplementedError
+
+
+def fits(found: Found, wanted: Wanted) -> bool:
+    return wanted is None or wanted[0] == found
+
+
+class Register(Object):
+    def __init__(self, has_cas: bool) -> None:
+        self._has_cas = has_cas
+        self._value: Optional[int] = None
+
+    def take(self, name: str, part: Part, wanted: Wanted = None) -> Taken:
+        if name == "read":
+            return (self._value,) if fits(self._value, wanted) else None
+        if name == "write":
+            self._value = cast(int, part)
+            return (None,)
+        if name == "cas" and self._has_cas and self._value is not None:
+            old, new = cast(Tuple[int, int], part)
+            if self._value == old:
+                self._value = new
+                return (None,)
+        return None
+
+    def state(self) -> State:
+        return self._value
+
+
+class Mutex(Object):
+    def __init__(self) -> None:
+        self._is_held = False
+
+    def take(self, name: str, part: Part, wanted: Wanted = None) -> Taken:
+        if name != ("release" if self._is_held else "acquire"):
+            return None
+        self._is_held = not self._is_held
+        return (None,)
+
+    def state(self) -> State:
+        return self._is_held
+
+
+class FifoQueue(Object):
+    def __init__(self) -> None:
+        self._values: Deque[int] = collections.deque()
+
+    def take(self, name: str, part: Part, wanted: Wanted = None) -> Taken:
+        if name == "enqueue":
+            self._values.append(cast(int, part))
+            return (None,)
+        if name != "dequeue" or not self._values or not fits(self._values[0], wanted):
+            return None
+        return (self._values.popleft(),)
+
+    def state(self) -> State:
+        return tuple(self._values)
+
+
+class UnorderedQueue(Object):
+    def __init__(self) -> None:
+        self._held: Counter[int] = collections.Counter()  # each value that is in, and how often
+
+    def take(self, name: str, part: Part, wanted: Wanted = None) -> Taken:
+        if name == "enqueue":
+            self._held[cast(int, part)] += 1
+            return (None,)
+        if name != "dequeue" or not self._held:
+            return None
+        value = cast(int, min(self._held) if wanted is None else wanted[0])
+        if value not in self._held:
+            return None
+        self._held[value] -= 1
+        if not self._held[value]:
+            del self._held[value]
+        return (value,)
+
+    def state(self) -> State:
+        return tuple(sorted(self._held.elements()))
+
+
+class MemberSet(Object):
+    def __init__(self) -> None:
+        self._members: Set[int] = set()
+
+    def take(self, name: str, part: Part, wanted: Wanted = None) -> Taken:
+        if name == "add":
+            self._members.add(cast(int, part))
+            return (None,)
+        if name != "read" or wanted is not None and not self._has_just(wanted[0]):
+            return None
+        return (frozenset(self._members),) if wanted is None else wanted
+
+    def _has_just(self, answer: Found) -> bool:
+        return isinstance(answer, frozenset) and len(answer) == len(self._members) and answer <= self._members
+
+    def state(self) -> State:
+        return frozenset(self._members)
+
+
+OBJECTS: Dict[str, Callable[[], Object]] = {
+    "register": lambda: Register(False),
+    "cas-register": lambda: Register(True),
+    "mutex": Mutex,
+    "fifo-queue": FifoQueue,
+    "unordered-queue": UnorderedQueue,
+    "set": MemberSet,
+}

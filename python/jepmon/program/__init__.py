@@ -1,0 +1,81 @@
+"""The program `jepmon`: where it is, a check of a recorded history by it, and a running `jepmon script`.
+
+Whatever goes wrong with the program itself (there is none, it can't be run, it died, it gave no reply) is a ProgramError, whose
+text is one line. What the program says of a history is a Report, also where that is a refusal.
+"""
+from __future__ import annotations
+
+import os
+import subprocess
+from typing import List, NamedTuple, Optional, Tuple, Union
+
+from ..history.kinds import BUDGET, WIDE, kind_of, model_of
+from ..tools.errors import ProgramError
+from .finding import CURE, find_program, has_wide_kinds
+from .report import STATUSES, KeyLine, Report, report_of
+from .script import Script
+
+__all__ = ["CURE", "History", "KeyLine", "Options", "ProgramError", "Report", "STATUSES", "Script", "by_ends_note", "check", "find_program",
+           "has_wide_kinds", "report_of", "run_check"]
+
+History = Union[bytes, str, "os.PathLike[str]"]  # the bytes of a history, or the path of a file
+
+
+class Options(NamedTuple):
+    """The options of a check."""
+
+    concurrency: int = 2
+    model: str = "register"
+    budget: int = BUDGET
+    workers: Optional[int] = None
+    by_ends: bool = False  # whether registers and sets are judged by all their ends, and not as wide kinds
+
+    def kind(self, program: Optional[str] = None, model: Optional[str] = None) -> str:
+        """The kind by which this program judges the model, or another one with these options. A program without wide kinds judges
+        by ends."""
+        model = model_of(self.model if model is None else model)
+        return kind_of(model, model not in WIDE or self.by_ends or not has_wide_kinds(program))
+
+    def is_wide(self, program: Optional[str] = None) -> bool:
+        """Whether this program counts the outcomes of the model in the other way."""
+        return self.kind(program) != model_of(self.model)
+
+    def words(self, program: Optional[str] = None) -> List[str]:
+        words = ["--concurrency", str(self.concurrency), "--model", self.kind(program), "--budget", str(self.budget)]
+        return words if self.workers is None else words + ["--workers", str(self.workers)]
+
+
+def by_ends_note(options: Options, program: Optional[str] = None) -> str:
+    """A sentence beside an `unknown` if this program lacks the wide kind by which the options ask; else nothing."""
+    if options.by_ends or model_of(options.model) not in WIDE or options.is_wide(program):
+        return ""
+    return (f"{find_program(program)} does not have the kind {kind_of(options.model, False)}, so it judged by ends, as --by-ends does: "
+            "a newer jepmon may decide this key")
+
+
+def check(history: History, options: Options = Options(), program: Optional[str] = None,
+          timeout: Optional[float] = None) -> Report:
+    """Has a recorded history judged: its bytes, or the file of this path."""
+    file, raw = ("/dev/stdin", history) if isinstance(history, bytes) else (os.fspath(history), None)
+    output, error, status = run_check([file] + options.words(program), raw, program, timeout, subprocess.PIPE)
+    return report_of(output, error, status)
+
+
+def run_check(words: List[str], raw: Optional[bytes] = None, program: Optional[str] = None, timeout: Optional[float] = None,
+              stderr: Optional[int] = None) -> Tuple[str, str, int]:
+    """Runs `jepmon check` with these words: its standard output, its standard error where that is taken, and its status. Its last
+    line is a verdict or a refusal, as its status says; where it printed nothing, it has refused an option."""
+    name = find_program(program)
+    try:
+        ran = subprocess.run([name, "check"] + words, input=raw, stdin=None if raw is not None else subprocess.DEVNULL,
+                             stdout=subprocess.PIPE, stderr=stderr, timeout=timeout)
+    except subprocess.TimeoutExpired as fault:
+        raise ProgramError(f"{name} gave no reply for {timeout:g} seconds") from fault
+    except OSError as fault:
+        raise ProgramError(f"{name} can't be run: {fault.strerror}; {CURE}") from fault
+    text = ran.stdout.decode("utf-8", "replace")
+    word = text.splitlines()[-1].split(" ")[0] if text else "refused"
+    if STATUSES.get(word) != ran.returncode:
+        last = f"its last line was {text.splitlines()[-1][:200]!r}" if text else "it printed nothing"
+        raise ProgramError(f"{name} gave no verdict: {last}, and its status was {ran.returncode}; is it jepmon?")
+    return text, (ran.stderr or b"").decode("utf-8", "replace"), ran.returncode

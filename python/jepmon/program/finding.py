@@ -1,0 +1,63 @@
+"""Where the program `jepmon` is, and whether it has the wide kinds."""
+from __future__ import annotations
+
+import functools
+import os
+import pathlib
+import subprocess
+import sys
+from typing import Iterator, Optional
+
+from ..history.kinds import WIDE
+from ..tools.errors import ProgramError
+
+CURE = "`./jepmon install DIR`, put DIR on the PATH, or set JEPMON"
+PROMPT = 5.0  # seconds in which the program prints its help
+
+
+def find_program(named: Optional[str] = None) -> str:
+    """The path of the program: the one that is named, or that JEPMON names; else the one built or released in the repository in
+    which this package lies; else the `jepmon` beside the Python interpreter or on the PATH. Nothing is built."""
+    found = named or os.environ.get("JEPMON")
+    if found:
+        return os.fspath(found)
+    for path in _candidates():
+        if _is_program(path):
+            return str(path)
+    raise ProgramError(f"there is no jepmon: {CURE}")
+
+
+def _candidates() -> Iterator[pathlib.Path]:
+    top = pathlib.Path(__file__).resolve().parents[3]
+    if (top / "crates" / "jepmon").is_dir():
+        yield top / "crates" / "jepmon" / "out" / "jepmon"
+        yield top / "dist" / "jepmon"
+    yield pathlib.Path(sys.prefix) / "bin" / "jepmon"
+    for folder in os.environ.get("PATH", os.defpath).split(os.pathsep):
+        yield pathlib.Path(folder or ".") / "jepmon"
+
+
+def _is_program(path: pathlib.Path) -> bool:
+    """Whether this is a program of machine code: the script ./jepmon of a repository would start a build."""
+    if not os.access(path, os.X_OK) or not path.is_file():
+        return False
+    try:
+        with open(path, "rb") as file:
+            return file.read(4) == b"\x7fELF"
+    except OSError:
+        return False
+
+
+def has_wide_kinds(program: Optional[str] = None) -> bool:
+    """Whether the program has the kinds wide-register and wide-set. Versions up to 1.4.0 do not have them."""
+    return _has_wide_kinds(find_program(program))
+
+
+@functools.lru_cache(maxsize=None)
+def _has_wide_kinds(name: str) -> bool:
+    try:
+        ran = subprocess.run([name, "check", "--help"], stdin=subprocess.DEVNULL, stdout=subprocess.PIPE, stderr=subprocess.DEVNULL,
+                             timeout=PROMPT)
+    except (OSError, subprocess.TimeoutExpired):
+        return False  # whoever asks it for a verdict will say so
+    return all(kind.encode() in ran.stdout for kind in WIDE.values())

@@ -1,0 +1,201 @@
+"""What the commands of the package share: what they say, what they write, and how they end.
+
+A user's mistake is one clear line on standard error and status 3; Ctrl-C ends with 130; a traceback is never shown. A file gets its
+name once it is whole.
+"""
+from __future__ import annotations
+
+import argparse
+import contextlib
+import gc
+import io
+import os
+import sys
+from typing import Any, BinaryIO, Callable, Iterable, Iterator, NoReturn, Optional, TextIO, Type, Union
+
+from .. import __version__
+from .errors import OutputError, ProgramError
+
+__all__ = ["INTERRUPTED", "OutputError", "REFUSED", "Words", "collect_seldom", "copy_file", "printable", "run", "say", "standard_error", "standard_input",
+           "temporary_files", "tool", "write_error", "write_file", "write_output"]
+
+REFUSED = 3  # the status of whatever is no verdict
+INTERRUPTED = 130
+OBJECTS = 100_000  # that are made before Python looks for garbage among them
+
+
+def collect_seldom() -> None:
+    """Has Python look for garbage less often: a tool keeps nearly all that it reads, so that there is little to find."""
+    gc.set_threshold(OBJECTS)
+
+
+@contextlib.contextmanager
+def temporary_files(folder: Optional[str]) -> Iterator[None]:
+    """Has all temporary files be made in this folder, if one is named."""
+    if folder is None:
+        yield
+        return
+    import tempfile  # which takes a while, and is seldom needed
+
+    before, tempfile.tempdir = tempfile.tempdir, folder
+    try:
+        yield
+    finally:
+        tempfile.tempdir = before
+
+
+def printable(text: str) -> str:
+    """The text so that a terminal shows it and obeys nothing in it."""
+    if text.isprintable():
+        return text
+    return "".join(c if c.isprintable() or c == "\t" else c.encode("unicode_escape").decode() for c in text)
+
+
+def tool(name: str) -> str:
+    """How a tool of this package is called, by the way in which this one was."""
+    called = os.environ.get("JEPMON_CALLED")  # by a script of the repository, as ./jepmon-judge
+    if called and os.path.basename(called) == f"jepmon-{name}":
+        return called
+    folder, script = os.path.split(sys.argv[0] if sys.argv else "")
+    if os.path.basename(folder) == "examples":
+        return f"examples/{name}"
+    return f"python3 -m jepmon {name}" if (os.path.basename(folder), script) == ("jepmon", "__main__.py") else f"jepmon-{name}"
+
+
+def say(name: str, line: str) -> None:
+    """Says a line on standard error, where there is one, as the tool of this name."""
+    write_error(f"{name}: {line}")
+
+
+def write_error(line: str) -> None:
+    """Writes a line to standard error, where there is one."""
+    try:
+        if sys.stderr is not None:
+            print(printable(line), file=sys.stderr)
+    except OSError:  # nobody reads it
+        abandon(sys.stderr)
+
+
+def standard_error() -> TextIO:
+    """Standard error, or where it is closed what goes nowhere."""
+    return sys.stderr if sys.stderr is not None else open(os.devnull, "w")
+
+
+def standard_input() -> BinaryIO:
+    """Standard input; an OSError where it is closed."""
+    if sys.stdin is None:
+        raise OSError(0, "standard input is closed: name a file, or give the history there")
+    return sys.stdin.buffer
+
+
+def write_output(texts: Iterable[str]) -> None:
+    """Writes these texts to standard output."""
+    if sys.stdout is None:
+        raise OutputError("the output can't be written: standard output is closed")
+    try:
+        for text in texts:
+            _write_whole(sys.stdout, text)
+        sys.stdout.flush()
+    except OSError as fault:
+        abandon(sys.stdout)
+        raise OutputError(f"the output can't be written: {fault.strerror}") from fault
+
+
+def _write_whole(stream: TextIO, text: str) -> None:
+    """Writes the text to its end. Where PYTHONUNBUFFERED has left out the buffer, a full disk or an ended reader takes a part of it, and
+    nothing says so."""
+    raw = getattr(stream, "buffer", None)
+    if not isinstance(raw, io.RawIOBase):
+        stream.write(text)
+        return
+    rest = memoryview(text.encode(stream.encoding or "utf-8", stream.errors or "strict"))
+    while rest:
+        rest = rest[raw.write(rest) or 0:]
+
+
+def abandon(stream: TextIO) -> None:
+    """What standard output or standard error still holds goes nowhere, so that Python has nothing to say of it as it ends."""
+    try:
+        os.dup2(os.open(os.devnull, os.O_WRONLY), stream.fileno())
+    except (OSError, ValueError):
+        pass
+
+
+def write_file(path: Union[str, "os.PathLike[str]"], data: Union[str, bytes]) -> None:
+    """Writes a file. It has its name only once it is whole; where that fails, what had the name before is as it was."""
+    whole = data.encode() if isinstance(data, str) else data
+    _write_to(path, lambda file: file.write(whole))
+
+
+def copy_file(source: str, path: Union[str, "os.PathLike[str]"]) -> None:
+    """Copies a file. It has its name only once it is whole."""
+    import shutil
+
+    with open(source, "rb") as found:
+        _write_to(path, lambda file: shutil.copyfileobj(found, file, 1 << 20))
+
+
+def _write_to(path: Union[str, "os.PathLike[str]"], write: Callable[[BinaryIO], object]) -> None:
+    import tempfile
+
+    named, path = path, os.path.realpath(path)  # of a link what it leads to
+    made: Optional[str] = None
+    try:
+        if os.path.exists(path) and not os.path.isfile(path):  # a device or a pipe is written as it is
+            with open(path, "wb") as file:
+                write(file)
+            return
+        number, made = tempfile.mkstemp(prefix=os.path.basename(path) + ".", dir=os.path.dirname(path))
+        with open(number, "wb") as file:
+            write(file)
+        os.chmod(made, 0o666 & ~_umask())
+        os.replace(made, path)
+        made = None
+    except OSError as fault:
+        raise OutputError(f"{named} can't be written: {fault.strerror}") from fault
+    finally:
+        if made is not None:
+            os.unlink(made)
+
+
+def _umask() -> int:
+    mask = os.umask(0o077)
+    os.umask(mask)
+    return mask
+
+
+class Words(argparse.ArgumentParser):
+    """The words of a command line, with --version. A fault of theirs is raised as `refusal`, whose text is one line."""
+
+    refusal: Type[Exception] = ValueError
+
+    def __init__(self, **options: Any) -> None:
+        super().__init__(**options)
+        self.add_argument("--version", action="version", version=f"jepmon (Python) {__version__}", help="show the version and exit")
+
+    def error(self, message: str) -> NoReturn:
+        raise self.refusal(message)
+
+
+def add_by_ends(parser: argparse.ArgumentParser) -> None:
+    """Adds the option that turns the wide kinds off."""
+    parser.add_argument("--by-ends", action="store_true", help="judge registers and sets by all their possible outcomes (ends), as jepmon check "
+                        "--model register does: more keys are unknown then")
+
+
+def run(name: str, main: Callable[[], int]) -> int:
+    """Does the work of a command, and gives its exit status. What it raises is said in one line."""
+    status = REFUSED
+    collect_seldom()
+    try:
+        status = main()
+        write_output(())
+    except KeyboardInterrupt:
+        return INTERRUPTED
+    except (OutputError, ProgramError) as reason:
+        say(name, str(reason))
+        return REFUSED
+    except Exception as fault:
+        say(name, f"a fault of {name} itself: {fault!r}")
+        return REFUSED
+    return status
