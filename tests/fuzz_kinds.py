@@ -45,7 +45,7 @@ def drawn(model: str, seed: int) -> Batch:
     clients = chance.choice((8, 12, 16)) if is_wide else chance.choice((2, 3, 4, 5, 6))
     ways = [drawn_way(chance, clients) for _ in range(TOGETHER)]
     if is_wide:
-        ways = [way._replace(events=120, keys=1, wrong=0, fail=0, crash=min(way.crash, 0.05)) for way in ways]
+        ways = [way._replace(events=120, keys=1, wrong=0, fail=0, slow=0, crash=min(way.crash, 0.05)) for way in ways]
     scripts = [list(Clients(chance, way, UPDATES[model]).lines()) for way in ways]
     kinds = [changes(chance, len(script), way) for script, way in zip(scripts, ways)]
     return Batch(model, clients, 4096 if is_wide else chance.choice(BUDGETS), scripts, [is_wide or not way.wrong for way in ways], kinds)
