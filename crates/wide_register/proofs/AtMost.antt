@@ -1,12 +1,12 @@
 -- a row is at most another one exactly if its end is
-use Rattle.std.proofs.Common.{◌≡◌, ◌<◌, true, List, refl, sym, ◌∙◌, subst}
+use Rattle.std.proofs.Common.{◌≡◌, ◌<◌, inl, inr, ⊎_elim, true, List, refl, sym, ◌∙◌, subst}
 use Rattle.std.specs.List.{Contains}
 use Rattle.events.specs.Events.{Mark}
 use Rattle.linspec.specs.Operations.{IsOpen}
 use Rattle.linspec.specs.LeanEnds.{IsAtMost}
 use Rattle.lean_ends.proofs.Sound.{IsLeft}
 use Rattle.wide_register.specs.declared.calls.Call.{Call}
-use Rattle.wide_register.specs.declared.calls.What.TheVariants.{Writes}
+use Rattle.wide_register.specs.declared.calls.What.TheVariants.{Writes, Reads}
 use Rattle.wide_register.specs.declared.row.Row.{Row}
 use Rattle.wide_register.specs.Facts.{AreCalls, IsAtMostBy, end_of}
 use Rattle.wide_register.proofs.Ends.{needed_from, needed_to, door_from, door_to, finds_from, finds_to}
@@ -17,7 +17,7 @@ pub at_most_then : (calls : List Call) (a b c : Row) → IsAtMostBy calls a b �
 at_most_then calls a b c p q = record {
   state = p.state ∙ q.state;
   needed = λ i h. p.needed i (q.needed i h);
-  finds = λ f h. q.finds f (p.finds f h);
+  finds = λ f h. ⊎_elim (q.finds f) (λ s. inr (sym q.state ∙ s)) (p.finds f h);
   fits = λ x h. record {
     needed = λ n o. (q.fits x h).needed ((p.fits x h).needed n o) o;
     door = λ d. (q.fits x h).door ((p.fits x h).door d, (λ n. d.1 (p.needed x.id n)));
@@ -25,7 +25,7 @@ at_most_then calls a b c p q = record {
 }
 
 pub at_most_itself : (calls : List Call) (a : Row) → IsAtMostBy calls a a
-at_most_itself calls a = record { state = refl; needed = λ i h. h; finds = λ f h. h; fits = λ x h. record { needed = λ n o. n; door = λ d. d.0 } }
+at_most_itself calls a = record { state = refl; needed = λ i h. h; finds = λ f h. inl h; fits = λ x h. record { needed = λ n o. n; door = λ d. d.0 } }
 
 module _ (marks : List Mark) (calls : List Call) (are : AreCalls calls marks) (row other : Row) where
   pub end_at_most : IsLeft marks (end_of calls row) → IsAtMostBy calls row other → IsAtMost marks (end_of calls row) (end_of calls other)
@@ -41,14 +41,17 @@ module _ (marks : List Mark) (calls : List Call) (are : AreCalls calls marks) (r
         needed_to calls other i (subst (Contains other.needed.items) same ((a.fits c.0 c.1).needed n is_open)));
     door = λ i h. (let k = door_from calls row i h in
         door_to calls other i (k.0, k.1, k.2, ((a.fits k.0 k.1).door k.3, (λ n. k.3.1 (a.needed k.0.id n)))));
-    finds = λ r v h. finds_to calls other r v (a.finds (record { read = r; value = v }) (finds_from calls row r v h));
+    finds = λ r v h. finds_to calls other r v (⊎_elim
+        (λ k. ⊎_elim inl (λ s. inr (s, (let c = are.all r Reads (left.2.finds r v h).0 in (c.0, c.1, c.2, c.3)))) (a.finds (record { read = r; value = v }) k))
+        (λ k. inr (sym a.state ∙ k.0, k.1))
+        (finds_from calls row r v h));
   }
 
   pub row_at_most : IsAtMost marks (end_of calls row) (end_of calls other) → IsAtMostBy calls row other
   row_at_most a = record {
     state = a.state;
     needed = λ i h. needed_from calls row i (a.needed i (needed_to calls other i h));
-    finds = λ f h. finds_from calls other f.read f.value (a.finds f.read f.value (finds_to calls row f.read f.value h));
+    finds = λ f h. ⊎_elim inl (λ k. inr k.0) (finds_from calls other f.read f.value (a.finds f.read f.value (finds_to calls row f.read f.value (inl h))));
     fits = λ c h. record {
       needed = λ n o. needed_from calls other c.id (a.open_ones c.id (needed_to calls row c.id n) ((are.is_open c h).0 o));
       door = λ d.

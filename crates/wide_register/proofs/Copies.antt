@@ -1,5 +1,5 @@
 -- copies, operations that are out, and what a row becomes as a write is put
-use Rattle.std.proofs.Common.{◌≡◌, ◌≢◌, ◌↔◌, ℕ, ◌+◌, ◌<◌, ◌≤◌, ℤ, ◌⊎◌, inl, inr, ⊎_elim, Bool, true, not, nat_eq, nat_lt, ◌&&◌, Option, List, [], ◌∷◌, ◌++◌, length, map, take, get_or, suc, refl, sym, ap, ◌∙◌, subst, arith, length-append}
+use Rattle.std.proofs.Common.{◌≡◌, ◌≢◌, ◌↔◌, ℕ, ◌+◌, ◌<◌, ◌≤◌, ℤ, ◌⊎◌, inl, inr, ⊎_elim, Bool, true, not, nat_eq, nat_lt, ◌&&◌, ◌||◌, Option, List, [], ◌∷◌, ◌++◌, length, map, take, get_or, suc, refl, sym, ap, ◌∙◌, subst, arith, length-append}
 use Rattle.std.specs.List.{AllZip, Contains, filter, list_any}
 use Rattle.std.specs.Ordering.{int_eq}
 use Rattle.std.proofs.lemmas.Bool.Decides.{nat_tests}
@@ -15,7 +15,7 @@ use Rattle.wide_register.specs.declared.calls.What.TheVariants.{Writes, Reads}
 use Rattle.wide_register.specs.declared.row.Found.{Found}
 use Rattle.wide_register.specs.declared.row.Row.{Row}
 use Rattle.wide_register.specs.declared.kept.Kept.{Kept}
-use Rattle.wide_register.specs.Facts.{AreCalls, AreFacts, AreSame, IsCall, IsFirst, IsFoundBy, IsPut, IsSame, IsWithoutId, end_of}
+use Rattle.wide_register.specs.Facts.{AreCalls, AreFacts, AreSame, IsCall, IsFirst, IsFoundBy, IsPut, IsSame, IsWithoutId, end_of, has_read, is_state, IsAtMostBy, AreApart}
 use Rattle.wide_register.proofs.Lists.{was_in, passes, stays_in}
 
 not_from : (a b : ℕ) → not (nat_eq a b) ≡ true → a ≢ b
@@ -43,21 +43,16 @@ without_same id a b c s w = record {
   finds = subst (λ l. (f : Found) → Contains c.finds.items f ↔ (Contains l f × (f.read ≢ id))) s.finds w.finds;
 }
 
-module _ (calls : List Call) (write : ℕ) (v : ℤ) (gap : ℕ) (state : Option ℤ) (out : ℕ) where
+module _ (calls : List Call) (write : ℕ) (v : Option ℤ) (gap : ℕ) (state : Option ℤ) (out : ℕ) where
   pub put_made : (row copied made new : Row) → IsWithoutId out made new → IsSame row copied → made.state ≡ state → made.door ≡ gap
-      → made.needed.items ≡ copied.needed.items ++ write ∷ [] → ((f : Found) → Contains made.finds.items f ↔ (Contains copied.finds.items f ⊎ IsFoundBy calls gap v f))
+      → ((i : ℕ) → i ≢ out → Contains made.needed.items i ↔ ((i ≡ write) ⊎ Contains copied.needed.items i))
+      → ((f : Found) → Contains made.finds.items f ↔ (Contains copied.finds.items f ⊎ IsFoundBy calls gap v f))
       → IsPut calls write v gap state out row new
   put_made row copied made new w s state_is door needed finds = record {
     state_is = w.state ∙ state_is;
     needed = λ i. (
-      (λ h. (let k = (w.needed i).0 h in (⊎_elim (λ o. inr (subst (λ l. Contains l i) s.needed o)) (λ e. inl (sym e)) (Contains-push_cases copied.needed.items write i (subst (λ l. Contains l i) needed k.0)), k.1))),
-      (λ h. (w.needed i).1 (
-        subst (λ l. Contains l i) (sym needed) (⊎_elim
-            (λ e. subst (Contains (copied.needed.items ++ write ∷ [])) (sym e) (Contains-push copied.needed.items write))
-            (λ o. Contains-append_left copied.needed.items (write ∷ []) i (subst (λ l. Contains l i) (sym s.needed) o))
-            h.0),
-        h.1,
-      )),
+      (λ h. (let k = (w.needed i).0 h in (⊎_elim inl (λ o. inr (subst (λ l. Contains l i) s.needed o)) ((needed i k.1).0 k.0), k.1))),
+      (λ h. (w.needed i).1 ((needed i h.1).1 (⊎_elim inl (λ o. inr (subst (λ l. Contains l i) (sym s.needed) o)) h.0), h.1)),
     );
     door = w.door ∙ door;
     finds = λ f. (
@@ -100,7 +95,7 @@ end_same calls x y s = λ t. record {
   state = s.state t;
   needed = λ i. list_any (nat_eq i) (s.needed t);
   door = λ i. list_any (λ (c : Call). nat_eq c.id i && nat_lt c.since (s.door t)) calls && not (list_any (nat_eq i) (s.needed t));
-  finds = λ r v. list_any (λ (f : Found). nat_eq f.read r && int_eq f.value v) (s.finds t);
+  finds = λ r v. list_any (λ (f : Found). nat_eq f.read r && int_eq f.value v) (s.finds t) || (is_state (s.state t) v && has_read calls r);
 }
 
 ends_same : (calls : List Call) (xs ys : List Row) → AllZip IsSame xs ys → map (end_of calls) xs ≡ map (end_of calls) ys
@@ -108,6 +103,30 @@ ends_same calls [] [] z = refl
 ends_same calls [] (b ∷ ys) z = absurd z
 ends_same calls (a ∷ xs) [] z = absurd z
 ends_same calls (a ∷ xs) (b ∷ ys) z = ap (λ e. e ∷ map (end_of calls) xs) (sym (end_same calls a b z.0)) ∙ ap (λ l. end_of calls b ∷ l) (ends_same calls xs ys z.1)
+
+module _ (calls : List Call) where
+  at_most_same : (a b x y : Row) → IsSame a b → IsSame x y → IsAtMostBy calls b y → IsAtMostBy calls a x
+  at_most_same a b x y s u m = record {
+    state = sym s.state ∙ m.state ∙ u.state;
+    needed = λ i h. subst (λ l. Contains l i) s.needed (m.needed i (subst (λ l. Contains l i) (sym u.needed) h));
+    finds = λ f h. ⊎_elim (λ k. inl (subst (λ l. Contains l f) u.finds k)) (λ k. inr (sym u.state ∙ k)) (m.finds f (subst (λ l. Contains l f) (sym s.finds) h));
+    fits = λ c h. record {
+      needed = λ n o. subst (λ l. Contains l c.id) u.needed ((m.fits c h).needed (subst (λ l. Contains l c.id) (sym s.needed) n) o);
+      door = λ d. (let k : c.since < y.door = (m.fits c h).door (subst (λ n. c.since < n) (sym s.door) d.0, (λ n. d.1 (subst (λ l. Contains l c.id) s.needed n))) in
+          subst (λ n. c.since < n) u.door k);
+    };
+  }
+
+  apart_same : (xs ys : List Row) → AllZip IsSame xs ys → AreApart calls xs → AreApart calls ys
+  apart_same [] [] z p = tt
+  apart_same [] (b ∷ ys) z p = absurd z
+  apart_same (a ∷ xs) [] z p = absurd z
+  apart_same (a ∷ xs) (b ∷ ys) z p = (
+    (λ y h. (let r = zip_from xs ys z.1 y h in
+        let q = p.0 r.0 r.1 in
+        ((λ m. q.0 (at_most_same a b r.0 y z.0 r.2 m)), (λ m. q.1 (at_most_same r.0 y a b r.2 z.0 m))))),
+    apart_same xs ys z.1 p.1,
+  )
 
 pub facts_same : (k new : Kept) → AreSame k new → (marks : List Mark) → AreFacts k marks → AreFacts new marks
 facts_same k new s marks f = record {
@@ -119,6 +138,7 @@ facts_same k new s marks f = record {
       let e : row.door ≡ r.0.door = r.2.door in
       let m : new.moment ≡ k.moment = s.moment in
       omega arith);
+  apart = subst (λ c. AreApart c new.rows.items) (sym s.calls) (apart_same k.calls.items k.rows.items new.rows.items s.rows f.apart);
   ends = subst (λ c. AreLeanEnds marks (map (end_of c) new.rows.items)) (sym s.calls)
       (subst (AreLeanEnds marks) (ends_same k.calls.items k.rows.items new.rows.items s.rows) f.ends);
 }
@@ -151,7 +171,7 @@ first_end row f = λ t. record {
   state = f.state t;
   needed = λ i. list_any (nat_eq i) (f.needed t);
   door = λ i. list_any (λ (c : Call). nat_eq c.id i && nat_lt c.since (f.door t)) [] && not (list_any (nat_eq i) (f.needed t));
-  finds = λ r v. list_any (λ (g : Found). nat_eq g.read r && int_eq g.value v) (f.finds t);
+  finds = λ r v. list_any (λ (g : Found). nat_eq g.read r && int_eq g.value v) (f.finds t) || (is_state (f.state t) v && has_read [] r);
 }
 
 pub first_facts : (k : Kept) (row : Row) → k.moment ≡ 0 → k.calls.items ≡ [] → k.rows.items ≡ row ∷ [] → IsFirst row → AreFacts k []
@@ -163,6 +183,7 @@ first_facts k row moment calls rows first = record {
       (λ e. (let d : row.door ≡ 0 = first.door in let same : row.door ≡ r.door = ap (λ (x : Row). x.door) e in omega arith))
       (λ n. absurd (Contains-nil r n))
       (Contains-cons_cases row [] r (subst (λ l. Contains l r) rows h));
+  apart = subst (AreApart k.calls.items) (sym rows) ((λ y h. absurd (Contains-nil y h)), tt);
   ends = subst (λ c. AreLeanEnds [] (map (end_of c) k.rows.items)) (sym calls)
       (subst (λ l. AreLeanEnds [] (map (end_of []) l)) (sym rows) (ap (λ e. e ∷ []) (sym (first_end row first))));
 }

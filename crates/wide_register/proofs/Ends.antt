@@ -1,5 +1,5 @@
 -- what the end of a row says
-use Rattle.std.proofs.Common.{◌≡◌, ◌↔◌, ℕ, ◌<◌, ℤ, ⊎_elim, Bool, true, false, IsTrue, not, nat_eq, nat_lt, ◌&&◌, ◌||◌, List, [], ◌∷◌, refl, sym, ap, ◌∙◌, subst, arith}
+use Rattle.std.proofs.Common.{◌≡◌, ◌↔◌, ℕ, ◌<◌, ℤ, ◌⊎◌, inl, inr, ⊎_elim, Option, Some, None, Bool, true, false, IsTrue, not, nat_eq, nat_lt, ◌&&◌, ◌||◌, List, [], ◌∷◌, refl, sym, ap, ◌∙◌, subst, arith}
 use Rattle.std.specs.List.{Contains, list_any}
 use Rattle.std.specs.Ordering.{int_eq}
 use Rattle.std.proofs.lemmas.Bool.{cases_Bool, true≢false, and_parts, and_from}
@@ -11,7 +11,9 @@ use Rattle.lean_ends.proofs.Left.{at_most_each_other}
 use Rattle.wide_register.specs.declared.calls.Call.{Call}
 use Rattle.wide_register.specs.declared.row.Found.{Found}
 use Rattle.wide_register.specs.declared.row.Row.{Row}
-use Rattle.wide_register.specs.Facts.{HasDoor, end_of}
+use Rattle.wide_register.specs.declared.calls.What.{What}
+use Rattle.wide_register.specs.declared.calls.What.TheVariants.{Writes, Reads}
+use Rattle.wide_register.specs.Facts.{HasDoor, end_of, has_read, is_read, is_state}
 
 module _ {X : Type 0} (p : X → Bool) where
   pub any_from : (xs : List X) → IsTrue (list_any p xs) → (x : X) × Contains xs x × IsTrue (p x)
@@ -55,6 +57,29 @@ not_to : (b : Bool) → ¬ IsTrue b → IsTrue (not b)
 not_to true h = absurd (h refl)
 not_to false h = refl
 
+or_from : (a b : Bool) → IsTrue (a || b) → IsTrue a ⊎ IsTrue b
+or_from true b h = inl refl
+or_from false b h = inr h
+
+or_left : (a b : Bool) → IsTrue a → IsTrue (a || b)
+or_left true b h = refl
+or_left false b h = absurd (true≢false (sym h))
+
+or_right : (a b : Bool) → IsTrue b → IsTrue (a || b)
+or_right true b h = refl
+or_right false b h = h
+
+state_from : (s : Option ℤ) (v : ℤ) → IsTrue (is_state s v) → s ≡ Some v
+state_from None v h = absurd (true≢false (sym h))
+state_from (Some w) v h = ap Some ((Decides-int_eq w v).0 h)
+
+state_to : (s : Option ℤ) (v : ℤ) → s ≡ Some v → IsTrue (is_state s v)
+state_to s v e = subst (λ t. IsTrue (is_state t v)) (sym e) ((Decides-int_eq v v).1 refl)
+
+read_from : (w : What) → IsTrue (is_read w) → w ≡ Reads
+read_from Reads h = refl
+read_from (Writes v) h = absurd (true≢false (sym h))
+
 module _ (calls : List Call) (row : Row) where
   abbrev e : LeanEnd
   e = end_of calls row
@@ -85,11 +110,14 @@ module _ (calls : List Call) (row : Row) where
       (any_to (λ (c : Call). nat_eq c.id i && nat_lt c.since row.door) calls h.0 h.1 (and_from _ _ (eq_to h.0.id i h.2) (lt_to h.0.since row.door h.3.0)))
       (not_to _ (λ n. h.3.1 (subst (Contains row.needed.items) (sym h.2) (needed_from i n))))
 
-  abbrev pub Finds : ℕ → ℤ → Type 0
-  Finds r v = Contains row.finds.items (record { read = r; value = v })
+  abbrev pub IsReadHere : ℕ → Type 0
+  IsReadHere r = (c : Call) × Contains calls c × (c.id ≡ r) × (c.what ≡ Reads)
 
-  pub finds_from : (r : ℕ) (v : ℤ) → IsTrue (e.finds r v) → Finds r v
-  finds_from r v h =
+  abbrev pub Finds : ℕ → ℤ → Type 0
+  Finds r v = Contains row.finds.items (record { read = r; value = v }) ⊎ ((row.state ≡ Some v) × IsReadHere r)
+
+  kept_from : (r : ℕ) (v : ℤ) → IsTrue (list_any (λ (f : Found). nat_eq f.read r && int_eq f.value v) row.finds.items) → Contains row.finds.items (record { read = r; value = v })
+  kept_from r v h =
       let k = any_from (λ (f : Found). nat_eq f.read r && int_eq f.value v) row.finds.items h in
       let b = and_parts _ _ k.2 in
       let x : k.0.read ≡ r = eq_from k.0.read r b.0 in
@@ -97,9 +125,30 @@ module _ (calls : List Call) (row : Row) where
       let same : k.0 ≡ record { read = r; value = v } = ap (λ i. record { read = i; value = k.0.value }) x ∙ ap (λ w. record { read = r; value = w }) y in
       subst (Contains row.finds.items) same k.1
 
-  pub finds_to : (r : ℕ) (v : ℤ) → Finds r v → IsTrue (e.finds r v)
-  finds_to r v h = any_to (λ (f : Found). nat_eq f.read r && int_eq f.value v) row.finds.items (record { read = r; value = v }) h
+  kept_to : (r : ℕ) (v : ℤ) → Contains row.finds.items (record { read = r; value = v }) → IsTrue (list_any (λ (f : Found). nat_eq f.read r && int_eq f.value v) row.finds.items)
+  kept_to r v h = any_to (λ (f : Found). nat_eq f.read r && int_eq f.value v) row.finds.items (record { read = r; value = v }) h
       (and_from _ _ (eq_to r r refl) ((Decides-int_eq v v).1 refl))
+
+  read_here_from : (r : ℕ) → IsTrue (has_read calls r) → IsReadHere r
+  read_here_from r h =
+      let k = any_from (λ (c : Call). nat_eq c.id r && is_read c.what) calls h in
+      let b = and_parts _ _ k.2 in
+      (k.0, k.1, eq_from k.0.id r b.0, read_from k.0.what b.1)
+
+  read_here_to : (r : ℕ) → IsReadHere r → IsTrue (has_read calls r)
+  read_here_to r k = any_to (λ (c : Call). nat_eq c.id r && is_read c.what) calls k.0 k.1 (and_from _ _ (eq_to k.0.id r k.2) (ap is_read k.3))
+
+  pub finds_from : (r : ℕ) (v : ℤ) → IsTrue (e.finds r v) → Finds r v
+  finds_from r v h = ⊎_elim
+      (λ k. inl (kept_from r v k))
+      (λ k. (let b = and_parts _ _ k in inr (state_from row.state v b.0, read_here_from r b.1)))
+      (or_from _ _ h)
+
+  pub finds_to : (r : ℕ) (v : ℤ) → Finds r v → IsTrue (e.finds r v)
+  finds_to r v h = ⊎_elim
+      (λ k. or_left _ _ (kept_to r v k))
+      (λ k. or_right _ _ (and_from _ _ (state_to row.state v k.0) (read_here_to r k.1)))
+      h
 
 -- ends that say the same are the same
 abbrev Alike : (ℕ → Bool) → (ℕ → Bool) → Type 0

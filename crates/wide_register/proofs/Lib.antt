@@ -16,3 +16,5 @@ pub mod Keeping
 pub mod Making
 pub mod Copies
 pub mod Gathering
+pub mod Changes
+pub mod Inserting

@@ -24,20 +24,20 @@ module _ (calls : List Call) (now : ℕ) (row : Row) where
   -- all of these rows were there, or are so
   abbrev pub EachPut : List Row → ℕ → ℤ → ℕ → Type 0 → List Row → Type 0
   EachPut old write v out may made = (new : Row) → Contains made new
-      → Contains old new ⊎ IsPut calls write v now (Some v) out row new ⊎ (may × IsPut calls write v row.door row.state out row new)
+      → Contains old new ⊎ IsPut calls write row.state now (Some v) out row new ⊎ (may × IsPut calls write (Some v) row.door row.state out row new)
 
   pub each_put : (old made : List Row) (w : Call) (v : ℤ) (out : ℕ) (may before : Type 0) → (may → before) → EachPut old w.id v out may made
       → (new : Row) → Contains made new → Contains old new ⊎ IsPutOf calls now w v out before row new
   each_put old made w v out may before to each new h = ⊎_elim inl (λ k. inr (⊎_elim inl (λ b. inr (to b.0, b.1)) k)) (each new h)
 
-  pub has_puts : (made : List Row) (w : Call) (v : ℤ) (out : ℕ) (may before : Type 0) → (before → may) → Has made (IsPut calls w.id v now (Some v) out row)
-      → (may → Has made (IsPut calls w.id v row.door row.state out row)) → HasPuts calls now w v out before row made
+  pub has_puts : (made : List Row) (w : Call) (v : ℤ) (out : ℕ) (may before : Type 0) → (before → may) → Has made (IsPut calls w.id row.state now (Some v) out row)
+      → (may → Has made (IsPut calls w.id (Some v) row.door row.state out row)) → HasPuts calls now w v out before row made
   has_puts made w v out may before to behind there = (behind, λ b. there (to b))
 
   puts_still : (old made : List Row) (w : Call) (v : ℤ) (out : ℕ) (before : Type 0) → ((new : Row) → Contains old new → Contains made new)
       → HasPuts calls now w v out before row old → HasPuts calls now w v out before row made
   puts_still old made w v out before to h =
-      (has_still (IsPut calls w.id v now (Some v) out row) old made to h.0, λ b. has_still (IsPut calls w.id v row.door row.state out row) old made to (h.1 b))
+      (has_still (IsPut calls w.id row.state now (Some v) out row) old made to h.0, λ b. has_still (IsPut calls w.id (Some v) row.door row.state out row) old made to (h.1 b))
 
   -- the ok of a read: so many of the operations were tried
   module _ (r : Call) (v : ℤ) where
@@ -87,8 +87,8 @@ module _ (calls : List Call) (now : ℕ) (row : Row) where
         pub tried_each : EachPut made c.id v r.id may next → EachTried (i + 1) next
         tried_each put new h = ⊎_elim (still new) (λ p. (c, here, free, p)) (each_put made next c v r.id may (Doors c) to put new h)
 
-        pub tried_all : ((new : Row) → Contains made new → Contains next new) → Has next (IsPut calls c.id v now (Some v) r.id row)
-            → (may → Has next (IsPut calls c.id v row.door row.state r.id row)) → AllTried (i + 1) next
+        pub tried_all : ((new : Row) → Contains made new → Contains next new) → Has next (IsPut calls c.id row.state now (Some v) r.id row)
+            → (may → Has next (IsPut calls c.id (Some v) row.door row.state r.id row)) → AllTried (i + 1) next
         tried_all keep behind there x h f = ⊎_elim
             (λ k. puts_still made next x v r.id (Doors x) keep (all x k f))
             (λ e. subst (λ y. HasPuts calls now y v r.id (Doors y) row next) e (has_puts next c v r.id may (Doors c) from behind there))
@@ -116,5 +116,5 @@ module _ (calls : List Call) (now : ℕ) (row : Row) where
     pub write_each : EachPut old w.id v w.id may made → (x : Row) → Contains made x → IsNextBy calls now (EndsWrite w v) row x
     write_each put x h = ⊎_elim (λ k. absurd (Contains-nil x (subst (λ l. Contains l x) none k))) (λ p. inr (free, p)) (each_put old made w v w.id may (HasDoor row w) to put x h)
 
-    pub write_all : Has made (IsPut calls w.id v now (Some v) w.id row) → (may → Has made (IsPut calls w.id v row.door row.state w.id row)) → HasNextBy calls now (EndsWrite w v) row made
+    pub write_all : Has made (IsPut calls w.id row.state now (Some v) w.id row) → (may → Has made (IsPut calls w.id (Some v) row.door row.state w.id row)) → HasNextBy calls now (EndsWrite w v) row made
     write_all behind there = ((λ n. absurd (free n)), (λ n. has_puts made w v w.id may (HasDoor row w) from behind there))

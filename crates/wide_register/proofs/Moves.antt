@@ -14,7 +14,7 @@ use Rattle.wide_register.specs.declared.calls.What.{What}
 use Rattle.wide_register.specs.declared.calls.What.TheVariants.{Writes, Reads}
 use Rattle.wide_register.specs.declared.row.Row.{Row}
 use Rattle.wide_register.specs.Facts.{AreCalls, IsCall, IsFoundBy, IsPut, IsWithoutId, end_of}
-use Rattle.wide_register.proofs.Ends.{needed_from, needed_to, door_from, door_to, finds_from, finds_to}
+use Rattle.wide_register.proofs.Ends.{needed_from, needed_to, door_from, door_to, finds_from, finds_to, IsReadHere}
 
 -- of two operations with the same id
 pub same_call : (calls : List Call) → Pairwise (λ (a b : Call). a.id ≢ b.id) calls → (a b : Call) → Contains calls a → Contains calls b → a.id ≡ b.id → a ≡ b
@@ -30,10 +30,13 @@ same_call (x ∷ calls) p a b h k e = ⊎_elim
     (Contains-cons_cases x calls b k))
     (Contains-cons_cases x calls a h)
 
+some_same : (v u : ℤ) → Some v ≡ Some u → v ≡ u
+some_same v u e = cc
+
 -- those are these operations but one, as far as doors go
 pub record AreOthers (id : ℕ) (calls those : List Call) : Type 0 where
-  pub was : (c : Call) → Contains those c → (b : Call) × Contains calls b × (b.id ≡ c.id) × (b.since ≡ c.since) × (c.id ≢ id)
-  pub is : (c : Call) → Contains calls c → c.id ≢ id → (b : Call) × Contains those b × (b.id ≡ c.id) × (b.since ≡ c.since)
+  pub was : (c : Call) → Contains those c → (b : Call) × Contains calls b × (b.id ≡ c.id) × (b.since ≡ c.since) × (c.id ≢ id) × (b.what ≡ c.what)
+  pub is : (c : Call) → Contains calls c → c.id ≢ id → (b : Call) × Contains those b × (b.id ≡ c.id) × (b.since ≡ c.since) × (b.what ≡ c.what)
 
 module _ (id : ℕ) (calls those : List Call) (others : AreOthers id calls those) (row new : Row) where
   pub door_was : (i : ℕ) → new.door ≡ row.door → ((j : ℕ) → Contains row.needed.items j → j ≢ id → Contains new.needed.items j) → IsTrue ((end_of those new).door i) → IsTrue ((end_of calls row).door i) × (i ≢ id)
@@ -51,6 +54,13 @@ module _ (id : ℕ) (calls those : List Call) (others : AreOthers id calls those
       let b = others.is k.0 k.1 (λ e. ne (sym k.2 ∙ e)) in
       door_to those new i (b.0, b.1, b.2 ∙ k.2, ((let x : b.0.since < row.door = subst (λ s. s < row.door) (sym b.3) k.3.0 in subst (λ s. b.0.since < s) (sym d) x), (λ j. k.3.1 (n k.0.id (subst (Contains new.needed.items) b.2 j)))))
 
+  -- reads of one are reads of the other
+  pub read_was : (r : ℕ) → IsReadHere those new r → IsReadHere calls row r × (r ≢ id)
+  read_was r k = let b = others.was k.0 k.1 in ((b.0, b.1, b.2 ∙ k.2, b.5 ∙ k.3), (λ e. b.4 (k.2 ∙ e)))
+
+  pub read_stays : (r : ℕ) → r ≢ id → IsReadHere calls row r → IsReadHere those new r
+  read_stays r ne k = let b = others.is k.0 k.1 (λ e. ne (sym k.2 ∙ e)) in (b.0, b.1, b.2 ∙ k.2, b.4 ∙ k.3)
+
   pub without_is : IsWithoutId id row new → IsWithout (end_of calls row) id (end_of those new)
   without_is w = record {
     state = w.state;
@@ -63,8 +73,14 @@ module _ (id : ℕ) (calls those : List Call) (others : AreOthers id calls those
       (λ h. door_is i w.door (λ j k. ((w.needed j).0 k).0) h.0 h.1),
     );
     finds = λ r v. (
-      (λ h. (let k = (w.finds (record { read = r; value = v })).0 (finds_from those new r v h) in (finds_to calls row r v k.0, k.1))),
-      (λ h. finds_to those new r v ((w.finds (record { read = r; value = v })).1 (finds_from calls row r v h.0, h.1))),
+      (λ h. ⊎_elim
+          (λ j. (let k = (w.finds (record { read = r; value = v })).0 j in (finds_to calls row r v (inl k.0), k.1)))
+          (λ j. (let k = read_was r j.1 in (finds_to calls row r v (inr (sym w.state ∙ j.0, k.0)), k.1)))
+          (finds_from those new r v h)),
+      (λ h. finds_to those new r v (⊎_elim
+          (λ j. inl ((w.finds (record { read = r; value = v })).1 (j, h.1)))
+          (λ j. inr (w.state ∙ j.0, read_stays r h.1 j.1))
+          (finds_from calls row r v h.0))),
     );
   }
 
@@ -95,7 +111,7 @@ module _ (marks : List Mark) (well : AreWellFormed marks) (calls : List Call) (a
     abbrev f : LeanEnd
     f = end_of those new
 
-    put_behind : (g : LeanEnd) → IsPutBehind marks e w v g → IsPut calls w v (length marks) (Some v) out row new → IsWithout g out f
+    put_behind : (g : LeanEnd) → IsPutBehind marks e w v g → IsPut calls w row.state (length marks) (Some v) out row new → IsWithout g out f
     put_behind g b p = record {
       state = p.state_is ∙ sym b.state;
       needed = λ i. (
@@ -128,24 +144,31 @@ module _ (marks : List Mark) (well : AreWellFormed marks) (calls : List Call) (a
             ))),
       );
       finds = λ r u. (
-        (λ h. (let k = (p.finds (record { read = r; value = u })).0 (finds_from those new r u h) in (
-          (b.finds r u).1 (⊎_elim
-              (λ j. inl (finds_to calls row r u j))
-              (λ (j : IsFoundBy calls (length marks) v (record { read = r; value = u })). inr (subst (MayRead marks) j.1.4 (is_read j.1.0 j.1.1 j.1.2), j.0))
-              k.0),
-          k.1,
-        ))),
-        (λ h. finds_to those new r u ((p.finds (record { read = r; value = u })).1 (
-          ⊎_elim
-              (λ j. inl (finds_from calls row r u j))
-              (λ j. (let c = read_call r j.0 in inr (j.1, (c.0, c.1, c.3, are.since c.0 c.1, c.2))))
-              ((b.finds r u).0 h.0),
-          h.1,
-        ))),
+        (λ h. ⊎_elim
+            (λ j0. (let k = (p.finds (record { read = r; value = u })).0 j0 in (
+              (b.finds r u).1 (inl (finds_to calls row r u (⊎_elim
+                  inl
+                  (λ (j : IsFoundBy calls (length marks) row.state (record { read = r; value = u })). inr (j.0, (j.1.0, j.1.1, j.1.4, j.1.2)))
+                  k.0))),
+              k.1,
+            )))
+            (λ j0. (let k = read_was out calls those others row new r j0.1 in
+            let same : v ≡ u = some_same v u (sym p.state_is ∙ j0.0) in (
+              (b.finds r u).1 (inr (subst (MayRead marks) k.0.2 (is_read k.0.0 k.0.1 k.0.3), sym same)),
+              k.1,
+            )))
+            (finds_from those new r u h)),
+        (λ h. finds_to those new r u (⊎_elim
+            (λ j. ⊎_elim
+            (λ i. inl ((p.finds (record { read = r; value = u })).1 (inl i, h.1)))
+            (λ i. inl ((p.finds (record { read = r; value = u })).1 (inr (i.0, (i.1.0, i.1.1, i.1.3, are.since i.1.0 i.1.1, i.1.2)), h.1)))
+            (finds_from calls row r u j))
+            (λ j. (let c = read_call r j.0 in inr (p.state_is ∙ ap Some (sym j.1), read_stays out calls those others row new r h.1 (c.0, c.1, c.2, c.3))))
+            ((b.finds r u).0 h.0))),
       );
     }
 
-    put_before : (g : LeanEnd) → IsPutBefore marks e w v g → IsPut calls w v row.door row.state out row new → IsWithout g out f
+    put_before : (g : LeanEnd) → IsPutBefore marks e w v g → IsPut calls w (Some v) row.door row.state out row new → IsWithout g out f
     put_before g b p = record {
       state = p.state_is ∙ sym b.state;
       needed = λ i. (
@@ -173,32 +196,38 @@ module _ (marks : List Mark) (well : AreWellFormed marks) (calls : List Call) (a
             ))),
       );
       finds = λ r u. (
-        (λ h. (let k = (p.finds (record { read = r; value = u })).0 (finds_from those new r u h) in (
-          (b.finds r u).1 (⊎_elim
-              (λ j. inl (finds_to calls row r u j))
-              (λ (j : IsFoundBy calls row.door v (record { read = r; value = u })).
-              let m = subst (MayRead marks) j.1.4 (is_read j.1.0 j.1.1 j.1.2) in
-              inr (m, door_to calls row r (j.1.0, j.1.1, j.1.4, (j.1.3, (λ n. read_not_needed r m.0 (subst (Contains row.needed.items) j.1.4 n)))), j.0))
-              k.0),
-          k.1,
-        ))),
-        (λ h. finds_to those new r u ((p.finds (record { read = r; value = u })).1 (
-          ⊎_elim
-              (λ j. inl (finds_from calls row r u j))
-              (λ j.
-              let c = read_call r j.0 in
-              let d = door_from calls row r j.1 in
-              let same : d.0 ≡ c.0 = same_call calls are.once d.0 c.0 d.1 c.1 (d.2 ∙ sym c.2) in
-              let early : c.0.since < row.door = subst (λ (x : Call). x.since < row.door) same d.3.0 in
-              inr (j.2, (c.0, c.1, c.3, early, c.2)))
-              ((b.finds r u).0 h.0),
-          h.1,
-        ))),
+        (λ h. ⊎_elim
+            (λ j0. (let k = (p.finds (record { read = r; value = u })).0 j0 in (
+              (b.finds r u).1 (⊎_elim
+                  (λ j. inl (finds_to calls row r u (inl j)))
+                  (λ (j : IsFoundBy calls row.door (Some v) (record { read = r; value = u })).
+                  let m = subst (MayRead marks) j.1.4 (is_read j.1.0 j.1.1 j.1.2) in
+                  inr (m, door_to calls row r (j.1.0, j.1.1, j.1.4, (j.1.3, (λ n. read_not_needed r m.0 (subst (Contains row.needed.items) j.1.4 n)))), sym (some_same v u j.0)))
+                  k.0),
+              k.1,
+            )))
+            (λ j0. (let k = read_was out calls those others row new r j0.1 in (
+              (b.finds r u).1 (inl (finds_to calls row r u (inr (sym p.state_is ∙ j0.0, k.0)))),
+              k.1,
+            )))
+            (finds_from those new r u h)),
+        (λ h. finds_to those new r u (⊎_elim
+            (λ j. ⊎_elim
+            (λ i. inl ((p.finds (record { read = r; value = u })).1 (inl i, h.1)))
+            (λ i. inr (p.state_is ∙ i.0, read_stays out calls those others row new r h.1 i.1))
+            (finds_from calls row r u j))
+            (λ j.
+            let c = read_call r j.0 in
+            let d = door_from calls row r j.1 in
+            let same : d.0 ≡ c.0 = same_call calls are.once d.0 c.0 d.1 c.1 (d.2 ∙ sym c.2) in
+            let early : c.0.since < row.door = subst (λ (x : Call). x.since < row.door) same d.3.0 in
+            inl ((p.finds (record { read = r; value = u })).1 (inr (ap Some (sym j.2), (c.0, c.1, c.3, early, c.2)), h.1)))
+            ((b.finds r u).0 h.0))),
       );
     }
 
-    pub is_behind : IsPut calls w v (length marks) (Some v) out row new → (g : LeanEnd) × IsPutBehind marks e w v g × IsWithout g out f
+    pub is_behind : IsPut calls w row.state (length marks) (Some v) out row new → (g : LeanEnd) × IsPutBehind marks e w v g × IsWithout g out f
     is_behind p = let g = some_behind marks well e w v in (g.0, g.1, put_behind g.0 g.1 p)
 
-    pub is_before : IsTrue (e.door w) → IsPut calls w v row.door row.state out row new → (g : LeanEnd) × IsPutBefore marks e w v g × IsWithout g out f
+    pub is_before : IsTrue (e.door w) → IsPut calls w (Some v) row.door row.state out row new → (g : LeanEnd) × IsPutBefore marks e w v g × IsWithout g out f
     is_before d p = let g = some_before marks well e w v d in (g.0, g.1, put_before g.0 g.1 p)

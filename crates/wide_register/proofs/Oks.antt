@@ -15,7 +15,7 @@ use Rattle.wide_register.specs.declared.calls.What.TheVariants.{Writes, Reads}
 use Rattle.wide_register.specs.declared.next.Deed.{Deed}
 use Rattle.wide_register.specs.declared.next.Deed.TheVariants.{EndsWrite, EndsRead}
 use Rattle.wide_register.specs.declared.row.Row.{Row}
-use Rattle.wide_register.specs.Facts.{AreCalls, Has, HasCall, HasDoor, HasNextBy, HasPuts, IsDeed, IsNextBy, IsPutOf, IsWithoutId, end_of, is_other}
+use Rattle.wide_register.specs.Facts.{AreCalls, CanFind, Has, HasCall, HasDoor, HasNextBy, HasPuts, IsDeed, IsNextBy, IsPutOf, IsWithoutId, end_of, found_by, is_other}
 use Rattle.wide_register.proofs.Ends.{needed_from, needed_to, door_from, door_to, finds_from, finds_to, without_once, behind_once, before_once}
 use Rattle.wide_register.proofs.Moves.{same_call, without_is, is_behind, is_before, is_read, is_write}
 use Rattle.wide_register.proofs.Others.{filtered}
@@ -83,19 +83,25 @@ module _ (marks : List Mark) (well : AreWellFormed marks) (calls : List Call) (a
         b
 
   -- the ok of a read that answers v
-  module _ (r : Call) (v : ℤ) (h : Contains calls r) where
+  module _ (r : Call) (v : ℤ) (h : Contains calls r) (is : r.what ≡ Reads) where
     abbrev rest : List Call
     rest = filter (is_other r.id) calls
 
+    finds_of : CanFind row (found_by r v) → IsTrue (e.finds r.id v)
+    finds_of k = finds_to calls row r.id v (⊎_elim inl (λ s. inr (s, (r, h, refl, is))) k)
+
+    of_finds : IsTrue (e.finds r.id v) → CanFind row (found_by r v)
+    of_finds k = ⊎_elim inl (λ s. inr s.0) (finds_from calls row r.id v k)
+
     read_each : (new : Row) → IsNextBy calls now (EndsRead r v) row new → EndsReadBy marks e r.id v (end_of rest new)
     read_each new n = ⊎_elim
-        (λ k. inl (finds_to calls row r.id v k.0, without_is r.id calls rest (filtered r.id calls) row new k.1))
+        (λ k. inl (finds_of k.0, without_is r.id calls rest (filtered r.id calls) row new k.1))
         (λ k.
         let c = k.1.0 in
         let i : Contains calls c = k.1.1 in
         let p = put_each r.id c v (HasDoor row r × HasDoor row c) (λ d. door_of c i d.1) new k.1.3 in
         inr (
-          (λ d. k.0 (finds_from calls row r.id v d)),
+          (λ d. k.0 (of_finds d)),
           (
             c.id,
             p.0,
@@ -110,7 +116,7 @@ module _ (marks : List Mark) (well : AreWellFormed marks) (calls : List Call) (a
     read_all : (made : List Row) → HasNextBy calls now (EndsRead r v) row made → (f : LeanEnd) → EndsReadBy marks e r.id v f → Has made (λ new. end_of rest new ≡ f)
     read_all made n f b = ⊎_elim
         (λ k.
-        let m = n.0 (finds_from calls row r.id v k.0) in
+        let m = n.0 (of_finds k.0) in
         (m.0, m.1, without_once e (end_of rest m.0) f r.id (without_is r.id calls rest (filtered r.id calls) row m.0 m.2) k.1))
         (λ k.
         let x = k.1.0 in
@@ -118,7 +124,7 @@ module _ (marks : List Mark) (well : AreWellFormed marks) (calls : List Call) (a
         let c = are.all x (Writes v) k.1.2 in
         let same : c.0.id ≡ x = c.2 in
         put_all r.id c.0 v (HasDoor row r × HasDoor row c.0) made
-        (n.1 (λ d. k.0 (finds_to calls row r.id v d)) c.0 c.1 (c.3, (λ d. k.1.3 (needed_to calls row x (subst (Contains row.needed.items) same d)))))
+        (n.1 (λ d. k.0 (finds_of d)) c.0 c.1 (c.3, (λ d. k.1.3 (needed_to calls row x (subst (Contains row.needed.items) same d)))))
         f (
           g,
           ⊎_elim
@@ -173,7 +179,7 @@ module _ (marks : List Mark) (well : AreWellFormed marks) (calls : List Call) (a
         let c = k.0 in
         let v = k.1 in
         let h : HasCall calls id Reads c = k.2 in
-        let ends = read_each c v h.0 new (subst (λ x. IsNextBy calls now x row new) k.4 n) in
+        let ends = read_each c v h.0 h.2 new (subst (λ x. IsNextBy calls now x row new) k.4 n) in
         inr (inr (v, a_read c h, k.3, subst (λ i. EndsReadBy marks e i v (end_of (filter (is_other i) calls) new)) h.1 ends)))
         (λ k. absurd (subst (λ x. IsNextBy calls now x row new) k.0 n))
         d2)
@@ -218,7 +224,7 @@ module _ (marks : List Mark) (well : AreWellFormed marks) (calls : List Call) (a
         let q : Number j.0 ≡ Number v = sym j.2 ∙ k.3 in
         let same : j.0 ≡ v = cc in
         let b' : EndsReadBy marks e c.id v f = subst (λ i. EndsReadBy marks e i v f) (sym h.1) (subst (λ w. EndsReadBy marks e id w f) same j.3) in
-        subst (λ i. Has made (λ new. end_of (filter (is_other i) calls) new ≡ f)) h.1 (read_all c v h.0 made n' f b'))
+        subst (λ i. Has made (λ new. end_of (filter (is_other i) calls) new ≡ f)) h.1 (read_all c v h.0 h.2 made n' f b'))
         b1)
         b)
         (λ k. ⊎_elim

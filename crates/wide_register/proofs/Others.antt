@@ -1,5 +1,5 @@
 -- the operations after a mark, as far as doors go
-use Rattle.std.proofs.Common.{◌≡◌, ◌≢◌, ◌↔◌, ℕ, ◌<◌, ◌≤◌, ⊎_elim, true, false, IsTrue, not, ◌||◌, Option, Some, None, List, [], ◌∷◌, map, refl, sym, ap, ◌∙◌, subst, arith}
+use Rattle.std.proofs.Common.{◌≡◌, ◌≢◌, ◌↔◌, ℕ, ◌<◌, ◌≤◌, inl, inr, ⊎_elim, true, false, IsTrue, not, ◌||◌, Option, Some, None, List, [], ◌∷◌, map, refl, sym, ap, ◌∙◌, subst, arith}
 use Rattle.std.specs.List.{Contains, filter}
 use Rattle.std.proofs.lemmas.Bool.{cases_Bool, true≢false}
 use Rattle.std.proofs.lemmas.Bool.Decides.{nat_tests}
@@ -10,7 +10,7 @@ use Rattle.wide_register.specs.declared.calls.What.{What}
 use Rattle.wide_register.specs.declared.calls.What.TheVariants.{Writes, Reads}
 use Rattle.wide_register.specs.declared.row.Row.{Row}
 use Rattle.wide_register.specs.Facts.{calls_with, crashed, end_of, is_other, is_read, outlives}
-use Rattle.wide_register.proofs.Ends.{door_from, door_to, needed_from, needed_to, finds_from, finds_to, same_end}
+use Rattle.wide_register.proofs.Ends.{door_from, door_to, needed_from, needed_to, finds_from, finds_to, same_end, IsReadHere}
 use Rattle.wide_register.proofs.Lists.{was_in, passes, stays_in}
 use Rattle.wide_register.proofs.Moves.{AreOthers}
 
@@ -22,8 +22,8 @@ other_to id c h = grind (arith, nat_tests)
 
 pub filtered : (id : ℕ) (calls : List Call) → AreOthers id calls (filter (is_other id) calls)
 filtered id calls = record {
-  was = λ c h. (c, was_in (is_other id) calls c h, refl, refl, other_from id c (passes (is_other id) calls c h));
-  is = λ c h ne. (c, stays_in (is_other id) calls c h (other_to id c ne), refl, refl);
+  was = λ c h. (c, was_in (is_other id) calls c h, refl, refl, other_from id c (passes (is_other id) calls c h), refl);
+  is = λ c h ne. (c, stays_in (is_other id) calls c h (other_to id c ne), refl, refl, refl);
 }
 
 -- elements of a mapped list
@@ -64,8 +64,8 @@ without_read id calls reads = record {
       let was = was_in (outlives id) calls k.0 k.1 in
       let i : k.0.id ≡ c.id = ap (λ (x : Call). x.id) k.2 in
       let s : k.0.since ≡ c.since = ap (λ (x : Call). x.since) k.2 in
-      (k.0, was, i, s, (λ e. outlives_read id k.0 (reads k.0 was (i ∙ e)) (passes (outlives id) calls k.0 k.1) (i ∙ e))));
-  is = λ c h ne. (crashed id c, map_to (crashed id) (filter (outlives id) calls) c (stays_in (outlives id) calls c h (outlives_to id c ne)), refl, refl);
+      (k.0, was, i, s, (λ e. outlives_read id k.0 (reads k.0 was (i ∙ e)) (passes (outlives id) calls k.0 k.1) (i ∙ e)), ap (λ (x : Call). x.what) k.2));
+  is = λ c h ne. (crashed id c, map_to (crashed id) (filter (outlives id) calls) c (stays_in (outlives id) calls c h (outlives_to id c ne)), refl, refl, refl);
 }
 
 -- those have the doors of these
@@ -86,14 +86,22 @@ module _ (calls those : List Call) (row : Row) (doors : HaveDoors calls those ro
         door_to those new i (b.0, b.1, b.2 ∙ k.2, (subst (λ s. b.0.since < s) (sym d) early, (λ m. k.3.1 (subst (Contains row.needed.items) b.2 (subst (λ l. Contains l b.0.id) n m))))))),
   )
 
-  pub same_row : (new : Row) → new.state ≡ row.state → new.door ≡ row.door → new.needed.items ≡ row.needed.items → new.finds.items ≡ row.finds.items → end_of those new ≡ end_of calls row
-  same_row new s d n f = same_end (end_of those new) (end_of calls row) s
-      (λ i. ((λ h. needed_to calls row i (subst (λ l. Contains l i) n (needed_from those new i h))), (λ h. needed_to those new i (subst (λ l. Contains l i) (sym n) (needed_from calls row i h)))))
-      (door_alike new d n)
-      (λ r v. (
-        (λ h. finds_to calls row r v (subst (λ l. Contains l (record { read = r; value = v })) f (finds_from those new r v h))),
-        (λ h. finds_to those new r v (subst (λ l. Contains l (record { read = r; value = v })) (sym f) (finds_from calls row r v h))),
-      ))
+  -- no read is new, and none is gone
+  module _ (was : (r : ℕ) → IsReadHere those row r → IsReadHere calls row r) (is : (r : ℕ) → IsReadHere calls row r → IsReadHere those row r) where
+    pub same_row : (new : Row) → new.state ≡ row.state → new.door ≡ row.door → new.needed.items ≡ row.needed.items → new.finds.items ≡ row.finds.items → end_of those new ≡ end_of calls row
+    same_row new s d n f = same_end (end_of those new) (end_of calls row) s
+        (λ i. ((λ h. needed_to calls row i (subst (λ l. Contains l i) n (needed_from those new i h))), (λ h. needed_to those new i (subst (λ l. Contains l i) (sym n) (needed_from calls row i h)))))
+        (door_alike new d n)
+        (λ r v. (
+          (λ h. finds_to calls row r v (⊎_elim
+              (λ k. inl (subst (λ l. Contains l (record { read = r; value = v })) f k))
+              (λ k. inr (sym s ∙ k.0, was r k.1))
+              (finds_from those new r v h))),
+          (λ h. finds_to those new r v (⊎_elim
+              (λ k. inl (subst (λ l. Contains l (record { read = r; value = v })) (sym f) k))
+              (λ k. inr (s ∙ k.0, is r k.1))
+              (finds_from calls row r v h))),
+        ))
 
 -- an operation is invoked
 pub with_new : (calls : List Call) (now id : ℕ) (what : Option What) (row : Row) → row.door ≤ now → HaveDoors calls (calls_with calls now id what) row
@@ -122,3 +130,17 @@ with_crash id calls row none = record {
   where
     same_id : (id : ℕ) (c : Call) → is_other id c ≡ false → c.id ≡ id
     same_id id c n = grind (arith, nat_tests)
+
+-- a crash leaves the reads, but the one that has crashed
+pub read_was_there : (id : ℕ) (calls : List Call) (row : Row) (r : ℕ) → IsReadHere (map (crashed id) (filter (outlives id) calls)) row r → IsReadHere calls row r
+read_was_there id calls row r k =
+    let j = map_from (crashed id) (filter (outlives id) calls) k.0 k.1 in
+    (j.0, was_in (outlives id) calls j.0 j.1, ap (λ (x : Call). x.id) j.2 ∙ k.2, ap (λ (x : Call). x.what) j.2 ∙ k.3)
+
+pub read_outlives : (id : ℕ) (calls : List Call) (row : Row) → ((c : Call) → Contains calls c → c.id ≡ id → c.what ≢ Reads) → (r : ℕ) → IsReadHere calls row r → IsReadHere (map (crashed id) (filter (outlives id) calls)) row r
+read_outlives id calls row none r k = (
+  crashed id k.0,
+  map_to (crashed id) (filter (outlives id) calls) k.0 (stays_in (outlives id) calls k.0 k.1 (outlives_to id k.0 (λ e. none k.0 k.1 e k.3))),
+  k.2,
+  k.3,
+)

@@ -11,7 +11,7 @@ use Rattle.lean_ends.proofs.Left.{are_left, left_then}
 use Rattle.lean_ends.proofs.Sound.{IsLeft, left_after}
 use Rattle.wide_register.specs.declared.calls.Call.{Call}
 use Rattle.wide_register.specs.declared.next.Deed.{Deed}
-use Rattle.wide_register.specs.declared.next.Deed.TheVariants.{Keeps, Begins, Leaves, Fails, EndsWrite, EndsRead, Dies}
+use Rattle.wide_register.specs.declared.next.Deed.TheVariants.{Keeps, Leaves, Fails, EndsWrite, EndsRead, Dies}
 use Rattle.wide_register.specs.declared.row.Row.{Row}
 use Rattle.wide_register.specs.declared.kept.Kept.{Kept}
 use Rattle.wide_register.specs.Facts.{AreCalls, AreFacts, Has, HasNextBy, IsAfter, IsAtMostBy, IsDeed, IsNextBy, IsPut, calls_after, end_of}
@@ -66,16 +66,15 @@ same_door row new now low d = omega arith
 
 next_door : (calls : List Call) (now : ℕ) (deed : Deed) (row new : Row) → row.door ≤ now → IsNextBy calls now deed row new → new.door ≤ now
 next_door calls now Keeps row new low n = same_door row new now low n.door
-next_door calls now (Begins id) row new low n = same_door row new now low n.door
 next_door calls now (Leaves id) row new low n = same_door row new now low n.door
 next_door calls now (Fails id) row new low n = same_door row new now low n.1.door
 next_door calls now (EndsWrite w v) row new low n = ⊎_elim
     (λ k. same_door row new now low k.1.door)
-    (λ k. put_door row new now low (λ (p : IsPut calls w.id v now (Some v) w.id row new). p.door) (λ p. p.1.door) k.1)
+    (λ k. put_door row new now low (λ (p : IsPut calls w.id row.state now (Some v) w.id row new). p.door) (λ p. p.1.door) k.1)
     n
 next_door calls now (EndsRead r v) row new low n = ⊎_elim
     (λ k. same_door row new now low k.1.door)
-    (λ k. put_door row new now low (λ (p : IsPut calls k.1.0.id v now (Some v) r.id row new). p.door) (λ p. p.1.door) k.1.3)
+    (λ k. put_door row new now low (λ (p : IsPut calls k.1.0.id row.state now (Some v) r.id row new). p.door) (λ p. p.1.door) k.1.3)
     n
 next_door calls now Dies row new low n = absurd n
 
@@ -139,7 +138,7 @@ module _ (m : Mark) (k new : Kept) (a : IsAfter m k new) (marks : List Mark) (f 
   apart = Pairwise-map (end_of those) (λ e g. (¬ IsAtMost longer e g) × (¬ IsAtMost longer g e)) new.rows.items
       (Pairwise-weaker (λ x y. (¬ IsAtMostBy those x y) × (¬ IsAtMostBy those y x)) (λ x y. (¬ IsAtMost longer (end_of those x) (end_of those y)) × (¬ IsAtMost longer (end_of those y) (end_of those x))) new.rows.items
       (λ x y h j n. ((λ p. n.0 (row_at_most longer those are x y p)), (λ p. n.1 (row_at_most longer those are y x p))))
-      a.apart)
+      (a.apart f.apart))
 
   pub facts_after : AreFacts new longer
   facts_after = record {
@@ -147,5 +146,6 @@ module _ (m : Mark) (k new : Kept) (a : IsAfter m k new) (marks : List Mark) (f 
     now = (let l : length longer ≡ length marks + 1 = length-append marks (m ∷ []) in a.moment ∙ ap (λ n. n + 1) f.now ∙ sym l);
     calls = are;
     doors = λ r h. (let row = a.each r h in let d = next_door calls k.moment a.deed row.0 r (f.doors row.0 row.1) row.2 in let n = a.moment in omega arith);
+    apart = a.apart f.apart;
     ends = left_then marks m ends nexts f.ends (record { each = each; all = all; apart = apart });
   }

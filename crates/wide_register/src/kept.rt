@@ -1,13 +1,13 @@
 //! What is kept of the history of a register.
-ghost use Rattle.std.specs.Prelude.{◌≡◌, ◌≢◌, ◌↔◌, ◌⊎◌, ◌+◌, [], List, map, IfOk, IsTrue, OnOk};
+ghost use Rattle.std.specs.Prelude.{◌≡◌, ◌≢◌, ◌↔◌, ◌⊎◌, ◌+◌, ◌++◌, [], List, map, IfOk, IsTrue, OnOk};
 ghost use Rattle.std.specs.List.{Contains, filter};
 ghost use Rattle.events.specs.Events.{act_by, mark_by_act};
-ghost use Rattle.wide_register.specs.Facts.{AreApart, AreFacts, AreSame, HasNextBy, IsAfter, IsKeptIn, IsNextBy};
+ghost use Rattle.wide_register.specs.Facts.{AreApart, AreChanged, AreFacts, AreSame, changed, HasNextBy, IsAfter, IsKeptIn, IsNextBy};
 ghost use Rattle.wide_register.specs.Facts.{calls_after, calls_with, crashed, is_other, outlives, what_by};
 ghost use Rattle.wide_register.specs.declared.row.Row.{Row};
 
 use crate::calls::{Call, What, what_of};
-use crate::left::keep_all;
+use crate::gather::gather;
 use crate::next::{Deed, deed_of, next_rows};
 use crate::row::Row;
 use events::EventKind;
@@ -20,6 +20,14 @@ pub struct Kept {
     pub moment: u64,
     pub calls: Vec<Call>,
     pub rows: Vec<Row>,
+}
+
+/// What an event makes of what is kept: the rows, unless they stay as they are.
+#[derive(Drop)]
+pub struct Change {
+    pub moment: u64,
+    pub calls: Vec<Call>,
+    pub rows: Option<Vec<Row>>,
 }
 
 // The same operations again.
@@ -80,6 +88,18 @@ fn calls_crashed(alloc: Global, calls: &[Call], id: u32) -> Result<Vec<Call>, Al
         }
     }
     Ok(left)
+}
+
+// Puts the rows behind the others.
+fn join(rows: &mut Vec<Row>, mut more: Vec<Row>) -> Result<(), AllocError>
+    ensures { OnOk result (rows.new.items ≡ rows.old.items ++ more.items) }
+{
+    if rows.is_empty() {
+        *rows = more;
+        return Ok(());
+    }
+    rows.append(&mut more)?;
+    Ok(())
 }
 
 impl Kept {
@@ -145,6 +165,22 @@ impl Kept {
         Ok(calls)
     }
 
+    // All that the deed makes of the rows.
+    fn rows_made(&self, alloc: Global, deed: &Deed) -> Result<Vec<Row>, AllocError>
+        ensures each { IfOk result (λ made. (r : Row) → Contains made.items r → (row : Row) × Contains self.now.rows.items row
+            × IsNextBy self.now.calls.items self.now.moment deed.now row r) }
+        ensures all { IfOk result (λ made. (row : Row) → Contains self.now.rows.items row → (next : List Row)
+            × HasNextBy self.now.calls.items self.now.moment deed.now row next
+            × ((r : Row) → Contains next r → Contains made.items r)) }
+    {
+        let mut made = Vec::new(alloc);
+        for row in &self.rows {
+            let next = next_rows(alloc, row, &self.calls, self.moment, deed)?;
+            join(&mut made, next)?;
+        }
+        Ok(made)
+    }
+
     // The rows after the event.
     fn rows_after(&self, alloc: Global, deed: &Deed, later: &[Call]) -> Result<Vec<Row>, AllocError>
         ensures each { IfOk result (λ left. (r : Row) → Contains left.items r → (row : Row) × Contains self.now.rows.items row
@@ -154,32 +190,64 @@ impl Kept {
             × ((r : Row) → Contains made r → IsKeptIn later.now left.items r)) }
         ensures apart { IfOk result (λ left. AreApart later.now left.items) }
     {
-        let mut left = Vec::new(alloc);
-        for row in &self.rows {
-            let made = next_rows(alloc, row, &self.calls, self.moment, deed)?;
-            keep_all(&mut left, later, made)?;
-        }
+        let made = self.rows_made(alloc, deed)?;
+        let left = gather(alloc, later, made)?;
         Ok(left)
     }
 
-    /// What is kept after the event of an operation. The id is that of the operation, and the part of an ok is the answer.
-    pub fn after(
+    // The rows after the event, unless they stay as they are.
+    fn rows_changed(
         &self,
         alloc: Global,
         id: u32,
         kind: EventKind,
         op: &Op,
-    ) -> Result<Kept, AllocError>
-        ensures { IfOk result (IsAfter (mark_by_act id id (act_by kind op.now)) self.now) }
+        later: &[Call],
+    ) -> Result<Option<Vec<Row>>, AllocError>
+        ensures { let mark = mark_by_act id id (act_by kind op.now) in IfOk result (λ rows.
+            later.now ≡ calls_after self.now.calls.items self.now.moment mark → AreChanged mark self.now later.now rows) }
+    {
+        if matches!(kind, EventKind::Invoke) {
+            return Ok(None);
+        }
+        let deed = deed_of(&self.calls, id, kind, op);
+        let rows = self.rows_after(alloc, &deed, later)?;
+        Ok(Some(rows))
+    }
+
+    /// What the event of an operation makes of what is kept. The id is that of the operation, and the part of an ok is the answer.
+    pub fn change(
+        &self,
+        alloc: Global,
+        id: u32,
+        kind: EventKind,
+        op: &Op,
+    ) -> Result<Change, AllocError>
+        ensures { IfOk result (λ c. IsAfter (mark_by_act id id (act_by kind op.now)) self.now (changed c self.now)) }
     {
         let moment = self.next_moment()?;
         let calls = self.calls_after(alloc, id, kind, op)?;
-        let deed = deed_of(&self.calls, id, kind, op);
-        let rows = self.rows_after(alloc, &deed, &calls)?;
-        Ok(Kept {
+        let rows = self.rows_changed(alloc, id, kind, op, &calls)?;
+        Ok(Change {
             moment,
             calls,
             rows,
         })
+    }
+
+    /// Carries out the change. Takes no memory.
+    pub fn carry_out(&mut self, change: Change)
+        ensures { self.new ≡ changed change self.old }
+    {
+        let Change {
+            moment,
+            calls,
+            rows,
+        } = change;
+        self.moment = moment;
+        self.calls = calls;
+        if let Some(rows) = rows {
+            self.rows = rows;
+        }
     }
 }

@@ -1,13 +1,13 @@
 //! Rows that are at most another one are left out.
 ghost use Rattle.std.specs.Prelude.{◌≡◌, ◌↔◌, ◌⊎◌, ℕ, IsTrue, OnOk};
 ghost use Rattle.std.specs.List.{Contains};
-ghost use Rattle.wide_register.specs.Facts.{AreApart, AreLeftOut, FitsAt, IsAtMostBy, IsKeptIn};
+ghost use Rattle.wide_register.specs.Facts.{AreApart, AreLeftOut, CanFind, FitsAt, IsAtMostBy, IsKeptIn};
 ghost use Rattle.wide_register.specs.declared.calls.Call.{Call};
 ghost use Rattle.wide_register.specs.declared.row.Found.{Found};
 ghost use Rattle.wide_register.specs.declared.row.Row.{Row};
 
 use crate::calls::Call;
-use crate::row::{Found, Row, has_found, has_id};
+use crate::row::{Found, Row, has_id, place_of};
 use std::alloc::AllocError;
 
 // Whether each of these ids is among those.
@@ -22,12 +22,14 @@ fn has_ids(those: &[u32], these: &[u32]) -> bool
     true
 }
 
-// Whether each read that may find a value here may find it there.
-fn has_finds(those: &[Found], these: &[Found]) -> bool
-    ensures { IsTrue result ↔ ((f : Found) → Contains these.now f → Contains those.now f) }
+// Whether each read that may find a value here may find it in the row.
+fn has_finds(row: &Row, these: &[Found]) -> bool
+    ensures { IsTrue result ↔ ((f : Found) → Contains these.now f → CanFind row.now f) }
 {
+    let mut at = 0;
     for found in these {
-        if !has_found(those, *found) {
+        at = place_of(&row.finds, at, *found);
+        if !row.may_answer_at(at, *found) {
             return false;
         }
     }
@@ -68,7 +70,7 @@ pub fn is_at_most(calls: &[Call], row: &Row, other: &Row) -> bool
     if !has_ids(&row.needed, &other.needed) {
         return false;
     }
-    if !has_finds(&other.finds, &row.finds) {
+    if !has_finds(other, &row.finds) {
         return false;
     }
     all_fit(calls, row, other)

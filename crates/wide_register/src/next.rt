@@ -3,13 +3,13 @@ ghost use Rattle.std.specs.Prelude.{◌≡◌, ◌≤◌, ◌↔◌, ◌⊎◌, 
 ghost use Rattle.std.specs.List.{Contains};
 ghost use Rattle.models.specs.Objects.{answer_of};
 ghost use Rattle.events.specs.Events.{act_by, mark_by_act};
-ghost use Rattle.events.specs.Events.Mark.{Crashed, Invoked, Returned};
+ghost use Rattle.events.specs.Events.Mark.{Crashed, Returned};
 ghost use Rattle.wide_register.specs.Counts.{AreTries};
 ghost use Rattle.wide_register.specs.Facts.{Has, HasDoor, HasNextBy, HasPuts, IsDeed, IsDeedOfAnswer, IsFree, IsNextBy, IsPut, IsPutOf, IsWithoutId};
 ghost use Rattle.wide_register.specs.declared.row.Row.{Row};
 
-use crate::calls::{Call, What, call_of, what_of};
-use crate::row::{Found, Row, has_found, has_id};
+use crate::calls::{Call, What, call_of};
+use crate::row::{Found, Row, has_id};
 use events::EventKind;
 use models::{Op, Part};
 use std::alloc::{AllocError, Global};
@@ -19,8 +19,6 @@ use std::alloc::{AllocError, Global};
 pub enum Deed {
     /// It stays.
     Keeps,
-    /// A read with this id begins.
-    Begins(u32),
     /// The operation with this id is out.
     Leaves(u32),
     /// It is out, and must not have taken place.
@@ -31,16 +29,6 @@ pub enum Deed {
     EndsRead(Call, i64),
     /// Nothing is left of any row.
     Dies,
-}
-
-// What an invocation makes of each row.
-fn deed_of_invoke(calls: &[Call], id: u32, op: &Op) -> Deed
-    ensures { IsDeed calls.now (Invoked id op.now) result }
-{
-    match what_of(op.name, &op.part) {
-        Some(What::Reads) => Deed::Begins(id),
-        _ => Deed::Keeps,
-    }
 }
 
 // What the answer of a read makes of each row.
@@ -85,7 +73,7 @@ pub fn deed_of(calls: &[Call], id: u32, kind: EventKind, op: &Op) -> Deed
     ensures { IsDeed calls.now (mark_by_act id id (act_by kind op.now)) result }
 {
     match kind {
-        EventKind::Invoke => deed_of_invoke(calls, id, op),
+        EventKind::Invoke => Deed::Keeps,
         EventKind::Ok => deed_of_ok(calls, id, &op.part),
         EventKind::Fail => Deed::Fails(id),
         EventKind::Info => deed_of_info(calls, id),
@@ -111,16 +99,16 @@ fn put_both(
     may_before: bool,
 ) -> Result<(), AllocError>
     ensures each { OnOk result ((new : Row) → Contains made.new.items new → Contains made.old.items new
-        ⊎ IsPut calls.now write value moment (Some value) done row.now new
-        ⊎ (IsTrue may_before × IsPut calls.now write value row.now.door row.now.state done row.now new)) }
+        ⊎ IsPut calls.now write row.now.state moment (Some value) done row.now new
+        ⊎ (IsTrue may_before × IsPut calls.now write (Some value) row.now.door row.now.state done row.now new)) }
     ensures old { OnOk result ((new : Row) → Contains made.old.items new → Contains made.new.items new) }
-    ensures behind { OnOk result (Has made.new.items (IsPut calls.now write value moment (Some value) done row.now)) }
+    ensures behind { OnOk result (Has made.new.items (IsPut calls.now write row.now.state moment (Some value) done row.now)) }
     ensures before { OnOk result (IsTrue may_before
-        → Has made.new.items (IsPut calls.now write value row.now.door row.now.state done row.now)) }
+        → Has made.new.items (IsPut calls.now write (Some value) row.now.door row.now.state done row.now)) }
 {
-    made.push(row.put(calls, write, value, moment, Some(value), done)?)?;
+    made.push(row.put(calls, write, row.state, moment, Some(value), done)?)?;
     if may_before {
-        made.push(row.put(calls, write, value, row.door, row.state, done)?)?;
+        made.push(row.put(calls, write, Some(value), row.door, row.state, done)?)?;
     }
     Ok(())
 }
@@ -224,7 +212,7 @@ fn end_read(
         read: read.id,
         value,
     };
-    let may_find = has_found(&row.finds, found);
+    let may_find = row.may_answer(found);
     if may_find {
         let out = row.without(read.id)?;
         let made = one(alloc, out)?;
@@ -250,11 +238,6 @@ pub fn next_rows(
             let same = row.copy()?;
             let alone_same = one(alloc, same)?;
             Ok(alone_same)
-        }
-        Deed::Begins(id) => {
-            let begun = row.with_read(*id)?;
-            let alone_begun = one(alloc, begun)?;
-            Ok(alone_begun)
         }
         Deed::Leaves(id) => {
             let out = row.without(*id)?;

@@ -1,7 +1,7 @@
 //! Lean ends as they are kept.
-ghost use Rattle.std.specs.Prelude.{◌≡◌, ◌<◌, ◌↔◌, ◌⊎◌, ℕ, IfOk, IsTrue, OnOk};
+ghost use Rattle.std.specs.Prelude.{◌≡◌, ◌≢◌, ◌<◌, ◌≤◌, ◌↔◌, ◌⊎◌, ℕ, Some, IfOk, IsTrue, OnOk, length};
 ghost use Rattle.std.specs.List.{Contains};
-ghost use Rattle.wide_register.specs.Facts.{HasDoor, IsBegun, IsFirst, IsFoundBy, IsPut, IsSame, IsWithoutId};
+ghost use Rattle.wide_register.specs.Facts.{CanFind, HasDoor, IsFirst, IsFoundBy, IsPut, IsSame, IsWithoutId};
 ghost use Rattle.wide_register.specs.declared.row.Found.{Found};
 
 use crate::calls::{Call, What};
@@ -14,8 +14,9 @@ pub struct Found {
     pub value: i64,
 }
 
-/// A lean end: the state, the open and crashed writes that took place, and what each open read may find. An operation that is not
-/// among these writes may still take place just before the last write if fewer marks than `door` came before its invocation.
+/// A lean end: the state, which each open read may find, the open and crashed writes that took place, and what else the open reads may
+/// find. An operation that is not among these writes may still take place just before the last write if fewer marks than `door` came
+/// before its invocation.
 #[derive(Drop)]
 pub struct Row {
     pub state: Option<i64>,
@@ -38,6 +39,33 @@ pub fn has_found(finds: &[Found], found: Found) -> bool
     finds.contains(&found)
 }
 
+/// The same, where what is found stands most likely at this place.
+pub fn has_found_at(finds: &[Found], at: usize, found: Found) -> bool
+    ensures { IsTrue result ↔ Contains finds.now found }
+{
+    if at < finds.len() && finds[at] == found {
+        return true;
+    }
+    has_found(finds, found)
+}
+
+// Whether the first comes before the second in the order in which what is found is kept: rows that differ do so most likely in what was
+// found last.
+fn comes_before(one: Found, other: Found) -> bool {
+    one.value > other.value || one.value == other.value && one.read > other.read
+}
+
+/// The first place from this one on of what does not come before what is found.
+pub fn place_of(finds: &[Found], from: usize, found: Found) -> usize
+    ensures { from ≤ length finds.now → result ≤ length finds.now }
+{
+    let mut at = from;
+    while at < finds.len() && comes_before(finds[at], found) {
+        at += 1;
+    }
+    at
+}
+
 // Whether the operation is a read that was invoked before the gap.
 fn may_find(call: &Call, gap: u64) -> bool
     ensures { IsTrue result ↔ ((call.now.what ≡ What.Reads) × (call.now.since < gap)) }
@@ -49,9 +77,11 @@ fn may_find(call: &Call, gap: u64) -> bool
 fn note(finds: &mut Vec<Found>, found: Found) -> Result<(), AllocError>
     ensures { OnOk result ((f : Found) → Contains finds.new.items f ↔ (Contains finds.old.items f ⊎ (found ≡ f))) }
 {
-    if !has_found(finds, found) {
-        finds.push(found)?;
+    let at = place_of(finds, 0, found);
+    if has_found_at(finds, at, found) {
+        return Ok(());
     }
+    finds.insert(at, found)?;
     Ok(())
 }
 
@@ -63,7 +93,7 @@ fn find_value(
     value: i64,
 ) -> Result<(), AllocError>
     ensures { OnOk result ((f : Found) → Contains finds.new.items f
-        ↔ (Contains finds.old.items f ⊎ IsFoundBy calls.now gap value f)) }
+        ↔ (Contains finds.old.items f ⊎ IsFoundBy calls.now gap (Some value) f)) }
 {
     for call in calls {
         if may_find(call, gap) {
@@ -76,6 +106,36 @@ fn find_value(
             )?;
         }
     }
+    Ok(())
+}
+
+// Each open read that was invoked before the gap may find the value, if there is one. Takes the time of the operations and of what is found.
+fn find_any(
+    finds: &mut Vec<Found>,
+    calls: &[Call],
+    gap: u64,
+    value: Option<i64>,
+) -> Result<(), AllocError>
+    ensures { OnOk result ((f : Found) → Contains finds.new.items f
+        ↔ (Contains finds.old.items f ⊎ IsFoundBy calls.now gap value f)) }
+{
+    match value {
+        Some(value) => {
+            find_value(finds, calls, gap, value)?;
+            Ok(())
+        }
+        None => Ok(()),
+    }
+}
+
+// The write is among those that took place, unless it is done.
+fn need(needed: &mut Vec<u32>, write: u32, done: u32) -> Result<(), AllocError>
+    ensures { OnOk result ((i : ℕ) → i ≢ done → Contains needed.new.items i ↔ ((i ≡ write) ⊎ Contains needed.old.items i)) }
+{
+    if write == done {
+        return Ok(());
+    }
+    needed.push(write)?;
     Ok(())
 }
 
@@ -111,6 +171,13 @@ impl Row {
         call.since < self.door && !has_id(&self.needed, call.id)
     }
 
+    /// The same, where what is found is most likely at this place.
+    pub fn may_answer_at(&self, at: usize, found: Found) -> bool
+        ensures { IsTrue result ↔ CanFind self.now found }
+    {
+        self.state == Some(found.value) || has_found_at(&self.finds, at, found)
+    }
+
     // The operation is done, or out.
     fn leave(&mut self, id: u32)
         ensures { IsWithoutId id self.old self.new }
@@ -128,24 +195,21 @@ impl Row {
         Ok(row)
     }
 
-    /// The row as the read begins, which may find the state. Takes the time of its lists.
-    pub fn with_read(&self, id: u32) -> Result<Row, AllocError>
-        ensures { IfOk result (IsBegun id self.now) }
+    /// Whether the open read may find the value.
+    pub fn may_answer(&self, found: Found) -> bool
+        ensures { IsTrue result ↔ CanFind self.now found }
     {
-        let mut row = self.copy()?;
-        if let Some(value) = row.state {
-            row.finds.push(Found { read: id, value })?;
-        }
-        Ok(row)
+        self.state == Some(found.value) || has_found(&self.finds, found)
     }
 
-    /// The row as the write takes place at this gap, and leaves this state behind all, without the operation that is done by it.
+    /// The row as the write takes place at this gap, before which this value may be found from then on, and leaves this state behind all,
+    /// without the operation that is done by it.
     /// Takes the time of its lists and of the operations, each with what is found.
     pub fn put(
         &self,
         calls: &[Call],
         write: u32,
-        value: i64,
+        value: Option<i64>,
         gap: u64,
         state: Option<i64>,
         done: u32,
@@ -155,8 +219,8 @@ impl Row {
         let mut row = self.copy()?;
         row.state = state;
         row.door = gap;
-        row.needed.push(write)?;
-        find_value(&mut row.finds, calls, gap, value)?;
+        need(&mut row.needed, write, done)?;
+        find_any(&mut row.finds, calls, gap, value)?;
         row.leave(done);
         Ok(row)
     }

@@ -38,5 +38,5 @@ returns-clause-all c =
     write_all calls c.args.moment row write c.args.value
     (λ n. true≢false (sym (c.has_id-needed.ensures.1 (subst (λ l. Contains l write.id) (sym c.deref.ensures.value) n)) ∙ c.if-needed.false))
     (IsTrue c.has_door-may_before.result) c.has_door-may_before.ensures.0 c.has_door-may_before.ensures.1 c.new-made.result.items made c.new-made.ensures.items
-    (subst (λ v. Has made (IsPut calls write.id v c.args.moment (Some v) write.id row)) same c.in_ok-put_both.ensures.behind)
-    (subst (λ v. IsTrue c.has_door-may_before.result → Has made (IsPut calls write.id v row.door row.state write.id row)) same c.in_ok-put_both.ensures.before)
+    (subst (λ v. Has made (IsPut calls write.id row.state c.args.moment (Some v) write.id row)) same c.in_ok-put_both.ensures.behind)
+    (subst (λ v. IsTrue c.has_door-may_before.result → Has made (IsPut calls write.id (Some v) row.door row.state write.id row)) same c.in_ok-put_both.ensures.before)

@@ -1,4 +1,4 @@
-use Rattle.std.proofs.Common.{◌≡◌, ◌↔◌, ◌⊎◌, ◌∙◌, ℤ, sym, subst, to_z, of_z, w64}
+use Rattle.std.proofs.Common.{◌≡◌, ◌↔◌, ◌⊎◌, ◌∙◌, ℤ, Some, sym, subst, to_z, of_z, w64}
 use Rattle.std.specs.List.{Contains}
 use Rattle.std.proofs.lemmas.Bool.{true≢false}
 use Rattle.std.proofs.lemmas.Int.{to_z-of_z}
@@ -18,5 +18,5 @@ pub returns : goal.returns
 returns c =
     let passed : ℤ = to_z w64 (of_z w64 c.args.value) in
     let same : passed ≡ c.args.value = to_z-of_z w64 c.args.value c.ranges.value in
-    subst (λ v. (f : Found) → Contains c.loop-call.finds.items f ↔ (Contains c.args.finds.now.items f ⊎ IsFoundBy c.args.calls.now c.args.gap v f)) same
+    subst (λ v. (f : Found) → Contains c.loop-call.finds.items f ↔ (Contains c.args.finds.now.items f ⊎ IsFoundBy c.args.calls.now c.args.gap (Some v) f)) same
     (all_so_far c.args.calls.now c.args.gap passed c.args.finds.now.items c.loop-call.finds.items c.loop-call.call-index c.loop-call-test.false c.loop-call.invariant)
