@@ -9,7 +9,7 @@ use Rattle.models.specs.declared.operation.Part.TheVariants.{Nil, Int}
 use Rattle.wide_register.specs.declared.calls.Call.{Call}
 use Rattle.wide_register.specs.declared.calls.What.{What}
 use Rattle.wide_register.specs.declared.calls.What.TheVariants.{Writes, Reads}
-use Rattle.wide_register.specs.declared.row.Found.{Found}
+use Rattle.wide_register.specs.declared.row.Passed.{Passed}
 use Rattle.wide_register.specs.declared.row.Row.{Row}
 use Rattle.wide_register.specs.declared.next.Deed.{Deed}
 use Rattle.wide_register.specs.declared.next.Deed.TheVariants.{Keeps, Leaves, Fails, EndsWrite, EndsRead, Dies}
@@ -66,9 +66,25 @@ pub record IsWithoutId (id : ℕ) (row new : Row) : Type 0 where
   pub door : new.door ≡ row.door
   pub finds : (f : Found) → Contains new.finds.items f ↔ (Contains row.finds.items f × (f.read ≢ id))
 
--- a read that is open may find this in the row: the state, or a value that is kept
-abbrev pub CanFind : Row → Found → Type 0
-CanFind row f = Contains row.finds.items f ⊎ (row.state ≡ Some f.value)
+-- the value stood at a gap before which the moment lies
+abbrev pub StoodAbove : List Passed → ℤ → ℕ → Type 0
+StoodAbove passed v t = (p : Passed) × Contains passed p × (p.value ≡ v) × (t < p.gap)
+
+-- a read that was invoked at the moment and is open may find the value in the row: it is the state, or stood at a later gap
+abbrev pub CanFind : Row → ℤ → ℕ → Type 0
+CanFind row v t = StoodAbove row.passed.items v t ⊎ (row.state ≡ Some v)
+
+-- the value stands there at as late a gap
+abbrev pub IsPassedIn : List Passed → Passed → Type 0
+IsPassedIn those p = (q : Passed) × Contains those q × (q.value ≡ p.value) × (p.gap ≤ q.gap)
+
+-- reads that were invoked at these moments may find the same, and each gap is the least that tells so
+pub record IsTrimmed (moments : List ℕ) (row new : Row) : Type 0 where
+  pub state : new.state ≡ row.state
+  pub needed : new.needed.items ≡ row.needed.items
+  pub door : new.door ≡ row.door
+  pub finds : (v : ℤ) (t : ℕ) → Contains moments t → CanFind new v t ↔ CanFind row v t
+  pub least : (p : Passed) → Contains new.passed.items p → (row.state ≢ Some p.value) × ((t : ℕ) × Contains moments t × (p.gap ≡ t + 1))
 
 -- the write takes place at the gap, before which this value may be found from then on, and leaves this state behind all; the operation
 -- that is done by it is out

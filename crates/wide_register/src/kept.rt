@@ -90,6 +90,20 @@ fn calls_crashed(alloc: Global, calls: &[Call], id: u32) -> Result<Vec<Call>, Al
     Ok(left)
 }
 
+// When the open reads were invoked, in turn.
+fn moments_of_reads(alloc: Global, calls: &[Call]) -> Result<Vec<u64>, AllocError>
+    ensures { IfOk result (λ moments. (t : ℕ) → Contains moments.items t
+        ↔ ((c : Call) × Contains calls.now c × (c.what ≡ Reads) × (c.since ≡ t))) }
+{
+    let mut moments = Vec::new(alloc);
+    for call in calls {
+        if call.what == What::Reads {
+            moments.push(call.since)?;
+        }
+    }
+    Ok(moments)
+}
+
 // Puts the rows behind the others.
 fn join(rows: &mut Vec<Row>, mut more: Vec<Row>) -> Result<(), AllocError>
     ensures { OnOk result (rows.new.items ≡ rows.old.items ++ more.items) }
@@ -190,7 +204,11 @@ impl Kept {
             × ((r : Row) → Contains made r → IsKeptIn later.now left.items r)) }
         ensures apart { IfOk result (λ left. AreApart later.now left.items) }
     {
-        let made = self.rows_made(alloc, deed)?;
+        let mut made = self.rows_made(alloc, deed)?;
+        let moments = moments_of_reads(alloc, later)?;
+        for row in made.iter_mut() {
+            row.trim(&moments);
+        }
         let left = gather(alloc, later, made)?;
         Ok(left)
     }

@@ -9,7 +9,7 @@ ghost use Rattle.wide_register.specs.Facts.{Has, HasDoor, HasNextBy, HasPuts, Is
 ghost use Rattle.wide_register.specs.declared.row.Row.{Row};
 
 use crate::calls::{Call, What, call_of};
-use crate::row::{Found, Row, has_id};
+use crate::row::{Row, has_id};
 use events::EventKind;
 use models::{Op, Part};
 use std::alloc::{AllocError, Global};
@@ -208,11 +208,7 @@ fn end_read(
         → IsNextBy calls.now moment (Deed.EndsRead read.now value) row.now new) }
     ensures all { IfOk result (λ made. HasNextBy calls.now moment (Deed.EndsRead read.now value) row.now made.items) }
 {
-    let found = Found {
-        read: read.id,
-        value,
-    };
-    let may_find = row.may_answer(found);
+    let may_find = row.may_answer(read, value);
     if may_find {
         let out = row.without(read.id)?;
         let made = one(alloc, out)?;

@@ -1,28 +1,28 @@
 //! Lean ends as they are kept.
 ghost use Rattle.std.specs.Prelude.{◌≡◌, ◌≢◌, ◌<◌, ◌≤◌, ◌↔◌, ◌⊎◌, ℕ, Some, IfOk, IsTrue, OnOk, length};
 ghost use Rattle.std.specs.List.{Contains};
-ghost use Rattle.wide_register.specs.Facts.{CanFind, HasDoor, IsFirst, IsFoundBy, IsPut, IsSame, IsWithoutId};
-ghost use Rattle.wide_register.specs.declared.row.Found.{Found};
+ghost use Rattle.wide_register.specs.Facts.{CanFind, HasDoor, IsFirst, IsPut, IsSame, IsTrimmed, IsWithoutId, StoodAbove};
 
-use crate::calls::{Call, What};
+use crate::calls::Call;
 use std::alloc::{AllocError, Global};
 
-/// A value that an open read may find.
+/// A value that stood at a gap: each open read that was invoked before the gap, so that fewer marks came before its invocation, may
+/// find it.
 #[derive(Clone, Copy, PartialEq, Eq)]
-pub struct Found {
-    pub read: u32,
+pub struct Passed {
     pub value: i64,
+    pub gap: u64,
 }
 
 /// A lean end: the state, which each open read may find, the open and crashed writes that took place, and what else the open reads may
-/// find. An operation that is not among these writes may still take place just before the last write if fewer marks than `door` came
-/// before its invocation.
+/// find, each value once, with its latest gap, the greatest value first. An operation that is not among these writes may still take place
+/// just before the last write if fewer marks than `door` came before its invocation.
 #[derive(Drop)]
 pub struct Row {
     pub state: Option<i64>,
     pub needed: Vec<u32>,
     pub door: u64,
-    pub finds: Vec<Found>,
+    pub passed: Vec<Passed>,
 }
 
 // Whether the id is among these. Takes their time.
@@ -32,100 +32,60 @@ pub fn has_id(ids: &[u32], id: u32) -> bool
     ids.contains(&id)
 }
 
-// Whether the read may find the value. Takes the time of what is found.
-pub fn has_found(finds: &[Found], found: Found) -> bool
-    ensures { IsTrue result ↔ Contains finds.now found }
-{
-    finds.contains(&found)
-}
-
-/// The same, where what is found stands most likely at this place.
-pub fn has_found_at(finds: &[Found], at: usize, found: Found) -> bool
-    ensures { IsTrue result ↔ Contains finds.now found }
-{
-    if at < finds.len() && finds[at] == found {
-        return true;
-    }
-    has_found(finds, found)
-}
-
-// Whether the first comes before the second in the order in which what is found is kept: rows that differ do so most likely in what was
-// found last.
-fn comes_before(one: Found, other: Found) -> bool {
-    one.value > other.value || one.value == other.value && one.read > other.read
-}
-
-/// The first place from this one on of what does not come before what is found.
-pub fn place_of(finds: &[Found], from: usize, found: Found) -> usize
-    ensures { from ≤ length finds.now → result ≤ length finds.now }
+// The first place from this one on of a value that is not greater.
+pub fn place_of(passed: &[Passed], from: usize, value: i64) -> usize
+    ensures { from ≤ length passed.now → result ≤ length passed.now }
 {
     let mut at = from;
-    while at < finds.len() && comes_before(finds[at], found) {
+    while at < passed.len() && passed[at].value > value {
         at += 1;
     }
     at
 }
 
-// Whether the operation is a read that was invoked before the gap.
-fn may_find(call: &Call, gap: u64) -> bool
-    ensures { IsTrue result ↔ ((call.now.what ≡ What.Reads) × (call.now.since < gap)) }
+// The value stood at the gap, too. Takes the time of what is found.
+fn note(passed: &mut Vec<Passed>, gap: u64, value: i64) -> Result<(), AllocError>
+    ensures { OnOk result ((v : ℤ) (t : ℕ) → StoodAbove passed.new.items v t
+        ↔ (StoodAbove passed.old.items v t ⊎ ((v ≡ value) × (t < gap)))) }
 {
-    matches!(call.what, What::Reads) && call.since < gap
-}
-
-// The read may find the value, too. Takes the time of what is found.
-fn note(finds: &mut Vec<Found>, found: Found) -> Result<(), AllocError>
-    ensures { OnOk result ((f : Found) → Contains finds.new.items f ↔ (Contains finds.old.items f ⊎ (found ≡ f))) }
-{
-    let at = place_of(finds, 0, found);
-    if has_found_at(finds, at, found) {
+    let at = place_of(passed, 0, value);
+    if at < passed.len() && passed[at].value == value {
+        if passed[at].gap < gap {
+            passed[at].gap = gap;
+        }
         return Ok(());
     }
-    finds.insert(at, found)?;
+    passed.insert(at, Passed { value, gap })?;
     Ok(())
 }
 
-// Each open read that was invoked before the gap may find the value. Takes the time of the operations and of what is found.
-fn find_value(
-    finds: &mut Vec<Found>,
-    calls: &[Call],
-    gap: u64,
-    value: i64,
-) -> Result<(), AllocError>
-    ensures { OnOk result ((f : Found) → Contains finds.new.items f
-        ↔ (Contains finds.old.items f ⊎ IsFoundBy calls.now gap (Some value) f)) }
-{
-    for call in calls {
-        if may_find(call, gap) {
-            note(
-                finds,
-                Found {
-                    read: call.id,
-                    value,
-                },
-            )?;
-        }
-    }
-    Ok(())
-}
-
-// Each open read that was invoked before the gap may find the value, if there is one. Takes the time of the operations and of what is found.
-fn find_any(
-    finds: &mut Vec<Found>,
-    calls: &[Call],
-    gap: u64,
-    value: Option<i64>,
-) -> Result<(), AllocError>
-    ensures { OnOk result ((f : Found) → Contains finds.new.items f
-        ↔ (Contains finds.old.items f ⊎ IsFoundBy calls.now gap value f)) }
+// The same of a value, if there is one.
+fn note_any(passed: &mut Vec<Passed>, gap: u64, value: Option<i64>) -> Result<(), AllocError>
+    ensures { OnOk result ((v : ℤ) (t : ℕ) → StoodAbove passed.new.items v t
+        ↔ (StoodAbove passed.old.items v t ⊎ ((value ≡ Some v) × (t < gap)))) }
 {
     match value {
         Some(value) => {
-            find_value(finds, calls, gap, value)?;
+            note(passed, gap, value)?;
             Ok(())
         }
         None => Ok(()),
     }
+}
+
+/// The least gap before which the same of these moments, which ascend, lie; 0 before which none does.
+pub fn least_gap(moments: &[u64], gap: u64) -> u64
+    ensures same { (t : ℕ) → Contains moments.now t → (t < gap) ↔ (t < result) }
+    ensures least { result ≡ 0 ⊎ ((t : ℕ) × Contains moments.now t × (result ≡ t + 1)) }
+{
+    let mut before = moments.len();
+    while before > 0 {
+        before -= 1;
+        if moments[before] < gap {
+            return moments[before].saturating_add(1);
+        }
+    }
+    0
 }
 
 // The write is among those that took place, unless it is done.
@@ -148,7 +108,7 @@ impl Row {
             state: None,
             needed: Vec::new(alloc),
             door: 0,
-            finds: Vec::new(alloc),
+            passed: Vec::new(alloc),
         }
     }
 
@@ -160,7 +120,7 @@ impl Row {
             state: self.state,
             needed: self.needed.clone()?,
             door: self.door,
-            finds: self.finds.clone()?,
+            passed: self.passed.clone()?,
         })
     }
 
@@ -171,19 +131,11 @@ impl Row {
         call.since < self.door && !has_id(&self.needed, call.id)
     }
 
-    /// The same, where what is found is most likely at this place.
-    pub fn may_answer_at(&self, at: usize, found: Found) -> bool
-        ensures { IsTrue result ↔ CanFind self.now found }
-    {
-        self.state == Some(found.value) || has_found_at(&self.finds, at, found)
-    }
-
     // The operation is done, or out.
     fn leave(&mut self, id: u32)
         ensures { IsWithoutId id self.old self.new }
     {
         self.needed.retain(|other| *other != id);
-        self.finds.retain(|found| found.read != id);
     }
 
     /// The row without the operation. Takes the time of its lists.
@@ -196,10 +148,27 @@ impl Row {
     }
 
     /// Whether the open read may find the value.
-    pub fn may_answer(&self, found: Found) -> bool
-        ensures { IsTrue result ↔ CanFind self.now found }
+    pub fn may_answer(&self, read: &Call, value: i64) -> bool
+        ensures { IsTrue result ↔ CanFind self.now value read.now.since }
     {
-        self.state == Some(found.value) || has_found(&self.finds, found)
+        self.state == Some(value)
+            || self
+                .passed
+                .iter()
+                .any(|passed| passed.value == value && read.since < passed.gap)
+    }
+
+    /// What no read that was invoked at one of these moments, which ascend, may find is out, and each gap is the least before which the same
+    /// of them lie. Takes the time of what is found with the moments.
+    pub fn trim(&mut self, moments: &[u64])
+        ensures { IsTrimmed moments.now self.old self.new }
+    {
+        let state = self.state;
+        for passed in self.passed.iter_mut() {
+            passed.gap = least_gap(moments, passed.gap);
+        }
+        self.passed
+            .retain(|passed| passed.gap > 0 && state != Some(passed.value));
     }
 
     /// The row as the write takes place at this gap, before which this value may be found from then on, and leaves this state behind all,
@@ -220,7 +189,7 @@ impl Row {
         row.state = state;
         row.door = gap;
         need(&mut row.needed, write, done)?;
-        find_any(&mut row.finds, calls, gap, value)?;
+        note_any(&mut row.passed, gap, value)?;
         row.leave(done);
         Ok(row)
     }
