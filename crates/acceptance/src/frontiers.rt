@@ -33,15 +33,32 @@ const BLOWN_TWICE: [Row; 6] = [
     (0, Done, Enqueue, &[5], Alive),
 ];
 
+// The read needs the first write, which came last, or before the other one: these are two lean ends just before its ok.
+const WIDE_BLOWN_TWICE: [Row; 8] = [
+    (0, Invoke, Write, &[5], Alive),
+    (1, Invoke, Write, &[6], Alive),
+    (2, Invoke, Read, &[], Alive),
+    (1, Done, Write, &[6], Alive),
+    (2, Done, Read, &[5], Alive),
+    (0, Done, Write, &[5], Over),
+    (0, Done, Write, &[5], Over),
+    (0, Failed, Write, &[5], Dead),
+];
+
 // Whether a copy of the frontier, which takes its place, answers so.
 fn is_answered_by_a_copy(frontier: &mut AnyFrontier, row: &Row) -> Result<bool, AllocError> {
     *frontier = frontier.copy()?;
     is_answered(frontier, row)
 }
 
-// The place of the first row that copies of a frontier of budget 4 answer otherwise.
-fn first_other_of_copies(alloc: Global, rows: &[Row]) -> Result<Option<usize>, AllocError> {
-    let mut frontier = AnyFrontier::start(alloc, ModelKind::FifoQueue, 4)?;
+// The place of the first row that copies of a frontier of this kind and budget answer otherwise.
+fn first_other_of_copies(
+    alloc: Global,
+    kind: ModelKind,
+    budget: u32,
+    rows: &[Row],
+) -> Result<Option<usize>, AllocError> {
+    let mut frontier = AnyFrontier::start(alloc, kind, budget)?;
     for (place, row) in rows.iter().enumerate() {
         if !is_answered_by_a_copy(&mut frontier, row)? {
             return Ok(Some(place));
@@ -51,10 +68,13 @@ fn first_other_of_copies(alloc: Global, rows: &[Row]) -> Result<Option<usize>, A
 }
 
 // Five ends stand before the ok: no enqueue, either alone, and both in either order. Over leaves the frontier as it was:
-// the other enqueue may still fail, and then there are fewer. Each event goes to a copy made just before it.
+// the other enqueue may still fail, and then there are fewer. Each event goes to a copy made just before it. So it is of lean ends.
 #[test]
 fn over_changes_nothing(rt: HostRuntime) {
-    assert!(rt; matches!(first_other_of_copies(rt.alloc(), &BLOWN_TWICE), Ok(None)));
+    let queue = first_other_of_copies(rt.alloc(), ModelKind::FifoQueue, 4, &BLOWN_TWICE);
+    let wide = first_other_of_copies(rt.alloc(), ModelKind::WideRegister, 1, &WIDE_BLOWN_TWICE);
+    assert!(rt; matches!(queue, Ok(None)));
+    assert!(rt; matches!(wide, Ok(None)));
 }
 
 // How many steps a frontier of budget 5 has made before the last of these events and after it, and a copy of it then. None

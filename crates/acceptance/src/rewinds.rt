@@ -1,6 +1,7 @@
 //! How many events a monitor judges again, counted by hand: of each key that loses events those behind its last 64th one that
 //! stays.
 
+use crate::plain::{Said, plain_of};
 use edn::Refusal;
 use events::{Body, Event, EventKind, Process};
 use models::{Key, ModelKind, Name, Op, Part};
@@ -76,4 +77,22 @@ fn dropped(alloc: Global) -> Result<(u64, u64, u64), Refusal> {
 #[test]
 fn dropped_changes_count(rt: HostRuntime) {
     assert!(rt; matches!(dropped(rt.alloc()), Ok((63, 67, 68))));
+}
+
+// The verdicts by a budget of one on a write that returns, of a register, of a wide one and of a register again, and how many
+// events were judged again.
+fn of_both_kinds(alloc: Global) -> Result<([Said; 3], u64), Refusal> {
+    let mut monitor = Monitor::new(alloc, 1, ModelKind::Register, 1)?;
+    add_writes(&mut monitor, 7, 1)?;
+    let ends = plain_of(monitor.verdict());
+    let lean_ends = plain_of(monitor.set_model(7, ModelKind::WideRegister)?);
+    let ends_again = plain_of(monitor.set_model(7, ModelKind::Register)?);
+    Ok(([ends, lean_ends, ends_again], monitor.judged_again()))
+}
+
+// Just before the ok there are two ends, with the write and without it, and one lean end, which needs no write.
+#[test]
+fn wide_kind_is_within_a_budget_of_one(rt: HostRuntime) {
+    let told = [Said::Unknown(7, 1), Said::Legal, Said::Unknown(7, 1)];
+    assert!(rt; of_both_kinds(rt.alloc()) == Ok((told, 4)));
 }
