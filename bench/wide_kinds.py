@@ -2,10 +2,10 @@
 """Measures the wide kinds beside the plain ones, on keys that many clients share: `wide_kinds.py [--seeds N] [--ops N] [--seconds N]
 [--kind NAME] [--clients N,..]`; JEPMON names the program.
 
-A load is one key of a correct object, whose clients never rest: at each step one client, drawn at random, invokes an operation, or its
-operation takes place, or it returns or times out. All values differ. For each load it prints, of the plain kind and of the wide one, how many
-seeds `jepmon check` decides at the budgets 4,096 and 65,536. If it decides all at 65,536, the row also has the least power of two that decides
-all of them, and the microseconds of the processor for an event. A key that takes more seconds of the processor than the limit is late.
+A load is one key of a correct object, whose clients never rest. At each step one client, drawn at random, invokes an operation, or its operation
+takes place, or it returns or times out. All values differ. A row has a load, and for each of both kinds the number of seeds that `jepmon check`
+decides at the budgets 4,096 and 65,536. If it decides all at 65,536, the row also has the least power of two that decides all of them, and the
+microseconds of the processor for an event. A key that takes more seconds of the processor than the limit is late.
 """
 import argparse
 import pathlib
@@ -81,7 +81,7 @@ def told(client: Client, kind: str, part: str) -> str:
 
 
 def processor_seconds() -> float:
-    """Of all programs that have ended."""
+    """The time of all programs that have ended."""
     used = resource.getrusage(resource.RUSAGE_CHILDREN)
     return used.ru_utime + used.ru_stime
 
@@ -107,7 +107,7 @@ def least_budget(text: str, load: Load, model: str, limit: int) -> int:
 
 
 def row_of(load: Load, texts: List[str], limit: int) -> List[str]:
-    """Of each kind, how many seeds are decided at both budgets, the least power of two that decides all, and the time of an event."""
+    """The cells of both kinds: the decided seeds at both budgets, the least power of two that decides all, and the time of an event."""
     cells: List[str] = []
     for model in (load.kind, f"wide-{load.kind}"):
         results = [checked(text, load, model, 1 << GREATEST, limit) for text in texts]

@@ -2,9 +2,9 @@
 """Compares wide registers and sets with the plain ones on random scripts, reply by reply. Each script is judged by the plain kind, by the
 wide one, and by both in turn (`[:model k kind]`).
 
-Where both decide, the replies must be the same; a key that changes its kind must get the reply of its kind then; a wide set is never
-unknown; and by a small budget each reply of a wide register must be the one that the definition of lean ends gives. Histories of many clients
-that no plain kind decides must be legal if the store was right.
+If both kinds decide, their replies must be the same. A key that changes its kind must get the reply of its new kind. A wide set must never be
+unknown. By a small budget each reply of a wide register must be the one of the definition of lean ends. A history of a right store must never be
+illegal, also if it has many clients and the plain kind does not decide it.
 
 usage: tests/fuzz_kinds.py [COUNT [FIRST]]     COUNT scripts of each kind, 2,000 unless it is named; JEPMON names the program
 """
@@ -45,7 +45,7 @@ def drawn(model: str, seed: int) -> Batch:
     clients = chance.choice((8, 12, 16)) if is_wide else chance.choice((2, 3, 4, 5, 6))
     ways = [drawn_way(chance, clients) for _ in range(TOGETHER)]
     if is_wide:
-        ways = [way._replace(events=120, keys=1, wrong=0, fail=0, crash=min(way.crash, 0.05)) for way in ways]
+        ways = [way._replace(events=120, keys=1, wrong=0, fail=0, slow=0, crash=min(way.crash, 0.05)) for way in ways]
     scripts = [list(Clients(chance, way, UPDATES[model]).lines()) for way in ways]
     kinds = [changes(chance, len(script), way) for script, way in zip(scripts, ways)]
     return Batch(model, clients, 4096 if is_wide else chance.choice(BUDGETS), scripts, [is_wide or not way.wrong for way in ways], kinds)
@@ -140,7 +140,7 @@ def since(over: Optional[int], line: Line, reply: str) -> Optional[int]:
 
 
 def compare(batch: Batch, number: int, told: Tuple[List[str], List[str], List[Tuple[str, bool]]], seen: Counts) -> Optional[str]:
-    """What is wrong of one script, if anything is."""
+    """The first fault of one script, if there is one."""
     script = batch.scripts[number]
     plain_over = wide_over = None
     wanted = list(defined(script, batch.budget)) if batch.model == "register" and batch.budget <= SMALL else told[1]

@@ -19,6 +19,7 @@ class Way(NamedTuple):
     fail: float
     wrong: float
     rewinds: float
+    slow: float  # an operation stays open though it has taken place
 
 
 class Open(NamedTuple):
@@ -70,7 +71,7 @@ def drawn_way(chance: random.Random, clients: int) -> Way:
     """A third of the histories have wrong answers, and a third have rewinds."""
     return Way(chance.choice((5, 12, 20, 30, 45, 60)), clients, chance.choice((1, 1, 1, 2, 3)), chance.choice((1, 2, 3, 5, 1000)),
                chance.choice((0.3, 0.5, 0.9)), chance.choice((0, 0, 0.05, 0.3)), chance.choice((0, 0.05, 0.2)),
-               chance.choice((0, 0, 0.08)), chance.choice((0, 0, 0.03)))
+               chance.choice((0, 0, 0.08)), chance.choice((0, 0, 0.03)), chance.choice((0, 0.5, 0.8)))
 
 
 class Clients:
@@ -98,7 +99,7 @@ class Clients:
             thread = self.chance.randrange(self.way.clients)
             if thread not in now.running:
                 return self.invoked(now, thread)
-            if now.running[thread].took or self.chance.random() < 0.3:
+            if self.chance.random() < (1 - self.way.slow if now.running[thread].took else 0.1):
                 return self.ended(now, thread)
 
     def anyone_takes_place(self, now: Moment) -> Moment:

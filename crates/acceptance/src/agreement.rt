@@ -96,7 +96,9 @@ impl Request {
         kind: ModelKind,
     ) -> Result<Part, AllocError> {
         match (self.name, kind) {
-            (Name::Read, ModelKind::Set | ModelKind::WideSet) => Ok(Part::Set(some_members(alloc, numbers)?)),
+            (Name::Read, ModelKind::Set | ModelKind::WideSet) => Ok(Part::Set(some_members(
+                alloc, numbers,
+            )?)),
             (Name::Read, _) if numbers.below(6) == 0 => Ok(Part::Nil),
             (Name::Read | Name::Dequeue, _) => Ok(Part::Int(numbers.value())),
             _ => Ok(self.part()),
@@ -398,7 +400,7 @@ fn compare_all(
     Ok(all)
 }
 
-/// Of 480 histories, 60 of each kind, so many are legal and the others are not. In 416 an operation is open at the end, in
+/// There are 480 histories, 60 of each kind, and the rows have how many are legal. In 416 an operation is open at the end, in
 /// 246 one has failed, in 264 one has crashed.
 #[test]
 fn orders_and_ends_agree(rt: HostRuntime) -> Result<(), Fail> {
@@ -446,8 +448,8 @@ fn wide_kinds_agree_on_eight_open(rt: HostRuntime) -> Result<(), Fail> {
     Ok(())
 }
 
-/// Of 300 more histories, 50 of each kind that reads and 50 of unordered queues, half of the reads that end crash. So many are
-/// legal and the others are not. In 190 a read has crashed, in 161 an operation has failed.
+/// There are 300 more histories, 50 of each kind that reads and 50 of unordered queues; half of their reads that end crash. The
+/// rows have how many are legal. In 190 a read has crashed, in 161 an operation has failed.
 #[test]
 fn orders_and_ends_agree_on_crashed_reads(rt: HostRuntime) -> Result<(), Fail> {
     let kinds = [

@@ -8,14 +8,12 @@ use models::{Key, ModelKind, Name, Op, Part};
 use monitor::Monitor;
 use report::report;
 use std::alloc::Global;
-use values::Members;
 
-/// A step of a script. Events are of a process and of an operation; members are the answer of a read.
+/// A step of a script. Events are of a process and of an operation.
 #[derive(Clone, Copy)]
 pub enum Step {
     Invoke(u32, Key, Name, Option<i64>),
     Ok(u32, Key, Name, Option<i64>),
-    Members(u32, Key, &'static [i64]),
     Cas(EventKind, u32, Key),
     Model(Key, ModelKind),
     Budget(Key, u32),
@@ -60,31 +58,6 @@ pub const REWINDS: &[Step] = &[
     Step::Report,
     Step::Rewind(9),
     Step::Rewind(3),
-    Step::Report,
-];
-
-/// A wide register and a wide set, with two lean ends just before an ok, two answers, changes of the kind and a rewind.
-pub const WIDES: &[Step] = &[
-    Step::Model(7, ModelKind::WideRegister),
-    Step::Model(8, ModelKind::WideSet),
-    Step::Invoke(0, 7, Name::Write, Some(1)),
-    Step::Invoke(1, 7, Name::Write, Some(2)),
-    Step::Ok(0, 7, Name::Write, Some(1)),
-    Step::Ok(1, 7, Name::Write, Some(2)),
-    Step::Invoke(0, 7, Name::Read, None),
-    Step::Ok(0, 7, Name::Read, Some(1)),
-    Step::Budget(7, 1),
-    Step::Invoke(0, 8, Name::Add, Some(5)),
-    Step::Invoke(1, 8, Name::Read, None),
-    Step::Members(1, 8, &[5]),
-    Step::Ok(0, 8, Name::Add, Some(5)),
-    Step::Invoke(1, 8, Name::Read, None),
-    Step::Members(1, 8, &[]),
-    Step::Model(8, ModelKind::Set),
-    Step::Model(8, ModelKind::WideSet),
-    Step::Report,
-    Step::Rewind(10),
-    Step::Budget(7, 2),
     Step::Report,
 ];
 
@@ -133,11 +106,6 @@ impl Judged {
             }
             Step::Ok(process, key, name, value) => {
                 let event = event(EventKind::Ok, process, key, name, part_of(value));
-                self.monitor.append(event)?
-            }
-            Step::Members(process, key, values) => {
-                let part = Part::Set(Members::of_unordered(Vec::from_slice(self.alloc, values)?)?);
-                let event = event(EventKind::Ok, process, key, Name::Read, part);
                 self.monitor.append(event)?
             }
             Step::Cas(kind, process, key) => {

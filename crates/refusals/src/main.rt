@@ -32,7 +32,6 @@ refusals events: events of texts, and a history of them
 refusals models: a monitor whose key changes its kind of object
 refusals budgets: a monitor whose key changes its budget
 refusals rewinds: a monitor with a blown key and an illegal one, which is rewound, and its report
-refusals wides: a monitor of a wide register and a wide set, which is rewound, and its reports
 refusals board: a board of one seat, with each command
 refusals load: a history that is loaded by two workers
 refusals trial: a run of two clients and the nemesis";
@@ -67,7 +66,6 @@ fn print_named<R: Threads + Wait + Print + Sync>(
         "models" => print_opened(rt, twice!(rt, Judged::new(alloc, judged::MODELS))),
         "budgets" => print_opened(rt, twice!(rt, Judged::new(alloc, judged::BUDGETS))),
         "rewinds" => print_opened(rt, twice!(rt, Judged::new(alloc, judged::REWINDS))),
-        "wides" => print_opened(rt, twice!(rt, Judged::new(alloc, judged::WIDES))),
         "board" => print_board_calls(rt, alloc),
         "load" => print_answer(rt, twice!(rt, load(rt, alloc))),
         "trial" => print_answer(rt, twice!(rt, run(rt, alloc))),
