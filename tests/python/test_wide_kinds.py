@@ -85,7 +85,7 @@ class Programs(unittest.TestCase):
 
 
 def judged(*words: str) -> "tuple[int, str, str]":
-    """What jepmon-judge does with these words."""
+    """Runs jepmon-judge with these words: its status, its report, and its remarks."""
     out, err = io.StringIO(), io.StringIO()
     with contextlib.redirect_stdout(out), contextlib.redirect_stderr(err):
         status = judge.main([*words])
