@@ -97,7 +97,8 @@ def run_cases_of_check() -> List[str]:
 
 def with_defaults(options: List[str]) -> List[str]:
     """The options of a check with what jepmon takes where they say nothing. What is over its budget stays so."""
-    return (options + ["--decide-seconds", "0", "--min-ok", "0", "--nil-is-unknown", "--by-ends"] + ([] if "--model" in options else ["--model", "register"])
+    return (options + ["--decide-seconds", "0", "--min-ok", "0", "--nil-is-unknown", "--by-ends"]
+            + ([] if "--model" in options else ["--model", "register"])
             + ([] if "--concurrency" in options else ["--concurrency", "2"]))
 
 

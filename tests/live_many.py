@@ -122,7 +122,9 @@ def a_stale_read_of_many_clients_is_illegal() -> None:
                 lines = (pathlib.Path(out, "latest", "history.edn")).read_text().splitlines()
                 event = [line for line in lines if line.startswith("{")][error.index]
                 cause = pathlib.Path(out, "latest", "cause.txt").read_text()
-            said = f"read {store.stale} from key {KEY}, which could not hold" if model == "register" else f"lacks {store.stale}, which had been added before"
+            said = f"lacks {store.stale}, which had been added before"
+            if model == "register":
+                said = f"read {store.stale} from key {KEY}, which could not hold"
             assert ":type :ok" in event and ":f :read" in event and said in cause, (model, clients, event, cause)
             assert model == "set" or f"[{KEY} {store.stale}]" in event, (clients, event)
 

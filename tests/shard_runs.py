@@ -31,7 +31,7 @@ def kind_of_register() -> str:
 
 
 def checked(path: pathlib.Path, *words: str) -> Tuple[int, str]:
-    """What jepmon check says of a history of registers, judged as the tools judge them."""
+    """The status and the report of jepmon check for registers, judged as the tools judge them."""
     ran = subprocess.run([str(PROGRAM), "check", str(path), "--model", kind_of_register(), *words], stdout=subprocess.PIPE, stderr=subprocess.DEVNULL,
                          universal_newlines=True, timeout=LIMIT)
     return ran.returncode, ran.stdout

@@ -87,6 +87,14 @@ class Programs(unittest.TestCase):
         self.assertFalse(program.has_wide_kinds(str(self.room / "nowhere")))
 
 
+def judged(*words: str) -> "tuple[int, str, str]":
+    """Runs jepmon-judge with these words: its status, its report, and its remarks."""
+    out, err = io.StringIO(), io.StringIO()
+    with contextlib.redirect_stdout(out), contextlib.redirect_stderr(err):
+        status = judge.main([*words])
+    return status, out.getvalue(), err.getvalue()
+
+
 def is_wide() -> bool:
     return fuzz.has_program() and program.has_wide_kinds()
 
@@ -131,18 +139,12 @@ class Unknowns(unittest.TestCase):
 class Judging(unittest.TestCase):
     """jepmon-judge and jepmon-shards."""
 
-    def judged(self, *words: str) -> "tuple[int, str, str]":
-        out, err = io.StringIO(), io.StringIO()
-        with contextlib.redirect_stdout(out), contextlib.redirect_stderr(err):
-            status = judge.main([*words])
-        return status, out.getvalue(), err.getvalue()
-
     @unittest.skipUnless(is_wide(), "the program has no wide kinds")
     def test_the_report_has_the_kind(self) -> None:
         for words, kind in (([], "wide-register"), (["--model", "register"], "wide-register"), (["--model", "wide-register"], "wide-register"),
                             (["--by-ends"], "register"), (["--by-ends", "--model", "wide-register"], "register")):
             for jobs in ([], ["--jobs", "1"]):
-                status, out, err = self.judged(STALE, *words, *jobs)
+                status, out, err = judged(STALE, *words, *jobs)
                 self.assertEqual((status, out), (1, f"key 7 model {kind} budget 4096 events 6 status dead 5\nillegal key 7 index 5\n"))
                 again = f"--model {kind} " if not jobs else "--model register" + (" --by-ends" if "--by-ends" in words else "")
                 self.assertIn(again, err)
@@ -151,9 +153,9 @@ class Judging(unittest.TestCase):
     @unittest.skipUnless(fuzz.has_program(), "there is no program")
     def test_json_has_both(self) -> None:
         kind = "wide-register" if is_wide() else "register"
-        bad = json.loads(self.judged(STALE, "--json")[1])["bad_keys"][0]
+        bad = json.loads(judged(STALE, "--json")[1])["bad_keys"][0]
         self.assertEqual((bad["model"], bad["kind"]), ("register", kind))
-        bad = json.loads(self.judged(STALE, "--json", "--by-ends")[1])["bad_keys"][0]
+        bad = json.loads(judged(STALE, "--json", "--by-ends")[1])["bad_keys"][0]
         self.assertEqual((bad["model"], bad["kind"]), ("register", "register"))
 
     @unittest.skipUnless(fuzz.has_program(), "there is no program")
@@ -163,7 +165,7 @@ class Judging(unittest.TestCase):
             path = pathlib.Path(room, "h.edn")
             for kind in ("register", "wide-register"):
                 path.write_text(f"[:model 7 :{kind}]\n" + pathlib.Path(STALE).read_text())
-                status, out, _ = self.judged(str(path))
+                status, out, _ = judged(str(path))
                 wanted = "wide-register" if is_wide() else "register"
                 self.assertEqual((status, out.splitlines()[0].split()[3]), (1, wanted))
 
@@ -267,6 +269,17 @@ class Fallen(unittest.TestCase):
             found = cause.explain(history.read_history(made.text), report, options._replace(by_ends=False))
         assert found is not None
         self.assertIn("does not have the kind wide-register, so it judged by ends, as --by-ends does", found.sentences[-1])
+
+    @unittest.skipUnless(fuzz.has_program(), "there is no program")
+    def test_a_verdict_without_a_cause_names_it(self) -> None:
+        made = stores.UNKNOWN["many_timeouts"]()
+        with tempfile.TemporaryDirectory() as room, mock.patch.object(finding, "_has_wide_kinds", return_value=False):
+            path = pathlib.Path(room, "h.edn")
+            path.write_text(made.text)
+            for words, count in (([], 1), (["--jobs", "1"], 1), (["--by-ends"], 0)):
+                status, _, err = judged(str(path), "--concurrency", str(made.concurrency), "--nil-is-unknown", "--no-cause", "--decide-seconds", "0",
+                                        *words)
+                self.assertEqual((status, err.count("does not have the kind wide-register")), (2, count), err)
 
 
 if __name__ == "__main__":

@@ -30,7 +30,7 @@ from ..shards.splitting import judged_elsewhere
 from ..shards.tally import Tally
 from ..tools import command
 from . import as_json, bad_keys, causes, doubts, large_key, least, rates, readings, results, terminal, turned, wide
-from .hints import MOST_EVENTS, counted, of_nil_reads, of_order, outcomes
+from .hints import MOST_EVENTS, counted, of_nil_reads, of_old_program, of_order, outcomes
 from .judging import Task
 from .large import Large
 from .models import Choice, account_for, by_operations
@@ -250,6 +250,8 @@ def said_of_bad(report: Report, task: Task, keys: Sequence[causes.Shown], with_c
         yield CUT[line.status].format(line.key, line.index)
     elif report.word == "illegal" and with_cause:
         yield from of_order(line.key, line.model, keys[0].events, task.options)
+    elif not with_cause:
+        yield from of_old_program([line], task.options)
 
 
 # --- The report ---

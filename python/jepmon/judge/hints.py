@@ -9,7 +9,7 @@ from ..forms.files import Source
 from ..forms.recorded import Recorded
 from ..history import Event
 from ..objects.configurations import walk
-from ..program import Options, ProgramError, Report, check
+from ..program import KeyLine, Options, ProgramError, Report, by_ends_note, check
 from ..shrinking.part import as_asked, text_of
 from . import models
 from .events import of_key
@@ -61,6 +61,8 @@ def after(history: Recorded, task: Task, report: Report, given: Given) -> Iterat
         yield from _of_refusal(history, task, report, report.index)
     if given.cause and report.word == "illegal" and report.key is not None:
         yield from _of_order(history, task, report.key)
+    if not given.cause:  # which says it too
+        yield from of_old_program([line for line in report.keys if line.key == report.key], task.options)
     yield from _of_nil(history, task, given)
 
 
@@ -81,6 +83,13 @@ def is_legal_as(model: str, events: Sequence[Event], options: Options) -> bool:
         return check(text, as_asked(options)._replace(model=model)).word == "legal"
     except ProgramError:
         return False
+
+
+def of_old_program(keys: Sequence[KeyLine], options: Options) -> Iterator[str]:
+    """Reports that the program is too old to judge the first of these keys, which is over its budget, as a wide kind."""
+    note = by_ends_note(options._replace(model=keys[0].model)) if keys and keys[0].status == "over" else ""
+    if note:
+        yield note
 
 
 def _of_order(history: Recorded, task: Task, key: int) -> Iterator[str]:
