@@ -13,7 +13,6 @@ from ..program.report import KeyLine, Verdict, report_on
 from .run_folder import AFTER, HISTORY, RunFolder
 
 
-
 class Bad(NamedTuple):
     """A key that is not legal."""
 
@@ -43,9 +42,9 @@ def told(folder: RunFolder, bad: Bad) -> Told:
 
 
 def _told(folder: RunFolder, bad: Bad) -> Told:
-    from ..causes import cause  # here, since no test that is legal needs them
     from .. import page  # here, since no test that is legal needs them
-    from ..objects import configurations as walk  # here, since no test that is legal needs them
+    from ..causes import cause
+    from ..objects import configurations as walk
 
     events, faults = read(folder.path / HISTORY, bad.key)
     own = folder.options._replace(model=bad.model, budget=bad.budget)
