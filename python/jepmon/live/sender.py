@@ -313,10 +313,10 @@ class Telling:
         return "\n".join(hint for hint in (self.told.sources.hint(line), other) if hint)
 
     def _hint_of_unknown(self, key: int) -> str:
-        counts = (self.told.ended(key, name, "ok") for name in ("enqueue", "dequeue"))
+        enqueues, dequeues = self.told.ended(key, "enqueue", "ok"), self.told.ended(key, "dequeue", "ok")
         model = self.model_of(key)
         note = self._exchange.by_ends_note(model)
-        hint = hint_of_unknown(self.told.names(key), *counts, is_wide=self._exchange.is_wide(model))
+        hint = hint_of_unknown(self.told.names(key), enqueues, dequeues, self._exchange.is_wide(model))
         return f"{hint}\n{note}" if note else hint
 
     # --- The end ---
