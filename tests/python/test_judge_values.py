@@ -102,6 +102,14 @@ class Values(Judged):
                         text = form(("write", value), ("read", value))
                         self.assertEqual(self.status(text, "--values", way, "--model", "register", name=f"history.{name}"), 0)
 
+    def test_a_cas_of_lists_and_maps(self) -> None:
+        for first, second in (([4, 5], [6, 7]), ({"a": 4, "b": [4]}, {"a": 6, "b": [6]}), ([4], [6])):
+            rows = [{"process": 0, "type": kind, "f": name, "key": 1, "value": value}
+                    for name, value in (("write", first), ("cas", [first, second])) for kind in ("invoke", "ok")]
+            for values in ("exact", "text", "number"):
+                with self.subTest(first=first, values=values):
+                    self.assertEqual(self.status("".join(json.dumps(row) + "\n" for row in rows), "--values", values), 0)
+
     def test_groups(self) -> None:
         self.assertEqual(alike({0: "1", 1: '"1"', 2: "1.0", 3: '"a"', 4: '" a"', 5: "2", 6: "true", 7: ":a"}),
                          [["1", '"1"', "1.0", "true"], ['"a"', '" a"']])

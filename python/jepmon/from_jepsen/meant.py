@@ -27,12 +27,16 @@ class Meant(NamedTuple):
         return self.values == EXACT and not self.absent
 
     def part(self, name: str, part: Value) -> Value:
-        """The part of an event, whose spelling is canonical."""
-        if not isinstance(part, Many):
-            return self.value(part)
-        if name == ":cas":
-            return Many(part.opened, tuple(map(self.value, part.members)))
-        return Many(part.opened, tuple(map(self.alike, part.members)))  # of which none is a missing key
+        """The part of an event, whose spelling is canonical. A value is the same in a cas and in a write."""
+        if isinstance(part, Many) and name == ":cas":
+            return Many(part.opened, tuple(map(self.whole, part.members)))
+        return self.whole(part)
+
+    def whole(self, value: Value) -> Value:
+        """A value of its own: of a list, a set or a map its members, of which none is a missing key."""
+        if isinstance(value, Many):
+            return Many(value.opened, tuple(map(self.alike, value.members)))
+        return self.value(value)
 
     def value(self, value: Value) -> Value:
         if self.absent and isinstance(value, str) and value != "nil" and text_of(value) in self.absent:
