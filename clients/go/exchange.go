@@ -84,10 +84,14 @@ func (m *Monitor) replied(reply string, count int) string {
 	if !is {
 		return strings.TrimSpace("refused: " + strings.TrimPrefix(reply, "refused "))
 	}
-	if verdict.Status == "unknown" && m.unknown == nil {
-		m.unknown = verdict
+	goesOn := verdict.Status == "unknown" && m.options.GoOn
+	if goesOn && m.unknown != nil || m.bad != nil {
+		return ""
 	}
-	if verdict.Status != "unknown" || !m.options.GoOn {
+	verdict.Tail, verdict.Hint = tail(m.history(), verdict), hint(verdict, m.options, m.program)
+	if goesOn {
+		m.unknown = verdict
+	} else {
 		m.fail(verdict)
 	}
 	return ""
