@@ -72,12 +72,13 @@ func hint(verdict *Verdict, o Options, p *program) string {
 	return text
 }
 
-// withCause writes the history to a file. It asks the program for the other keys over their budget, and jepmon-judge for the cause in
-// words, if it is there.
+// withCause adds, once, what is known at the end of the verdict's history. It writes the history to a file. It asks the program for the
+// other keys over their budget, and jepmon-judge for the cause in words, if it is there.
 func withCause(verdict Verdict, o Options, p *program, pieces [][]byte) *Verdict {
-	if verdict.Index < 0 && len(pieces) == 0 {
+	if verdict.reported || verdict.Index < 0 && len(pieces) == 0 {
 		return &verdict
 	}
+	verdict.reported = true
 	file, err := os.CreateTemp(o.Out, "jepmon-*.edn")
 	if err != nil {
 		return &verdict

@@ -85,6 +85,8 @@ type Verdict struct {
 	Also    []string // of unknown, after Close with GoOn: the other keys over their budget, as "unknown key 2 index 13"
 	Cause   string   // the cause in words, after Close, if jepmon-judge is there
 	History string   // the file of the history, after Close
+
+	reported bool // it has all that is known at the end of its history
 }
 
 func (v *Verdict) Error() string {
@@ -132,8 +134,7 @@ type Monitor struct {
 	closed    bool
 	resetting bool
 
-	ended  chan struct{} // the program has ended
-	report sync.Once
+	ended chan struct{} // the program has ended
 }
 
 // Start starts the program. A *Verdict says why it can't be used. No operation begins once ctx is done.
@@ -331,16 +332,14 @@ func (m *Monitor) Close() error {
 	if m.bad == nil {
 		return nil
 	}
-	if m.bad != m.unknown {
-		m.report.Do(func() { m.bad = withCause(*m.bad, m.options, m.program, m.history()) })
-	}
+	m.bad = withCause(*m.bad, m.options, m.program, m.history())
 	return m.bad
 }
 
 // describe completes the first `unknown` of a test that goes on, at the end of its history. The caller has the lock.
 func (m *Monitor) describe() *Verdict {
 	if m.unknown != nil {
-		m.report.Do(func() { m.unknown = withCause(*m.unknown, m.options, m.program, m.history()) })
+		m.unknown = withCause(*m.unknown, m.options, m.program, m.history())
 	}
 	return m.unknown
 }
