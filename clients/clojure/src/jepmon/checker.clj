@@ -67,7 +67,7 @@
      :jepsen-index (:jepsen-index op)
      :cause (when (.exists cause) (slurp cause))}))
 
-(defn- words-of [{:keys [model key budget jobs nil-is-absent initial decide-seconds wide-seconds]}]
+(defn- words-of [{:keys [model key budget by-ends jobs nil-is-absent initial decide-seconds wide-seconds]}]
   (cond-> []
     model (into ["--model" (name model)])
     key (into ["--key" (str key)])
@@ -75,6 +75,7 @@
     jobs (into ["--jobs" (str jobs)])
     initial (into ["--initial" (str initial)])
     (or decide-seconds wide-seconds) (into ["--decide-seconds" (str (or decide-seconds wide-seconds))])
+    by-ends (conj "--by-ends")
     nil-is-absent (conj "--nil-is-absent")))
 
 (def verdicts
@@ -111,8 +112,8 @@
           {:valid? :unknown, :error (str "jepmon-judge can't be run: " (.getMessage e)), :jepmon-dir (str dir)})))))
 
 (defn linearizable
-  "A checker. Options: :model, which jepmon-judge else finds out; :key, if values are no tuples; :budget, :jobs, :initial, :nil-is-absent
-  and :decide-seconds (formerly :wide-seconds) as those of jepmon-judge; :program, its path.
+  "A checker. Options: :model, which jepmon-judge else finds out; :key, if values are no tuples; :budget, :by-ends, :jobs, :initial,
+  :nil-is-absent and :decide-seconds (formerly :wide-seconds) as those of jepmon-judge; :program, its path.
 
   The result has :valid? (true, false or :unknown), :verdict (the last line of the report), :key-count, :failures, :unknown and
   :jepmon-dir, the folder of all that came of it. If :valid? is false, also :key, :index, :op (the first event after which the history
