@@ -223,7 +223,8 @@ static void jepmon_pump_(struct jepmon *m, long until, size_t most)
             if (m->replies != before) since = time(NULL);
         }
         if (time(NULL) - since > m->options.timeout) {
-            jepmon_fail_(m, 3, "refused: jepmon gave no reply for %d seconds, after %ld replies to %ld lines", m->options.timeout, m->replies, m->appended);
+            jepmon_fail_(m, 3, "refused: jepmon gave no reply for %d seconds, after %ld replies to %ld lines: lines take long if many clients share a "
+                         "key, so use more keys, or a greater .timeout", m->options.timeout, m->replies, m->appended);
             kill(-m->pid, SIGKILL);
         }
     }

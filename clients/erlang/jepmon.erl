@@ -173,8 +173,8 @@ handle_info(look, S) ->
     case S#s.progress of
         {Replies, Since} when Replies =:= S#s.replies, not Idle ->
             case erlang:monotonic_time(millisecond) - Since > timeout(S) of
-                true -> {noreply, at_end(fail(S, refused(io_lib:format("jepmon gave no reply for ~b seconds, after ~b replies to ~b lines",
-                    [maps:get(timeout, S#s.options), S#s.replies, S#s.lines]))))};
+                true -> {noreply, at_end(fail(S, refused(io_lib:format("jepmon gave no reply for ~b seconds, after ~b replies to ~b lines: lines "
+                    "take long if many clients share a key, so use more keys, or a greater timeout", [maps:get(timeout, S#s.options), S#s.replies, S#s.lines]))))};
                 false -> {noreply, S}
             end;
         _ -> {noreply, S#s{progress = {S#s.replies, erlang:monotonic_time(millisecond)}}}

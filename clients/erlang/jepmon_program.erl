@@ -60,6 +60,9 @@ version(Program) ->
             end
     end.
 
+%% Runs a program without input, and without its standard error.
+quietly(Words, Env) -> run("/bin/sh", ["-c", "exec \"$0\" \"$@\" </dev/null 2>/dev/null" | Words], Env).
+
 %% Runs a program to its end: its status and what it printed.
 run(Program, Words, Env) ->
     try open_port({spawn_executable, Program}, [{args, Words}, {env, Env}, binary, exit_status, use_stdio, in]) of
@@ -154,7 +157,7 @@ report(Verdict, Options, Program, Kind, History) ->
         ok ->
             Cause = case Verdict of #{status := illegal} -> cause(File, Options, Program); _ -> [] end,
             Also = case {Verdict, Options} of
-                {#{status := unknown, key := Key}, #{go_on := true}} -> over(Key, run(Program, ["check", File | words(Kind, Options)], []));
+                {#{status := unknown, key := Key}, #{go_on := true}} -> over(Key, quietly([Program, "check", File | words(Kind, Options)], []));
                 _ -> []
             end,
             Verdict#{history => unicode:characters_to_binary(File), cause => Cause, also => Also};
@@ -173,7 +176,7 @@ cause(File, Options, Program) ->
         none -> [];
         Judge ->
             Words = [Judge, File, "--json", "--model", atom_to_list(maps:get(model, Options)), "--concurrency", integer_to_list(maps:get(concurrency, Options))],
-            {_, Text} = run("/bin/sh", ["-c", "exec \"$0\" \"$@\" </dev/null 2>/dev/null" | Words], [{"JEPMON", Program}]),
+            {_, Text} = quietly(Words, [{"JEPMON", Program}]),
             cause_of(Text)
     end.
 

@@ -97,6 +97,9 @@ func (m *Monitor) replied(reply string, count int) string {
 	return ""
 }
 
+// slow is said if no reply comes in time.
+const slow = ": lines take long if many clients share a key, so use more keys, or a greater Timeout"
+
 // watch kills a program that gives no reply in time.
 func (m *Monitor) watch() {
 	ticker := time.NewTicker(m.options.Timeout / 10)
@@ -112,7 +115,7 @@ func (m *Monitor) watch() {
 			before, since = m.replies, time.Now()
 		}
 		if time.Since(since) > m.options.Timeout {
-			m.fail(refused(fmt.Sprintf("jepmon gave no reply for %v, after %d replies to %d lines", m.options.Timeout, m.replies, m.lines)))
+			m.fail(refused(fmt.Sprintf("jepmon gave no reply for %v, after %d replies to %d lines%s", m.options.Timeout, m.replies, m.lines, slow)))
 			m.program.kill()
 		}
 		m.mutex.Unlock()

@@ -145,7 +145,11 @@ pub(crate) fn watch(shared: &Shared) {
         }
         if since.elapsed() > timeout {
             let seconds = timeout.as_secs();
-            let text = format!("jepmon gave no reply for {seconds} seconds, after {} replies to {} lines", state.replies, state.lines);
+            let (replies, lines) = (state.replies, state.lines);
+            let text = format!(
+                "jepmon gave no reply for {seconds} seconds, after {replies} replies to {lines} lines: lines take long if many clients share a key, so use \
+                 more keys, or a greater timeout"
+            );
             shared.fail(&mut state, Verdict::refused(&text));
             shared.kill(&state);
         }

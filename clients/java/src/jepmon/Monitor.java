@@ -175,7 +175,7 @@ public final class Monitor implements AutoCloseable {
                 }
                 if (System.nanoTime() - since > options.timeout.toNanos()) {
                     fail(Verdict.refused("jepmon gave no reply for " + options.timeout.toSeconds() + " seconds, after " + replies + " replies to "
-                        + lines + " lines"));
+                        + lines + " lines: lines take long if many clients share a key, so use more keys, or a greater timeout"));
                     program.kill();
                 }
             }
