@@ -24,7 +24,7 @@ from case_loop import Case, differing, run_cases
 TOP = pathlib.Path(__file__).resolve().parent.parent
 LIMIT = 300  # seconds for one command, on a machine that is busy
 ENGINES = ("podman", "docker", "buildah")
-# Tags of lintian that are no failure: the license and the maintainer are the owner's to add.
+# Tags of lintian that are accepted, since the license and the maintainer are the owner's to add.
 OF_THE_OWNER = {"copyright-without-copyright-notice", "bogus-mail-host", "bogus-mail-host-in-debian-changelog"}
 ENVIRONMENT: Dict[str, str] = {name: value for name, value in os.environ.items() if not name.startswith(("JEPMON", "PYTHON", "DEB"))}
 ENVIRONMENT.update(LC_ALL="C.UTF-8", PYTHONDONTWRITEBYTECODE="1")
