@@ -321,15 +321,17 @@ static const char *jepmon_wide_(const char *model)
 static int jepmon_version_(struct jepmon *m)
 {
     char *words[] = { m->program, "--version", NULL }, line[128] = "";
-    int input, output, major, minor, patch;
+    int input, output, major, minor, patch, status = 0;
     pid_t pid = jepmon_spawn_(words, &input, &output, NULL);
     if (pid < 0) { jepmon_fail_(m, 3, "refused: %s", strerror(errno)); return 0; }
     FILE *told = fdopen(output, "r");
     if (fgets(line, sizeof line, told)) line[strcspn(line, "\n")] = 0;
     fclose(told);
     close(input);
-    waitpid(pid, NULL, 0);
-    if (sscanf(line, "jepmon %d.%d.%d", &major, &minor, &patch) != 3)
+    waitpid(pid, &status, 0);
+    if (WIFEXITED(status) && WEXITSTATUS(status) == 127)
+        jepmon_fail_(m, 3, "refused: there is no %s: JEPMON names the program, or it is on the PATH", m->program);
+    else if (sscanf(line, "jepmon %d.%d.%d", &major, &minor, &patch) != 3)
         jepmon_fail_(m, 3, "refused: %s is no jepmon: its --version prints '%s'", m->program, line);
     else if (major != JEPMON_MAJOR || minor < JEPMON_MINOR)
         jepmon_fail_(m, 3, "refused: %s is %s: this header needs jepmon %d.%d or a later %d", m->program, line, JEPMON_MAJOR, JEPMON_MINOR, JEPMON_MAJOR);

@@ -46,7 +46,7 @@ version(Program) ->
         {Status, _} -> {Status}
     end,
     case Line of
-        {enoent} -> {error, io_lib:format("~s can't be used: there is no such program", [Program])};
+        {enoent} -> {error, io_lib:format("there is no ~s: JEPMON names the program, or it is on the PATH", [Program])};
         {Other} -> {error, io_lib:format("~s can't be used: ~p", [Program, Other])};
         _ ->
             case re:run(Line, "^jepmon (\\d+)\\.(\\d+)\\.\\d+$", [{capture, all_but_first, list}]) of
