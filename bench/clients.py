@@ -126,7 +126,7 @@ def python(room: pathlib.Path) -> Rate:
 
 
 LIBRARIES: Dict[str, Callable[[pathlib.Path], Rate]] = {"program": program, "go": go, "java": java, "rust": rust, "python": python}
-# Who waits for replies, without and with the option: Python's Monitor always does, and the program alone never.
+# Whether events wait: those of Python's Monitor always do, and a file never does.
 WAYS: Dict[str, Tuple[bool, ...]] = {"program": (False,), "python": (True,)}
 
 
