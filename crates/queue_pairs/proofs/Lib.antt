@@ -7,3 +7,7 @@ pub mod Twins
 pub mod Merge
 pub mod Build
 pub mod Legal
+pub mod Oks
+pub mod OkOfDequeue
+pub mod Quiet
+pub mod BadFronts
