@@ -8,7 +8,7 @@ use Rattle.linspec.specs.Orders.{IsLinearizable}
 use Rattle.linspec.specs.Verdicts.{EndsShortestBadFront}
 use Rattle.linspec.proofs.Filters.{two_cuts}
 use Rattle.linspec.proofs.Fronts.{marks-append, IsLinearizable-front}
-use Rattle.queue_pairs.specs.Pairs.{IsPaired, TwinsAreLate, TwinsAreAlwaysLate}
+use Rattle.queue_pairs.specs.Pairs.{IsPaired, TwinsAreAlwaysLate}
 use Rattle.queue_pairs.proofs.Legal.{paired_if_linearizable}
 use Rattle.queue_pairs.proofs.Build.{linearizable_if_paired}
 

@@ -1,8 +1,8 @@
 -- a paired history has a legal order
-use Rattle.std.proofs.Common.{◌≡◌, ◌≢◌, ℕ, suc, ◌+◌, ◌≤◌, ◌<◌, ℤ, ◌⊎◌, inl, inr, ⊎_elim, Option, Some, None, List, [], ◌∷◌, ◌++◌, length, refl, sym, ap, ◌∙◌, subst, arith}
+use Rattle.std.proofs.Common.{◌≡◌, ◌≢◌, ℕ, suc, ◌+◌, ◌≤◌, ◌<◌, ℤ, ◌⊎◌, inl, inr, ⊎_elim, Option, Some, None, List, [], ◌++◌, length, refl, sym, ap, ◌∙◌, subst, arith}
 use Rattle.std.specs.List.{Contains}
 use Rattle.std.specs.Ordering.{int_eq}
-use Rattle.std.proofs.lemmas.Bool.{cases_lt, cases_eq, cases_Bool, true≢false}
+use Rattle.std.proofs.lemmas.Bool.{cases_lt, cases_Bool, true≢false}
 use Rattle.std.proofs.lemmas.Bool.Decides.{Decides-int_eq}
 use Rattle.std.proofs.lemmas.List.Elements.{Contains-append_left, Contains-append_right, Contains-append_cases}
 use Rattle.models.specs.declared.operation.Op.{Op}
@@ -13,18 +13,17 @@ use Rattle.models.specs.Objects.{fifo_queue, Fits}
 use Rattle.events.specs.Events.{Mark}
 use Rattle.events.specs.Events.Mark.{Invoked, Returned, Failed}
 use Rattle.linspec.specs.MarkRule.{AreWellFormed}
-use Rattle.linspec.specs.Operations.{IsInvoked, HasReturned, Precedes}
+use Rattle.linspec.specs.Operations.{HasReturned, Precedes}
 use Rattle.linspec.specs.Orders.{Taken, Includes, Pairwise, IsLinearizable}
 use Rattle.linspec.proofs.Lists.{Pairwise-append, Pairwise-weaker}
-use Rattle.linspec.proofs.Marks.{Precedes-returned}
 use Rattle.linspec.proofs.Fates.{returned_or_not}
-use Rattle.queue_pairs.specs.Pairs.{Enqueues, Dequeues, IsEnqueueOf, MayEnqueue, HasDequeued, MayDequeue, IsBefore, IsUntold, IsOwedTo, AreTakers, IsPaired, AreTwins, IsLate, TwinsAreLate}
-use Rattle.queue_pairs.proofs.Once.{one_op, one_answer, returned_not_failed, returned_invoked, not_before_itself}
-use Rattle.queue_pairs.proofs.Times.{moment, ended, ends_before, precedes_by, moment_within, ended_within, ended_never}
-use Rattle.queue_pairs.proofs.Finds.{NoneOf, some_of, Collected, collected}
-use Rattle.queue_pairs.proofs.Steps.{no_both, same_int_part, enqueues_any}
+use Rattle.queue_pairs.specs.Pairs.{Enqueues, Dequeues, IsEnqueueOf, MayEnqueue, HasDequeued, MayDequeue, IsBefore, IsUntold, IsOwedTo, AreTakers, IsPaired, IsLate, TwinsAreLate}
+use Rattle.queue_pairs.proofs.Once.{one_op, one_answer, returned_not_failed, not_before_itself}
+use Rattle.queue_pairs.proofs.Times.{moment, ended, moment_within, ended_never}
+use Rattle.queue_pairs.proofs.Finds.{some_of, Collected, collected}
+use Rattle.queue_pairs.proofs.Steps.{enqueues_any}
 use Rattle.queue_pairs.proofs.Twins.{begins_within, precedes_if, done_not_late, enqueue_value, enqueue_no_dequeue, one_enqueue, before_each}
-use Rattle.queue_pairs.proofs.Turns.{MayLead, AreFair, AreInTurn, in_turn}
+use Rattle.queue_pairs.proofs.Turns.{AreFair, AreInTurn, in_turn}
 use Rattle.queue_pairs.proofs.Merge.{Passage, in_from, in_to, out_from, out_to, Leads, IsPassage, AreApart, turned, AreReady, IsMerged, merge, moment_of, ended_of}
 
 module _ (ms : List Mark) (well : AreWellFormed ms) (late : TwinsAreLate ms) (paired : IsPaired ms) where
@@ -153,10 +152,10 @@ module _ (ms : List Mark) (well : AreWellFormed ms) (late : TwinsAreLate ms) (pa
         (λ d. ⊎_elim
         (λ e. ⊎_elim
         (λ told. inr (λ need.
-            let v : ℤ = need.1.0 in
-            let is : IsTold told.0 = told_is told.0 told.1 in
-            let same : told.0.value ≡ v = told.2 ∙ enqueue_value ms well id e.0 v (op, i, e.1) need.1.1 in
-            need.1.2 is.t.id (subst (HasDequeued ms is.t.id) same is.told)))
+        let v : ℤ = need.1.0 in
+        let is : IsTold told.0 = told_is told.0 told.1 in
+        let same : told.0.value ≡ v = told.2 ∙ enqueue_value ms well id e.0 v (op, i, e.1) need.1.1 in
+        need.1.2 is.t.id (subst (HasDequeued ms is.t.id) same is.told)))
         (λ untold. inl (make_held id d e.0 (op, i, e.1) untold))
         (told_or_not e.0))
         (λ none. inr (λ need. none need.1.0 (enqueue_is id op i need.1.0 need.1.1)))
@@ -305,7 +304,7 @@ module _ (ms : List Mark) (well : AreWellFormed ms) (late : TwinsAreLate ms) (pa
           let f : out_from ms well x ≡ moment ms s.t.id = from_some x s.t s.take in
           let own_taker = taker_of x m s in
           takers.in_time x.value is.t.id (record { untold = m.untold; v = y.value; before = before; dequeued = is.told })
-            (subst (Precedes ms is.t.id) s.by (precedes_if ms well is.t.id s.t.id (own_taker.op, own_taker.invoked) (omega (arith, f, g)))))
+          (subst (Precedes ms is.t.id) s.by (precedes_if ms well is.t.id s.t.id (own_taker.op, own_taker.invoked) (omega (arith, f, g)))))
           m.fate)
           k
 
@@ -465,9 +464,9 @@ module _ (ms : List Mark) (well : AreWellFormed ms) (late : TwinsAreLate ms) (pa
               (λ t.
               let is : IsTold t.0 = told_is t.0 t.1 in
               let same : t.0.add.id ≡ id = ⊎_elim
-                  (λ q. q)
-                  (λ l. absurd (done_not_late ms well id d l))
-                  (one_enqueue ms well late t.0.add.id id t.0.value is.may (subst (IsEnqueueOf ms id) (sym t.2) e.1, returned_not_failed ms well id d.0 d.1) (told_not_late t.0 is)) in
+              (λ q. q)
+              (λ l. absurd (done_not_late ms well id d l))
+              (one_enqueue ms well late t.0.add.id id t.0.value is.may (subst (IsEnqueueOf ms id) (sym t.2) e.1, returned_not_failed ms well id d.0 d.1) (told_not_late t.0 is)) in
               subst (Includes order) same (add_in t.0 (told_in t.0 t.1)))
               (λ untold. (let x = all_held.all id (e.1.0, e.1.1) (d, (e.0, e.1, untold)) in subst (Includes order) x.2 (add_in x.0 (held_in x.0 x.1))))
               (told_or_not e.0))

@@ -1,12 +1,9 @@
 -- the history of a queue whose values differ is paired where it has a legal order
-use Rattle.std.proofs.Common.{◌≡◌, ◌≢◌, ℕ, suc, ◌+◌, ◌≤◌, ◌<◌, ℤ, ◌⊎◌, inl, inr, ⊎_elim, List, [], ◌∷◌, ◌++◌, length, refl, sym, ap, ◌∙◌, subst, arith, append_assoc}
+use Rattle.std.proofs.Common.{◌≡◌, ◌≢◌, ℕ, ◌<◌, ℤ, ◌⊎◌, inl, inr, ⊎_elim, List, [], ◌∷◌, ◌++◌, length, refl, sym, ap, ◌∙◌, subst, arith, append_assoc}
 use Rattle.std.specs.List.{Contains}
-use Rattle.std.proofs.lemmas.Bool.{cases_eq}
 use Rattle.std.proofs.lemmas.List.Elements.{Contains-append_left, Contains-append_right, Contains-append_cases}
 use Rattle.models.specs.declared.operation.Op.{Op}
-use Rattle.models.specs.declared.finding.Found.{Found}
 use Rattle.models.specs.declared.finding.Found.TheVariants.{Unit as Done, Item}
-use Rattle.models.specs.declared.finding.Answer.{Answer}
 use Rattle.models.specs.declared.finding.Answer.TheVariants.{Number}
 use Rattle.models.specs.Objects.{fifo_queue, Fits}
 use Rattle.events.specs.Events.{Mark}
@@ -14,12 +11,12 @@ use Rattle.events.specs.Events.Mark.{Invoked, Returned, Failed}
 use Rattle.linspec.specs.MarkRule.{AreWellFormed}
 use Rattle.linspec.specs.Operations.{HasReturned, Precedes}
 use Rattle.linspec.specs.Orders.{Taken, Includes, Pairwise, Run, IsLegalOrder, IsLinearizable}
-use Rattle.linspec.proofs.Lists.{Contains-nil, Contains-head, Contains-tail, Contains-cons_cases, Pairwise-across, Pairwise-right, cut_at}
+use Rattle.linspec.proofs.Lists.{Contains-head, Contains-cons_cases, Pairwise-across, Pairwise-right, cut_at}
 use Rattle.linspec.proofs.Marks.{Run-cut, Precedes-returned}
-use Rattle.queue_pairs.specs.Pairs.{Enqueues, IsEnqueueOf, MayEnqueue, Dequeues, HasDequeued, MayDequeue, IsBefore, IsUntold, IsOwedTo, AreTakers, IsPaired, IsLate, TwinsAreLate}
+use Rattle.queue_pairs.specs.Pairs.{Enqueues, IsEnqueueOf, MayEnqueue, HasDequeued, MayDequeue, IsBefore, IsOwedTo, AreTakers, IsPaired, IsLate, TwinsAreLate}
 use Rattle.queue_pairs.proofs.Once.{one_op, returned_not_failed, not_before_itself}
-use Rattle.queue_pairs.proofs.Finds.{First, NoneOf, first_of, compare, Same, ComesFirst, three, some_of}
-use Rattle.queue_pairs.proofs.Steps.{no_both, same_int_part, same_item, fits_number, finds_or_not, queue_view, put_or_get, ins, outs, in_and_out, PutBy, TakenBy, cut_ins, ins_more, outs_more_at, outs_more, came_out}
+use Rattle.queue_pairs.proofs.Finds.{First, NoneOf, first_of, compare, three}
+use Rattle.queue_pairs.proofs.Steps.{no_both, same_item, fits_number, finds_or_not, queue_view, put_or_get, ins, outs, in_and_out, PutBy, cut_ins, ins_more, outs_more_at, came_out}
 use Rattle.queue_pairs.proofs.Twins.{done_not_late, one_enqueue}
 
 module _ (ms : List Mark) (well : AreWellFormed ms) (late : TwinsAreLate ms) (order : List Taken) (end : List ℤ) (l : IsLegalOrder fifo_queue ms order end) where
@@ -55,6 +52,22 @@ module _ (ms : List Mark) (well : AreWellFormed ms) (late : TwinsAreLate ms) (or
     enqueues : Enqueues e.op v
     count : length (ins b) ≡ length (outs before)
 
+  put_told : (d : ℕ) (v : ℤ) (before : List Taken) (x : Taken) (after : List Taken) → before ++ x ∷ after ≡ order → x.id ≡ d → x.found ≡ Item v → PutBy before (outs before) v → Told d v
+  put_told d v before x after whole is found q = record {
+    before = before;
+    x = x;
+    after = after;
+    whole = whole;
+    is = is;
+    found = found;
+    b = q.0;
+    e = q.1;
+    a = q.2;
+    split = q.3;
+    enqueues = q.4;
+    count = ap length q.5;
+  }
+
   told_of : (d : ℕ) (v : ℤ) → HasDequeued ms d v → Told d v
   told_of d v h =
       let i : Includes order d = l.all_done d (Number v, h.answer) in
@@ -68,21 +81,7 @@ module _ (ms : List Mark) (well : AreWellFormed ms) (late : TwinsAreLate ms) (or
       let fits : Fits (Item p.0) (Number v) = subst (λ f. Fits f (Number v)) p.3 (l.fits x (Number v) i.1 (subst (λ n. Contains ms (Returned n (Number v))) (sym i.2) h.answer)) in
       let value : p.0 ≡ v = fits in
       let both : ins c.0 ≡ outs c.0 ++ v ∷ r.2.0 = in_and_out c.0 [] r.0 r.1 ∙ ap (λ k. outs c.0 ++ k) (p.2 ∙ ap (λ w. w ∷ r.2.0) value) in
-      let q = cut_ins c.0 (outs c.0) v r.2.0 both in
-      record {
-        before = c.0;
-        x = x;
-        after = c.1;
-        whole = sym c.2;
-        is = i.2;
-        found = p.3 ∙ ap Item value;
-        b = q.0;
-        e = q.1;
-        a = q.2;
-        split = q.3;
-        enqueues = q.4;
-        count = ap length q.5;
-      })
+      put_told d v c.0 x c.1 (sym c.2) i.2 (p.3 ∙ ap Item value) (cut_ins c.0 (outs c.0) v r.2.0 both))
       (queue_view x.op.name x.op.part r.0 r.2.0 x.found r.2.1)
 
   module _ (d : ℕ) (v : ℤ) (t : Told d v) where
@@ -204,7 +203,7 @@ module _ (ms : List Mark) (well : AreWellFormed ms) (late : TwinsAreLate ms) (or
       let same : o.before.1.0 ≡ y.op = one_op ms well o.before.0 o.before.1.0 y.op o.before.1.1 (subst (λ n. Contains ms (Invoked n y.op)) i.2 (l.invoked y i.1)) in
       let is : Enqueues y.op u = (ap (λ (w : Op). w.name) (sym same) ∙ o.before.1.2.0, ap (λ (w : Op). w.part) (sym same) ∙ o.before.1.2.1) in
       came_out order end l.run c.0 y c.1 u (sym c.2) is t.before (t.x ∷ t.after) t.whole
-        (stands_before y c.0 c.1 (sym c.2) d o.v t (subst (λ n. Precedes ms n t.e.id) (sym i.2) p) u is)
+      (stands_before y c.0 c.1 (sym c.2) d o.v t (subst (λ n. Precedes ms n t.e.id) (sym i.2) p) u is)
 
   -- the first that finds it
   record FoundBy (u : ℤ) (d : ℕ) (id : ℕ) : Type 0 where

@@ -12,10 +12,10 @@ use Rattle.events.specs.Events.Mark.{Invoked}
 use Rattle.linspec.specs.MarkRule.{AreWellFormed}
 use Rattle.linspec.specs.Operations.{Precedes}
 use Rattle.linspec.specs.Orders.{Taken, Pairwise, Run}
-use Rattle.linspec.proofs.Lists.{Contains-nil, Contains-head, Contains-tail, Contains-cons_cases, Pairwise-left, Pairwise-right, Pairwise-across}
+use Rattle.linspec.proofs.Lists.{Contains-nil, Contains-head, Contains-tail, Contains-cons_cases, Pairwise-right}
 use Rattle.queue_pairs.specs.Pairs.{Enqueues, Dequeues}
 use Rattle.queue_pairs.proofs.Once.{one_op}
-use Rattle.queue_pairs.proofs.Times.{moment, ended, ends_before, moment_within, ended_within}
+use Rattle.queue_pairs.proofs.Times.{moment, ended, ends_before, ended_within}
 use Rattle.queue_pairs.proofs.Turns.{MayLead}
 use Rattle.queue_pairs.proofs.Steps.{by_enqueue, by_dequeue, no_both}
 
@@ -70,9 +70,6 @@ module _ (ms : List Mark) (well : AreWellFormed ms) where
     pub own : (x : Passage) → Contains (q ++ es) x → Leads x x
     pub each : (x : Passage) → Contains (q ++ es) x → IsPassage x
     pub apart : Pairwise AreApart (q ++ es)
-
-  InTime : Taken → Taken → Type 0
-  InTime x y = ¬ Precedes ms y.id x.id
 
   pub record IsMerged (q es : List Passage) (order : List Taken) (end : List ℤ) : Type 0 where
     pub run : Run fifo_queue (map (λ x. x.value) q) order end
@@ -251,13 +248,13 @@ module _ (ms : List Mark) (well : AreWellFormed ms) where
       → (y : Passage) → Contains (e ∷ es) y → in_to y < out_from h → (x : Passage) → Contains (h ∷ q) x → out_to x < in_from e → ⊥
   next_is_early h q e es ready y k lt x j early =
       let first : out_from h ≤ out_to x = ⊎_elim
-          (λ (s : h ≡ x). (let l : Leads h h = ready.own h (Contains-head h (q ++ e ∷ es)) in subst (λ (w : Passage). out_from h ≤ out_to w) s l.out_first))
-          (λ i. (let l : Leads h x = ready.leads.0 x (Contains-append_left q (e ∷ es) x i) in l.out_first))
-          (Contains-cons_cases h q x j) in
+      (λ (s : h ≡ x). (let l : Leads h h = ready.own h (Contains-head h (q ++ e ∷ es)) in subst (λ (w : Passage). out_from h ≤ out_to w) s l.out_first))
+      (λ i. (let l : Leads h x = ready.leads.0 x (Contains-append_left q (e ∷ es) x i) in l.out_first))
+      (Contains-cons_cases h q x j) in
       let next : in_from e ≤ in_to y = ⊎_elim
-          (λ (s : e ≡ y). (let l : Leads e e = ready.own e (Contains-append_right (h ∷ q) (e ∷ es) e (Contains-head e es)) in subst (λ (w : Passage). in_from e ≤ in_to w) s l.in_first))
-          (λ i. (let l : Leads e y = (Pairwise-right Leads (h ∷ q) (e ∷ es) ready.leads).0 y i in l.in_first))
-          (Contains-cons_cases e es y k) in
+      (λ (s : e ≡ y). (let l : Leads e e = ready.own e (Contains-append_right (h ∷ q) (e ∷ es) e (Contains-head e es)) in subst (λ (w : Passage). in_from e ≤ in_to w) s l.in_first))
+      (λ i. (let l : Leads e y = (Pairwise-right Leads (h ∷ q) (e ∷ es) ready.leads).0 y i in l.in_first))
+      (Contains-cons_cases e es y k) in
       omega arith
 
   nothing_left : (q : List Passage) → ((x : Passage) (z : Taken) → Contains (q ++ []) x → x.take ≡ Some z → ⊥) → Merge q []

@@ -1,5 +1,5 @@
 -- what the ok of a dequeue asks for
-use Rattle.std.proofs.Common.{◌≡◌, ◌≢◌, ◌↔◌, ℕ, ℤ, ◌⊎◌, inl, inr, ⊎_elim, Bool, cond, List, [], ◌∷◌, ◌++◌, refl, sym, ap, ◌∙◌, subst}
+use Rattle.std.proofs.Common.{◌≡◌, ◌≢◌, ◌↔◌, ℕ, ℤ, ◌⊎◌, inl, inr, ⊎_elim, cond, List, [], ◌∷◌, ◌++◌, sym, ap, ◌∙◌, subst}
 use Rattle.std.specs.List.{Contains}
 use Rattle.std.specs.Ordering.{int_eq}
 use Rattle.std.proofs.lemmas.Bool.{cases_Bool, true≢false}
@@ -10,7 +10,7 @@ use Rattle.events.specs.Events.{Mark}
 use Rattle.events.specs.Events.Mark.{Invoked, Returned}
 use Rattle.linspec.specs.MarkRule.{AreWellFormed}
 use Rattle.linspec.specs.Operations.{HasReturned, Precedes}
-use Rattle.queue_pairs.specs.Pairs.{IsEnqueueOf, MayEnqueue, Dequeues, HasDequeued, MayDequeue, IsBefore, IsUntold, IsOwedTo, AreTakers, IsPaired, IsOwedBeside, AreTakersBeside, MayTake}
+use Rattle.queue_pairs.specs.Pairs.{MayEnqueue, Dequeues, HasDequeued, MayDequeue, IsBefore, IsUntold, IsOwedTo, AreTakers, IsPaired, IsOwedBeside, MayTake}
 use Rattle.queue_pairs.proofs.Oks.{kept, own_ok, was_open, earlier, still, precedes_none, returned_was, enqueue_was, enqueue_is, may_was, may_is, before_was, before_is, told_is, told_was, dequeue_was, dequeue_is, not_this}
 
 -- a function changed at one value
@@ -156,8 +156,8 @@ module _ (ms : List Mark) (id : ℕ) (op : Op) (v : ℤ) (well : AreWellFormed (
         (λ j. ⊎_elim
         (λ i. paired.in_turn u w c d (before_was ms id (Number v) well u w b) i j (earlier ms id (Number v) well d c p))
         (λ i. may.in_turn d
-          (record { untold = may.untold; v = w; before = subst (λ x. IsBefore ms x w) (sym i.1) (before_was ms id (Number v) well u w b); dequeued = j })
-          (subst (Precedes ms d) (sym i.0) (earlier ms id (Number v) well d c p)))
+        (record { untold = may.untold; v = w; before = subst (λ x. IsBefore ms x w) (sym i.1) (before_was ms id (Number v) well u w b); dequeued = j })
+        (subst (Precedes ms d) (sym i.0) (earlier ms id (Number v) well d c p)))
         (told_now c u h))
         (λ j. precedes_none ms id (Number v) well c (subst (λ n. Precedes longer n c) (sym j.0) p))
         (told_now d w k);
@@ -167,8 +167,8 @@ module _ (ms : List Mark) (id : ℕ) (op : Op) (v : ℤ) (well : AreWellFormed (
         may = λ u d o. (let b = beside_was u d o in dequeue_is ms id (Number v) well (may.taken.0 u) (may.taken.1.may u b) (may.taken.1.others u b));
         in_time = λ u d o p. (let b = beside_was u d o in ⊎_elim
             (λ j. may.taken.1.in_time u d b
-              (record { untold = b.1; v = o.v; before = before_was ms id (Number v) well u o.v o.before; dequeued = j })
-              (earlier ms id (Number v) well d (may.taken.0 u) p))
+            (record { untold = b.1; v = o.v; before = before_was ms id (Number v) well u o.v o.before; dequeued = j })
+            (earlier ms id (Number v) well d (may.taken.0 u) p))
             (λ j. precedes_none ms id (Number v) well (may.taken.0 u) (subst (λ n. Precedes longer n (may.taken.0 u)) (sym j.0) p))
             (told_now d o.v o.dequeued));
         apart = λ u w d e o r same. may.taken.1.apart u w (beside_was u d o) (beside_was w e r) same;

@@ -10,7 +10,7 @@ use Rattle.events.specs.Events.Mark.{Invoked, Returned, Failed}
 use Rattle.linspec.specs.MarkRule.{AreWellFormed}
 use Rattle.linspec.specs.Operations.{HasReturned, IsOpen, Precedes}
 use Rattle.linspec.proofs.Marks.{Precedes-kept, Precedes-cases, Precedes-returned}
-use Rattle.queue_pairs.specs.Pairs.{Enqueues, IsEnqueueOf, MayEnqueue, Dequeues, HasDequeued, MayDequeue, IsBefore, IsUntold, IsOwedTo, AreTakers, IsPaired, AreTwins, HasTwins}
+use Rattle.queue_pairs.specs.Pairs.{Enqueues, IsEnqueueOf, MayEnqueue, Dequeues, HasDequeued, MayDequeue, IsBefore, IsOwedTo, IsPaired, HasTwins}
 use Rattle.queue_pairs.proofs.Once.{one_op, one_answer}
 use Rattle.queue_pairs.proofs.Steps.{no_both}
 
@@ -166,6 +166,6 @@ module _ (ms : List Mark) (id : ℕ) (answer : Answer) (well : AreWellFormed (ms
       (λ a.
       let same : a.1.op ≡ op = one_op longer well id a.1.op op a.1.invoked (kept _ i) in
       no_dequeue a.0
-        (ap (λ (o : Op). o.name) (sym same) ∙ a.1.dequeues.0, ap (λ (o : Op). o.part) (sym same) ∙ a.1.dequeues.1)
-        (one_answer longer well id answer (Number a.0) own_ok a.1.answer))
+      (ap (λ (o : Op). o.name) (sym same) ∙ a.1.dequeues.0, ap (λ (o : Op). o.part) (sym same) ∙ a.1.dequeues.1)
+      (one_answer longer well id answer (Number a.0) own_ok a.1.answer))
       (paired.known id (answer, own_ok))

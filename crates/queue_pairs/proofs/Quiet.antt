@@ -12,7 +12,7 @@ use Rattle.linspec.specs.MarkRule.{AreWellFormed}
 use Rattle.linspec.specs.Operations.{IsInvoked, HasReturned, Precedes}
 use Rattle.linspec.proofs.Lists.{Contains-head}
 use Rattle.linspec.proofs.Marks.{Precedes-kept, Precedes-cases, Precedes-returned}
-use Rattle.queue_pairs.specs.Pairs.{Enqueues, IsEnqueueOf, MayEnqueue, HasDequeued, MayDequeue, IsBefore, IsUntold, IsOwedTo, AreTakers, IsPaired, AreTwins, IsLate, TwinsAreLate, MayFail}
+use Rattle.queue_pairs.specs.Pairs.{IsEnqueueOf, MayEnqueue, HasDequeued, MayDequeue, IsBefore, IsOwedTo, AreTakers, IsPaired, IsLate, TwinsAreLate, MayFail}
 use Rattle.queue_pairs.proofs.Once.{one_op, returned_invoked}
 
 module _ (ms : List Mark) (m : Mark) (well : AreWellFormed (ms ++ m ∷ [])) (no_ok : (n : ℕ) (a : Answer) → m ≢ Returned n a) where
@@ -175,9 +175,9 @@ module _ (ms : List Mark) (m : Mark) (well : AreWellFormed (ms ++ m ∷ [])) (no
   quiet no_fail = (
     paired_was,
     λ paired. paired_is
-      (λ d v h. (let a = paired.added d v h in (a.0, a.1, no_fail a.0, a.2)))
-      (λ u v d h b. (let a = paired.added d v h in let w = before_was u v a.0 a.1 (no_fail a.0) b in (b.0, w.1, (λ n k. earlier b.0 n (k.0.0, k.0.1) (b.2 n (may_is n v (no_fail n) k))))))
-      paired paired.taken.0 paired.taken.1 (λ u d o. no_fail (paired.taken.0 u)),
+        (λ d v h. (let a = paired.added d v h in (a.0, a.1, no_fail a.0, a.2)))
+        (λ u v d h b. (let a = paired.added d v h in let w = before_was u v a.0 a.1 (no_fail a.0) b in (b.0, w.1, (λ n k. earlier b.0 n (k.0.0, k.0.1) (b.2 n (may_is n v (no_fail n) k))))))
+        paired paired.taken.0 paired.taken.1 (λ u d o. no_fail (paired.taken.0 u)),
   )
 
   -- twins that are late stay late
@@ -226,8 +226,7 @@ module _ (ms : List Mark) (id : ℕ) (well : AreWellFormed (ms ++ Failed id ∷ 
     none u v d h b =
         let a = stay d v h in
         let w = before_was ms (Failed id) well no_return u v a.0 a.1 a.2 b in
-        let not_late : ¬ IsLate ms a.0 = λ l. a.3 (l d (Number v, h.answer)) in
-        (
+        let not_late : ¬ IsLate ms a.0 = λ l. a.3 (l d (Number v, h.answer)) in (
           b.0,
           w.1,
           (λ n k. ⊎_elim

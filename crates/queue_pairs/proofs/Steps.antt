@@ -1,5 +1,5 @@
 -- what a step of a queue may be, and what went in and came out in a run
-use Rattle.std.proofs.Common.{◌≡◌, ◌≢◌, ℕ, suc, ◌+◌, ◌≤◌, ◌<◌, ℤ, ◌⊎◌, inl, inr, ⊎_elim, List, [], ◌∷◌, ◌++◌, length, refl, sym, ap, ◌∙◌, subst, arith, append_assoc, append-nil, length-append}
+use Rattle.std.proofs.Common.{◌≡◌, suc, ◌+◌, ◌≤◌, ◌<◌, ℤ, ◌⊎◌, inl, inr, ⊎_elim, List, [], ◌∷◌, ◌++◌, length, refl, sym, ap, ◌∙◌, subst, arith, append_assoc, append-nil, length-append}
 use Rattle.std.specs.List.{Contains}
 use Rattle.std.specs.Ordering.{int_eq}
 use Rattle.std.proofs.lemmas.Bool.{cases_Bool, true≢false}
@@ -8,7 +8,6 @@ use Rattle.models.specs.declared.operation.Name.{Name}
 use Rattle.models.specs.declared.operation.Name.TheVariants.{Enqueue, Dequeue}
 use Rattle.models.specs.declared.operation.Part.{Part}
 use Rattle.models.specs.declared.operation.Part.TheVariants.{Nil, Int}
-use Rattle.models.specs.declared.operation.Op.{Op}
 use Rattle.models.specs.declared.finding.Found.{Found}
 use Rattle.models.specs.declared.finding.Found.TheVariants.{Unit as Done, Reg, Item, Elements}
 use Rattle.models.specs.declared.finding.Answer.{Answer}
@@ -138,7 +137,6 @@ in_and_out (x ∷ order) s t run = ⊎_elim
 
 -- an operation of a run is an enqueue, or a dequeue that finds a value
 
-
 pub put_or_get : (order : List Taken) (s t : List ℤ) → Run fifo_queue s order t → (x : Taken) → Contains order x
     → ((v : ℤ) × Enqueues x.op v × (x.found ≡ Done)) ⊎ ((v : ℤ) × Dequeues x.op × (x.found ≡ Item v))
 put_or_get [] s t run x h = absurd (Contains-nil x h)
@@ -155,14 +153,16 @@ PutBy order p v = (before : List Taken) × (x : Taken) × (after : List Taken) �
 abbrev pub TakenBy : List Taken → ℤ → Type 0
 TakenBy order v = (x : Taken) × Contains order x × (x.found ≡ Item v)
 
+put_behind : (x : Taken) (order : List Taken) (p q : List ℤ) (v : ℤ) → ((b : List Taken) → ins b ≡ p → ins (x ∷ b) ≡ q) → PutBy order p v → PutBy (x ∷ order) q v
+put_behind x order p q v f r = (x ∷ r.0, r.1, r.2, ap (λ l. x ∷ l) r.3, r.4, f r.0 r.5)
+
 put_here : (x : Taken) (order : List Taken) (v : ℤ) (q p : List ℤ) (w : ℤ) → Enqueues x.op w → w ∷ ins order ≡ p ++ v ∷ q
     → ((r : List ℤ) → ins order ≡ r ++ v ∷ q → PutBy order r v) → PutBy (x ∷ order) p v
 put_here x order v q [] w h same more = let s : w ≡ v = cc in ([], x, order, refl, (h.0, h.1 ∙ ap Int s), refl)
 put_here x order v q (y ∷ p) w h same more =
     let s : w ≡ y = cc in
     let t : ins order ≡ p ++ v ∷ q = cc in
-    let r = more p t in
-    (x ∷ r.0, r.1, r.2, ap (λ l. x ∷ l) r.3, r.4, ins_at x r.0 w h ∙ (λ i. s i ∷ r.5 i))
+    put_behind x order p (y ∷ p) v (λ b e. ins_at x b w h ∙ (λ i. s i ∷ e i)) (more p t)
 
 pub cut_ins : (order : List Taken) (p : List ℤ) (v : ℤ) (q : List ℤ) → ins order ≡ p ++ v ∷ q → PutBy order p v
 cut_ins [] [] v q e = cc
@@ -170,29 +170,26 @@ cut_ins [] (y ∷ p) v q e = cc
 cut_ins (x ∷ order) p v q e = ⊎_elim
     (λ k. put_here x order v q p k.0 k.1 (sym (ins_at x order k.0 k.1) ∙ e) (λ r f. cut_ins order r v q f))
     (λ n.
-    let none : in_of x.op.name x.op.part ≡ [] = in_none x.op.name x.op.part n in
-    let skip : ins (x ∷ order) ≡ ins order = ap (λ l. l ++ ins order) none in
-    let r = cut_ins order p v q (sym skip ∙ e) in
-    (x ∷ r.0, r.1, r.2, ap (λ l. x ∷ l) r.3, r.4, ap (λ l. l ++ ins r.0) none ∙ r.5))
+    let none : (b : List Taken) → ins (x ∷ b) ≡ ins b = λ b. ap (λ l. l ++ ins b) (in_none x.op.name x.op.part n) in
+    put_behind x order p p v (λ b f. none b ∙ f) (cut_ins order p v q (sym (none order) ∙ e)))
     (enqueues_any x.op.name x.op.part)
+
+take_behind : (x : Taken) (order : List Taken) (v : ℤ) → TakenBy order v → TakenBy (x ∷ order) v
+take_behind x order v r = (r.0, Contains-tail x order r.0 r.1, r.2)
 
 take_here : (x : Taken) (order : List Taken) (v : ℤ) (q p : List ℤ) (w : ℤ) → x.found ≡ Item w → w ∷ outs order ≡ p ++ v ∷ q
     → ((r : List ℤ) → outs order ≡ r ++ v ∷ q → TakenBy order v) → TakenBy (x ∷ order) v
 take_here x order v q [] w h same more = let s : w ≡ v = cc in (x, Contains-head x order, h ∙ ap Item s)
 take_here x order v q (y ∷ p) w h same more =
     let t : outs order ≡ p ++ v ∷ q = cc in
-    let r = more p t in
-    (r.0, Contains-tail x order r.0 r.1, r.2)
+    take_behind x order v (more p t)
 
 pub cut_outs : (order : List Taken) (p : List ℤ) (v : ℤ) (q : List ℤ) → outs order ≡ p ++ v ∷ q → TakenBy order v
 cut_outs [] [] v q e = cc
 cut_outs [] (y ∷ p) v q e = cc
 cut_outs (x ∷ order) p v q e = ⊎_elim
     (λ k. take_here x order v q p k.0 k.1 (sym (outs_at x order k.0 k.1) ∙ e) (λ r f. cut_outs order r v q f))
-    (λ n.
-    let skip : outs (x ∷ order) ≡ outs order = ap (λ l. l ++ outs order) (out_none x.found n) in
-    let r = cut_outs order p v q (sym skip ∙ e) in
-    (r.0, Contains-tail x order r.0 r.1, r.2))
+    (λ n. take_behind x order v (cut_outs order p v q (sym (ap (λ l. l ++ outs order) (out_none x.found n)) ∙ e)))
     (finds_any x.found)
 
 -- more operations, more of both
@@ -200,9 +197,6 @@ pub ins_more : (b m : List Taken) (y : Taken) (v : ℤ) → Enqueues y.op v → 
 ins_more b m y v h =
     let e : length (ins (b ++ y ∷ m)) ≡ length (ins b) + suc (length (ins m)) = ap length (ins-append b (y ∷ m)) ∙ length-append (ins b) (ins (y ∷ m)) ∙ ap (λ l. length (ins b) + length l) (ins_at y m v h) in
     omega (arith, e)
-
-pub outs_more : (b m : List Taken) → length (outs b) ≤ length (outs (b ++ m))
-outs_more b m = let e : length (outs (b ++ m)) ≡ length (outs b) + length (outs m) = ap length (outs-append b m) ∙ length-append (outs b) (outs m) in omega (arith, e)
 
 pub outs_more_at : (b m : List Taken) (y : Taken) (v : ℤ) → y.found ≡ Item v → length (outs b) < length (outs (b ++ y ∷ m))
 outs_more_at b m y v h =

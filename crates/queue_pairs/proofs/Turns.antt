@@ -1,5 +1,5 @@
 -- values in turn: each comes in and goes out in an interval of its own, and of any two some order fits both
-use Rattle.std.proofs.Common.{◌≡◌, ◌≢◌, ℕ, zero, suc, ◌+◌, ◌≤◌, ◌<◌, min, ◌⊎◌, inl, inr, ⊎_elim, List, [], ◌∷◌, ◌++◌, length, refl, sym, ap, ◌∙◌, subst, arith, length-append}
+use Rattle.std.proofs.Common.{◌≡◌, ℕ, zero, suc, ◌≤◌, ◌<◌, min, ◌⊎◌, inl, inr, ⊎_elim, List, [], ◌∷◌, ◌++◌, length, sym, ap, ◌∙◌, subst, arith, length-append}
 use Rattle.std.specs.List.{Contains}
 use Rattle.std.proofs.lemmas.Bool.{cases_lt}
 use Rattle.std.proofs.lemmas.List.Elements.{Contains-append_left, Contains-append_right, Contains-append_cases}
@@ -36,16 +36,24 @@ module _ {X : Type 0} (a b c d : X → ℕ) where
       let own_p = fair.own p.0 p.1 in
       let own_q = fair.own q.0 q.1 in
       ⊎_elim
-      (λ (lt : d q.0 < c p.0). (q.0, q.1, λ z h. record {
-        in_first = in_first_of p.0 q.0 z own_p own_q lt (λ k. fair.turn p.0 q.0 p.1 q.1 k lt) (p.2 z h);
-        in_first_out = low (a q.0) (d q.0) (d z) own_q.in_first_out (q.2 z h);
-        out_first = low (c q.0) (d q.0) (d z) own_q.out_first (q.2 z h);
-      }))
-      (λ not_lt. (p.0, p.1, λ z h. record {
-        in_first = in_first_at p.0 z own_p (p.2 z h);
-        in_first_out = in_first_out_at p.0 z own_p (p.2 z h);
-        out_first = (let k : d q.0 ≤ d z = q.2 z h in omega arith);
-      }))
+      (λ (lt : d q.0 < c p.0). (
+        q.0,
+        q.1,
+        λ z h. record {
+          in_first = in_first_of p.0 q.0 z own_p own_q lt (λ k. fair.turn p.0 q.0 p.1 q.1 k lt) (p.2 z h);
+          in_first_out = low (a q.0) (d q.0) (d z) own_q.in_first_out (q.2 z h);
+          out_first = low (c q.0) (d q.0) (d z) own_q.out_first (q.2 z h);
+        },
+      ))
+      (λ not_lt. (
+        p.0,
+        p.1,
+        λ z h. record {
+          in_first = in_first_at p.0 z own_p (p.2 z h);
+          in_first_out = in_first_out_at p.0 z own_p (p.2 z h);
+          out_first = (let k : d q.0 ≤ d z = q.2 z h in omega arith);
+        },
+      ))
       (cases_lt (d q.0) (c p.0))
     where
       low : (i j k : ℕ) → i ≤ j → j ≤ k → i ≤ k
@@ -93,24 +101,34 @@ module _ {X : Type 0} (a b c d : X → ℕ) where
       shorter : length (ys ++ y ∷ zs) ≡ suc (length (ys ++ zs))
       shorter = let e = length-append ys (y ∷ zs) in let f = length-append ys zs in omega (arith, e, f)
 
+    -- one that may lead all, and in front of the others in turn
+    module _ (xs ys zs : List X) (y : X) (whole : xs ≡ ys ++ y ∷ zs) where
+      from_rest : (z : X) → Contains (ys ++ zs) z → Contains xs z
+      from_rest z h = subst (λ l. Contains l z) (sym whole) (within ys zs y z h)
+
+      from_first : (z : X) → y ≡ z → Contains xs z
+      from_first z e = subst (λ l. Contains l z) (sym whole) (Contains-append_right ys (y ∷ zs) z (subst (Contains (y ∷ zs)) e (Contains-head y zs)))
+
+      to_rest : (z : X) → Contains xs z → (y ≡ z) ⊎ Contains (ys ++ zs) z
+      to_rest z h = without ys zs y z (subst (λ l. Contains l z) whole h)
+
+      led : Pairwise Apart xs → ((z : X) → Contains xs z → MayLead y z) → (rest : List X) → AreInTurn Apart (ys ++ zs) rest → AreInTurn Apart xs (y ∷ rest)
+      led apart lead rest r = record {
+        lead = ((λ z h. lead z (from_rest z (r.from z h))), r.lead);
+        apart = ((λ z h. apart_one ys zs y (subst (Pairwise Apart) whole apart) z (r.from z h)), r.apart);
+        from = λ z h. ⊎_elim (from_first z) (λ k. from_rest z (r.from z k)) (Contains-cons_cases y rest z h);
+        to = λ z h. ⊎_elim (λ e. subst (Contains (y ∷ rest)) e (Contains-head y rest)) (λ k. Contains-tail y rest z (r.to z k)) (to_rest z h);
+      }
+
+      fair_rest : AreFair xs → AreFair (ys ++ zs)
+      fair_rest fair = record { own = λ z h. fair.own z (from_rest z h); turn = λ z w h k. fair.turn z w (from_rest z h) (from_rest w k) }
+
     pub in_turn : (n : ℕ) (xs : List X) → length xs ≤ n → AreFair xs → Pairwise Apart xs → (zs : List X) × AreInTurn Apart xs zs
     in_turn n [] le fair apart = ([], record { lead = tt; apart = tt; from = λ z h. h; to = λ z h. h })
     in_turn zero (x ∷ xs) le fair apart = absurd (omega arith)
     in_turn (suc n) (x ∷ xs) le fair apart =
         let l = leader x xs fair in
-        let y : X = l.0 in
-        let s = cut_at (x ∷ xs) y l.1 in
-        let whole : x ∷ xs ≡ s.0 ++ y ∷ s.1 = s.2 in
-        let less : length (s.0 ++ s.1) ≤ n = (let e : length (x ∷ xs) ≡ suc (length (s.0 ++ s.1)) = ap length whole ∙ shorter s.0 s.1 y in omega (arith, e)) in
-        let up : (z : X) → Contains (s.0 ++ s.1) z → Contains (x ∷ xs) z = λ z h. subst (λ l. Contains l z) (sym whole) (within s.0 s.1 y z h) in
-        let p : Pairwise Apart (s.0 ++ y ∷ s.1) = subst (Pairwise Apart) whole apart in
-        let rest_fair : AreFair (s.0 ++ s.1) = record { own = λ z h. fair.own z (up z h); turn = λ z w h k. fair.turn z w (up z h) (up w k) } in
-        let r = in_turn n (s.0 ++ s.1) less rest_fair (apart_rest s.0 s.1 y p) in (
-          y ∷ r.0,
-          record {
-            lead = ((λ z h. l.2 z (up z (r.1.from z h))), r.1.lead);
-            apart = ((λ z h. apart_one s.0 s.1 y p z (r.1.from z h)), r.1.apart);
-            from = λ z h. ⊎_elim {C = Contains (x ∷ xs) z} (λ e. subst (Contains (x ∷ xs)) e l.1) (λ k. up z (r.1.from z k)) (Contains-cons_cases y r.0 z h);
-            to = λ z h. ⊎_elim {C = Contains (y ∷ r.0) z} (λ e. subst (Contains (y ∷ r.0)) e (Contains-head y r.0)) (λ k. Contains-tail y r.0 z (r.1.to z k)) (without s.0 s.1 y z (subst (λ l. Contains l z) whole h));
-          },
-        )
+        let s = cut_at (x ∷ xs) l.0 l.1 in
+        let e : length (x ∷ xs) ≡ suc (length (s.0 ++ s.1)) = ap length s.2 ∙ shorter s.0 s.1 l.0 in
+        let r = in_turn n (s.0 ++ s.1) (omega (arith, e)) (fair_rest (x ∷ xs) s.0 s.1 l.0 s.2 fair) (apart_rest s.0 s.1 l.0 (subst (Pairwise Apart) s.2 apart)) in
+        (l.0 ∷ r.0, led (x ∷ xs) s.0 s.1 l.0 s.2 apart l.2 r.0 r.1)

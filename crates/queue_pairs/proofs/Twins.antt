@@ -1,10 +1,8 @@
 -- when operations begin and end, and of two enqueues of one value
-use Rattle.std.proofs.Common.{◌≡◌, ◌≢◌, ℕ, ◌≤◌, ◌<◌, ℤ, ◌⊎◌, inl, inr, ⊎_elim, List, length, ap, ◌∙◌, subst, arith}
-use Rattle.std.specs.List.{Contains}
+use Rattle.std.proofs.Common.{◌≡◌, ℕ, ◌≤◌, ◌<◌, ℤ, ◌⊎◌, inl, inr, ⊎_elim, List, length, ap, ◌∙◌, subst, arith}
 use Rattle.std.proofs.lemmas.Bool.{cases_lt, cases_eq}
 use Rattle.models.specs.declared.operation.Op.{Op}
 use Rattle.events.specs.Events.{Mark}
-use Rattle.events.specs.Events.Mark.{Invoked}
 use Rattle.linspec.specs.MarkRule.{AreWellFormed}
 use Rattle.linspec.specs.Operations.{IsInvoked, HasReturned, Precedes}
 use Rattle.linspec.proofs.Marks.{Precedes-returned}
