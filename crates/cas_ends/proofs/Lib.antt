@@ -1,0 +1,17 @@
+pub mod Steps
+pub mod Once
+pub mod Makes
+pub mod Covers
+pub mod Puts
+pub mod Pushes
+pub mod Walking
+pub mod Ending
+pub mod Events
+pub mod Oks
+pub mod Beginning
+pub mod Complete
+pub mod Stands
+pub mod Kept
+pub mod Sound
+pub mod Left
+pub mod BadFronts
