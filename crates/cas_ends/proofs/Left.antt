@@ -1,5 +1,5 @@
 -- ends that are at most another one may be left out
-use Rattle.std.proofs.Common.{◌≡◌, ◌≢◌, ◌↔◌, ℕ, ℤ, inl, inr, ⊎_elim, Option, List, [], ◌∷◌, ◌++◌, length, ◌<◌, ◌≤◌, refl, sym, ap, ◌∙◌, subst, append_assoc, arith}
+use Rattle.std.proofs.Common.{◌≡◌, ◌≢◌, ◌↔◌, ℕ, ℤ, inl, inr, ⊎_elim, Option, List, [], ◌∷◌, ◌++◌, length, ◌≤◌, refl, sym, ap, ◌∙◌, subst, append_assoc, arith}
 use Rattle.std.proofs.lemmas.List.{append-nil}
 use Rattle.std.specs.List.{Contains}
 use Rattle.models.specs.Objects.{cas_register}
@@ -12,7 +12,7 @@ use Rattle.linspec.proofs.Lists.{Contains-nil, Contains-head, Contains-cons_case
 use Rattle.linspec.specs.LeanEnds.{LeanEnd, start, IsAtMost}
 use Rattle.lean_ends.proofs.Covers.{Extra}
 use Rattle.lean_ends.proofs.Left.{at_most_each_other, at_most_itself}
-use Rattle.cas_ends.specs.CasEnds.{AreLeftBy, AreLeftByAll, AreCasEnds, AreFronts, HasMoreFronts}
+use Rattle.cas_ends.specs.CasEnds.{AreLeftBy, AreLeftByAll, AreCasEnds}
 use Rattle.cas_ends.proofs.Covers.{Covers}
 use Rattle.cas_ends.proofs.Complete.{AreComplete, complete_after, at_first, cut_behind}
 use Rattle.cas_ends.proofs.Stands.{IsLeft}
@@ -83,14 +83,6 @@ some_is_left marks ends well are = (
   (λ k. (let o = sound_left_by [] marks (start ∷ []) ends well are (λ e h. subst (IsLeft []) (only_start e h) left_at_first) k.0 k.1 in (o.0, o.1, o.2.legal))),
 )
 
--- something is counted only of a history that has a legal order, so a key that is dead is never blown
-pub counted_order : (marks : List Mark) (n : ℕ) → HasMoreFronts marks n → IsLinearizable cas_register marks
-counted_order marks n h = first h.fronts h.walked h.many
-  where
-    first : (fronts : List LeanEnd) → AreFronts marks h.ends fronts → n < length fronts → IsLinearizable cas_register marks
-    first [] walked many = absurd (omega arith)
-    first (f ∷ fronts) walked many = let e = walked.each f (Contains-head f fronts) in (some_is_left marks h.ends h.well h.are).1 (e.0, e.1)
-
 -- each stands for an order of the history
 pub are_left : (marks : List Mark) (ends : List LeanEnd) → AreWellFormed marks → AreCasEnds marks ends → (e : LeanEnd) → Contains ends e → IsLeft marks e
 are_left marks ends well are e h = sound_left_by [] marks (start ∷ []) ends well are (λ f k. subst (IsLeft []) (only_start f k) left_at_first) e h
@@ -107,7 +99,7 @@ left_then_by before (n ∷ more) m ends left next by then' = (
 pub left_then : (marks : List Mark) (m : Mark) (ends next : List LeanEnd) → AreCasEnds marks ends → AreLeftBy marks m ends next → AreCasEnds (marks ++ m ∷ []) next
 left_then marks m ends next are by = left_then_by [] marks m (start ∷ []) ends next are by
 
-at_most_then : (marks : List Mark) (e f g : LeanEnd) → IsAtMost marks e f → IsAtMost marks f g → IsAtMost marks e g
+pub at_most_then : (marks : List Mark) (e f g : LeanEnd) → IsAtMost marks e f → IsAtMost marks f g → IsAtMost marks e g
 at_most_then marks e f g a b = record {
   state = a.state ∙ b.state;
   needed = λ i n. a.needed i (b.needed i n);
@@ -116,7 +108,7 @@ at_most_then marks e f g a b = record {
   finds = λ r w h. b.finds r w (a.finds r w h);
 }
 
-abbrev Apart : List Mark → LeanEnd → LeanEnd → Type 0
+abbrev pub Apart : List Mark → LeanEnd → LeanEnd → Type 0
 Apart marks e f = (¬ IsAtMost marks e f) × (¬ IsAtMost marks f e)
 
 -- of two that stand in the list, where the one is at most the other, they are one
@@ -155,13 +147,13 @@ within_by before (m ∷ more) ends others left these to from a b f h =
     (within before m others ends b.0 a.0 from to b.1 a.1)
     a.2 b.2 f h
 
-once_by : (before more : List Mark) (ends left : List LeanEnd) → Pairwise (λ e f. e ≢ f) ends → AreLeftByAll before ends more left → Pairwise (λ e f. e ≢ f) left
+pub once_by : (before more : List Mark) (ends left : List LeanEnd) → Pairwise (λ e f. e ≢ f) ends → AreLeftByAll before ends more left → Pairwise (λ e f. e ≢ f) left
 once_by before [] ends left p by = subst (Pairwise (λ e f. e ≢ f)) by p
 once_by before (m ∷ more) ends left p by = once_by (before ++ m ∷ []) more by.0 left
     (Pairwise-weaker (Apart (before ++ m ∷ [])) (λ e f. e ≢ f) by.0 (λ e f h k n q. n.0 (subst (IsAtMost (before ++ m ∷ []) e) q (at_most_itself (before ++ m ∷ []) e))) by.1.apart)
     by.2
 
-one_start : Pairwise (λ (e f : LeanEnd). e ≢ f) (start ∷ [])
+pub one_start : Pairwise (λ (e f : LeanEnd). e ≢ f) (start ∷ [])
 one_start = ((λ y h. absurd (Contains-nil y h)), tt)
 
 -- the same ends, however they are found
@@ -172,30 +164,4 @@ pub as_many : (marks : List Mark) (ends others : List LeanEnd) → AreCasEnds ma
 as_many marks ends others a b =
     let x : length ends ≤ length others = no_longer_than ends others (once_by [] marks (start ∷ []) ends one_start a) (same_ends marks ends others a b) in
     let y : length others ≤ length ends = no_longer_than others ends (once_by [] marks (start ∷ []) others one_start b) (same_ends marks others ends b a) in
-    omega arith
-
--- and the same fronts
-module _ (marks : List Mark) (ends others fronts these : List LeanEnd) (to : (e : LeanEnd) → Contains ends e → Contains others e) (from : (e : LeanEnd) → Contains others e → Contains ends e)
-    (a : AreFronts marks ends fronts) (b : AreFronts marks others these) where
-  pub front_within : (f : LeanEnd) → Contains fronts f → Contains these f
-  front_within f h =
-      let k = a.each f h in
-      let g = b.all k.0 f k.2.0 (to k.0 k.1) k.2.1 in
-      let j = b.each g.0 g.1 in
-      let i = a.all j.0 g.0 j.2.0 (from j.0 j.1) j.2.1 in
-      let up : IsAtMost marks f i.0 = at_most_then marks f g.0 i.0 g.2 i.2 in
-      let same : f ≡ i.0 = only_itself marks fronts a.apart f i.0 h i.1 up in
-      let one : f ≡ g.0 = at_most_each_other marks f g.0 g.2 (subst (IsAtMost marks g.0) (sym same) i.2) in
-      subst (Contains these) (sym one) g.1
-
-  pub fronts_once : Pairwise (λ (e f : LeanEnd). e ≢ f) fronts
-  fronts_once = Pairwise-weaker (Apart marks) (λ e f. e ≢ f) fronts (λ e f h k n q. n.0 (subst (IsAtMost marks e) q (at_most_itself marks e))) a.apart
-
-pub as_many_fronts : (marks : List Mark) (ends others fronts these : List LeanEnd) → AreCasEnds marks ends → AreCasEnds marks others → AreFronts marks ends fronts → AreFronts marks others these
-    → length fronts ≡ length these
-as_many_fronts marks ends others fronts these a b f g =
-    let to = same_ends marks ends others a b in
-    let from = same_ends marks others ends b a in
-    let x : length fronts ≤ length these = no_longer_than fronts these (fronts_once marks ends others fronts these to from f g) (front_within marks ends others fronts these to from f g) in
-    let y : length these ≤ length fronts = no_longer_than these fronts (fronts_once marks others ends these fronts from to g f) (front_within marks others ends these fronts from to g f) in
     omega arith

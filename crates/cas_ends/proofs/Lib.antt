@@ -15,3 +15,5 @@ pub mod Kept
 pub mod Sound
 pub mod Left
 pub mod BadFronts
+pub mod Layers
+pub mod OneCount

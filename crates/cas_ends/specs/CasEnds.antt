@@ -1,5 +1,5 @@
 -- Promise: the ends of a register with compare and set, event by event (this project's own)
-use Rattle.std.specs.Prelude.{◌≡◌, ◌↔◌, ℕ, ◌<◌, ℤ, ◌⊎◌, Bool, true, false, IsTrue, Some, List, [], ◌∷◌, ◌++◌, length}
+use Rattle.std.specs.Prelude.{◌≡◌, ◌↔◌, ℕ, ◌<◌, ℤ, ◌⊎◌, Bool, true, false, IsTrue, Some, List, [], ◌∷◌, ◌++◌, length, map}
 use Rattle.std.specs.List.{Contains}
 use Rattle.models.specs.declared.operation.Name.TheVariants.{Cas}
 use Rattle.models.specs.declared.operation.Part.TheVariants.{Pair}
@@ -120,21 +120,57 @@ AreLeftByAll marks ends (m ∷ more) left =
 abbrev pub AreCasEnds : List Mark → List LeanEnd → Type 0
 AreCasEnds marks left = AreLeftByAll [] (start ∷ []) marks left
 
--- what walks make of these ends, without those that are at most another one
-pub record AreFronts (marks : List Mark) (ends fronts : List LeanEnd) : Type 0 where
-  pub each : (f : LeanEnd) → Contains fronts f
-      → (e : LeanEnd) × Contains ends e × ((writes : Bool) × Walks marks e f writes)
-  pub all : (e f : LeanEnd) (writes : Bool) → Contains ends e → Walks marks e f writes
-      → (g : LeanEnd) × Contains fronts g × IsAtMost marks f g
-  pub apart : Pairwise (λ e f. (¬ IsAtMost marks e f) × (¬ IsAtMost marks f e)) fronts
+-- an end that a walk made, and whether the walk ends with a write
+pub record Front : Type 0 where
+  pub end : LeanEnd
+  pub writes : Bool
 
--- the history is well-formed, and walks make more than n fronts of its ends
+-- f may become all that e may
+abbrev pub IsLess : List Mark → Front → Front → Type 0
+IsLess marks e f = IsAtMost marks e.end f.end × (f.writes ≡ true → e.writes ≡ true)
+
+-- one more operation takes place behind
+abbrev pub IsNext : List Mark → Front → Front → Type 0
+IsNext marks e f =
+    (x : ℕ)
+    × ((SetsBehind marks e.end x f.end × (f.writes ≡ false))
+    ⊎ ((e.writes ≡ false) × WritesBehind marks e.end x f.end × (f.writes ≡ true)))
+
+-- what one more operation makes of a layer of fronts, without those that are less than a front that is there, or than another one
+pub record IsLayer (marks : List Mark) (there layer next : List Front) : Type 0 where
+  pub each : (f : Front) → Contains next f → (e : Front) × Contains layer e × IsNext marks e f
+  pub new : (f g : Front) → Contains next f → Contains there g → ¬ IsLess marks f g
+  pub all : (e f : Front) → Contains layer e → IsNext marks e f
+      → (g : Front) × Contains (there ++ next) g × IsLess marks f g
+  pub apart : Pairwise (λ e f. (¬ IsLess marks e f) × (¬ IsLess marks f e)) next
+
+-- with what is there, layer upon layer, these are the fronts, of which the last layer is this one
+abbrev pub AreLayers : List Mark → List Front → List Front → List (List Front) → List Front → List Front → Type 0
+AreLayers marks there layer [] fronts last = (there ≡ fronts) × (layer ≡ last)
+AreLayers marks there layer (next ∷ more) fronts last =
+    IsLayer marks there layer next × AreLayers marks (there ++ next) next more fronts last
+
+abbrev pub stays : LeanEnd → Front
+stays e = record { end = e; writes = false }
+
+-- these are fronts of the ends, of some layers
+pub record AreSomeFronts (marks : List Mark) (ends : List LeanEnd) (fronts last : List Front) : Type 0 where
+  pub layers : List (List Front)
+  pub are : AreLayers marks (map stays ends) (map stays ends) layers fronts last
+
+-- these are all of them: the last layer makes none that is new
+abbrev pub AreFronts : List Mark → List LeanEnd → List Front → Type 0
+AreFronts marks ends fronts =
+    (last : List Front) × AreSomeFronts marks ends fronts last × IsLayer marks fronts last []
+
+-- the history is well-formed, and its ends have more than n fronts, those of some layers
 pub record HasMoreFronts (marks : List Mark) (n : ℕ) : Type 0 where
   pub well : AreWellFormed marks
   pub ends : List LeanEnd
   pub are : AreCasEnds marks ends
-  pub fronts : List LeanEnd
-  pub walked : AreFronts marks ends fronts
+  pub fronts : List Front
+  pub last : List Front
+  pub some : AreSomeFronts marks ends fronts last
   pub many : n < length fronts
 
 -- and it has a legal order

@@ -1,5 +1,5 @@
 //! Laws of the ends of registers with compare and set.
-ghost use Rattle.std.specs.Prelude.{◌≡◌, ◌↔◌, ℕ, List, ◌∷◌, ◌++◌, [], length};
+ghost use Rattle.std.specs.Prelude.{◌≡◌, ◌↔◌, ℕ, ◌<◌, List, ◌∷◌, ◌++◌, [], length};
 ghost use Rattle.std.specs.List.{Contains};
 ghost use Rattle.models.specs.Objects.{cas_register};
 ghost use Rattle.events.specs.Events.{Mark, Entry, marks, IsFront};
@@ -7,7 +7,7 @@ ghost use Rattle.linspec.specs.MarkRule.{AreWellFormed};
 ghost use Rattle.linspec.specs.Orders.{IsLinearizable};
 ghost use Rattle.linspec.specs.Verdicts.{EndsShortestBadFront};
 ghost use Rattle.linspec.specs.LeanEnds.{LeanEnd};
-ghost use Rattle.cas_ends.specs.CasEnds.{IsCasEnd, AreCasEnds, AreFronts, HasMoreFronts};
+ghost use Rattle.cas_ends.specs.CasEnds.{IsCasEnd, AreCasEnds, Front, AreFronts, HasMoreFronts};
 
 /// A history of a register with compare and set is linearizable exactly if it has an end. Nothing is lost if ends that are at most another one
 /// are left out at each event.
@@ -23,9 +23,11 @@ pub fn ends_law()
 pub fn count_law()
     ensures ends { (marks : List Mark) (ends others : List LeanEnd) → AreCasEnds marks ends → AreCasEnds marks others
         → length ends ≡ length others }
-    ensures fronts { (marks : List Mark) (ends others fronts these : List LeanEnd) → AreCasEnds marks ends
+    ensures fronts { (marks : List Mark) (ends others : List LeanEnd) (fronts these : List Front) → AreCasEnds marks ends
         → AreCasEnds marks others → AreFronts marks ends fronts → AreFronts marks others these
         → length fronts ≡ length these }
+    ensures more { (marks : List Mark) (n : ℕ) (ends : List LeanEnd) (fronts : List Front) → AreCasEnds marks ends
+        → AreFronts marks ends fronts → HasMoreFronts marks n → n < length fronts }
     ensures order { (marks : List Mark) (n : ℕ) → HasMoreFronts marks n → IsLinearizable cas_register marks }
 {}
 
