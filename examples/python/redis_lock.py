@@ -56,7 +56,7 @@ def main() -> int:
     given = words()
     end = time.monotonic() + given.seconds
     monitor = Monitor(given.jepmon, model="mutex", failed=(ConnectionRefusedError, RedisError), expected=(OSError,))
-    keys = monitor.keys(limit=8, most=12)  # a lock that was held while a request timed out has to be tried again: leave it late
+    keys = monitor.keys()
     try:
         with monitor, Server() as server:
             monitor.run(lambda number: client(monitor, keys, number, server.at, given.lease, given.work, end), CLIENTS)

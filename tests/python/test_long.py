@@ -204,9 +204,9 @@ class Long(Monitored):
                 for value in range(100):
                     with register.write(value) as op:
                         held[op.name] = value
-                        if 40 <= value < 46:
+                        if 40 <= value < 50:
                             raise TimeoutError
-                    if value == 46:
+                    if value == 50:
                         self.assertGreaterEqual(len(register.objects), 2)
                         held.clear()
                     with register.read() as op:

@@ -6,6 +6,7 @@ import unittest
 from typing import Counter, Dict, cast
 
 from jepmon import Illegal, Keys, Monitor, Unknown
+from jepmon.live.room import room_of
 from tests.python.monitored import Monitored, Server
 
 
@@ -80,6 +81,15 @@ class Drawn(unittest.TestCase):
             with self.assertRaises(ValueError):
                 self.keys(count, limit, first, most)
 
+    def test_the_room_is_that_of_the_kind(self) -> None:
+        """A register has room for ten, beside all that has timed out, and a set for all that a program takes; by ends six, with these."""
+        for kind, timeouts, pending, is_full in (("wide-register", 7, 9, False), ("wide-register", 7, 10, True), ("wide-set", 900, 63, False),
+                                                 ("register", 2, 3, False), ("register", 2, 4, True), ("mutex", 7, 5, True)):
+            with self.subTest(kind=kind, timeouts=timeouts, pending=pending):
+                room = room_of(kind)
+                self.assertEqual((room.holds(pending, timeouts), room.is_left(timeouts)), (not is_full, False))
+        self.assertTrue(room_of("wide-register").is_left(8) and room_of("fifo-queue").is_left(3))
+
     def test_no_key_is_left(self) -> None:
         keys = self.keys(first=65535)
         self.counts.timed_out[65535] = 3
@@ -105,7 +115,7 @@ class Losses(Monitored):
     def kill(self, monitor: Monitor, stay: bool) -> None:
         server, keys, draws = Server(), monitor.keys(3), random.Random(1)
         for value in range(400):
-            server.is_slow = 100 <= value < 120  # before it is down
+            server.is_slow = 90 <= value < 120  # before it is down
             if value == 120:
                 server.kill()
             server.is_up = not 120 <= value < 140

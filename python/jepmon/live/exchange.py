@@ -36,9 +36,13 @@ class Exchange:
         except ProgramError as fault:
             raise refused(fault) from None
 
+    def kind(self, model: Optional[str] = None) -> str:
+        """The kind by which keys of this model are judged, or those of which no model was named."""
+        return self._options.kind(self.program, model)
+
     def model_line(self, key: int, model: str) -> str:
         """The command by which a key is of this model."""
-        return f"[:model {key} :{self._options.kind(self.program, model)}]"
+        return f"[:model {key} :{self.kind(model)}]"
 
     def is_wide(self, model: str) -> bool:
         """Whether keys of this model are judged as its wide kind."""

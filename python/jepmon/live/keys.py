@@ -6,6 +6,7 @@ import threading
 from typing import TYPE_CHECKING, List, Optional
 
 from ..history.kinds import KEYS
+from .room import BY_ENDS, Room
 from .values import key_of
 
 if TYPE_CHECKING:
@@ -23,19 +24,24 @@ class Keys:
     the lost values again, and passes. So read at read_key, which also gives keys that writes have left, and read all of `used`
     at the end.
 
-    A key has room for another operation if fewer than `most` of its operations are open or have timed out (six, for the default
-    budget), or if none is open. A key without room is given only if there is no other.
+    A key has room for another operation if fewer than `most` of its operations are open, or if none is open. A key without room is given
+    only if there is no other.
 
-    Use queues in the same way: enqueue at write_key, and dequeue at read_key. Each operation of a lock is a change: acquire at
-    write_key, with limit=8 and most=12, so that clients try again a lock that was held while its server died.
+    The room says both numbers, by the kind of the keys: 8 and 10 for registers; no limit and 64 for sets; 8 and 12 for locks; else 3
+    and 6. Operations that have timed out count as open, except those of registers and sets that are not judged by ends.
+
+    Use queues in the same way: enqueue at write_key, and dequeue at read_key. Each operation of a lock is a change: acquire at write_key, so
+    that clients try again a lock that was held while its server died.
     """
 
-    def __init__(self, monitor: Monitor, count: int = 1, limit: int = 3, first: int = 0, most: int = 6) -> None:
-        if count < 1 or limit < 1 or most < 1:
+    def __init__(self, monitor: Monitor, count: int = 1, limit: Optional[int] = None, first: int = 0, most: Optional[int] = None,
+                 room: Room = BY_ENDS) -> None:
+        if count < 1 or not (limit is None or limit >= 1) or not (most is None or most >= 1):
             raise ValueError(f"count, limit and most are numbers from 1 on, not {count}, {limit} and {most}")
         key_of(first)
         key_of(first + count - 1)
-        self._monitor, self._limit, self._most, self._first = monitor, limit, most, first
+        self._room = room._replace(timeouts=room.timeouts if limit is None else limit, most=room.most if most is None else most)
+        self._monitor, self._first = monitor, first
         self._lock = threading.Lock()
         self._draws = random.Random(first)  # where the caller brings none
         self._open = list(range(first, first + count))  # to writes
@@ -46,7 +52,7 @@ class Keys:
         """One of the `count` keys that are open to writes."""
         with self._lock:
             for place, key in enumerate(self._open):
-                if key in self._monitor.set_aside or self._monitor.timeouts(key) >= self._limit:
+                if key in self._monitor.set_aside or self._room.is_left(self._monitor.timeouts(key)):
                     self._leave(place)
             return self._drawn(self._open, draws or self._draws)
 
@@ -68,12 +74,9 @@ class Keys:
         """One of the keys, with room if possible."""
         for _ in range(TRIES):
             key = keys[draws.randrange(len(keys))]
-            if self._monitor.pending(key) == 0 or self._at_once(key) < self._most:
+            if self._room.holds(self._monitor.pending(key), self._monitor.timeouts(key)):
                 return key
-        return min(keys, key=self._at_once)
-
-    def _at_once(self, key: int) -> int:
-        return self._monitor.pending(key) + self._monitor.timeouts(key)
+        return min(keys, key=lambda key: self._room.at_once(self._monitor.pending(key), self._monitor.timeouts(key)))
 
     def _judged(self, keys: List[int]) -> List[int]:
         dropped = self._monitor.set_aside
@@ -81,7 +84,7 @@ class Keys:
 
     def _leave(self, place: int) -> None:
         if self._next not in KEYS:
-            raise ValueError(f"each key from {self._first} to {KEYS.stop - 1} has had {self._limit} timeouts: no new one is left")
+            raise ValueError(f"each key from {self._first} to {KEYS.stop - 1} has had {self._room.timeouts} timeouts: no new one is left")
         self._left.append(self._open[place])
         self._open[place] = self._next
         self._next += 1

@@ -42,6 +42,7 @@ from .numbered import Numbers
 from .operation import Operation
 from .outcome_rules import Exceptions, endings
 from .record import Record
+from .room import room_of
 from .run_folder import RunFolder, new_folder
 from .sender import Telling, test_unknown
 from .values import NONE, integer, key_of, missing, told
@@ -148,11 +149,11 @@ class Monitor(LiveTest):
 
     # --- Keys ---
 
-    def keys(self, count: int = 1, limit: int = 3, first: int = 0, most: int = 6) -> Keys:
+    def keys(self, count: int = 1, limit: Optional[int] = None, first: int = 0, most: Optional[int] = None, model: Optional[str] = None) -> Keys:
         """Gives the keys of a test with timeouts, from `first` on. `count` of them are open to writes at a time. Writes leave a key after
         `limit` of its operations have timed out, and reads stay on all keys. If possible, at most `most` operations of a key are
-        open or timed out at once (see Keys)."""
-        return Keys(self, count, limit, first, most)
+        open at once. Keys has the defaults, by the model of these keys, which is that of the monitor if none is named."""
+        return Keys(self, count, limit, first, most, room_of(self._telling.kind(model)))
 
     # --- What is said of a key ---
 

@@ -58,6 +58,10 @@ class Telling:
     def is_closed(self) -> bool:
         return self.verdict is not None
 
+    def kind(self, model: Optional[str]) -> str:
+        """The kind by which keys of this model are judged, or those of which no model was named."""
+        return self._exchange.kind(model)
+
     # --- Operations ---
 
     def settle(self, number: int) -> None:

@@ -3,7 +3,6 @@ from __future__ import annotations
 
 from typing import TYPE_CHECKING, List, Optional
 
-from .limits import Room
 from .objects import LongObject, Operations
 
 if TYPE_CHECKING:
@@ -17,9 +16,9 @@ class Handle(Operations):
     reads alone; and a dequeue to one that was, until it was found empty twice. Where each object has its operations open already, a new
     one comes beside them."""
 
-    def __init__(self, parts: Parts, model: str, room: Room) -> None:
+    def __init__(self, parts: Parts, model: str, changes: Optional[int]) -> None:
         self.model = model
-        self._parts, self._room = parts, room
+        self._parts, self._changes = parts, changes
         self._current: List[LongObject] = []
         self._replaced: List[LongObject] = []  # that are read once more
 
@@ -63,6 +62,6 @@ class Handle(Operations):
         return next((one for one in objects[place:] + objects[:place] if one.has_room), None)
 
     def _new(self) -> LongObject:
-        one = self._parts.new_object(self, self._room)
+        one = self._parts.new_object(self, self._changes)
         self._current.append(one)
         return one

@@ -1,4 +1,4 @@
-"""How much of one program a test without an end uses, and how much of one object."""
+"""How much of one program a test without an end uses."""
 from __future__ import annotations
 
 from typing import NamedTuple, Optional
@@ -26,14 +26,6 @@ class Limits(NamedTuple):
         return max(1, self.threads // 4 * 3)
 
 
-class Room(NamedTuple):
-    """Of one object, for the default budget (docs/guide/BUDGETS.md)."""
-
-    timeouts: int  # after so many operations that timed out, and may yet take place, it is written to no more
-    at_once: int  # operations that are open, or have timed out
-    changes: Optional[int]  # after so many it is replaced
-
-
 def limits(events: int, keys: int, threads: int) -> Limits:
     for name, given, most in (("events", events, MOST_EVENTS), ("keys", keys, len(kinds.KEYS)), ("concurrency", threads, kinds.THREADS)):
         if isinstance(given, bool) or not isinstance(given, int) or not 1 <= given <= most:
@@ -41,7 +33,8 @@ def limits(events: int, keys: int, threads: int) -> Limits:
     return Limits(events, keys, threads)
 
 
-def room(model: str, changes: Optional[int]) -> Room:
+def changes_of(changes: Optional[int]) -> Optional[int]:
+    """A number of changes, after which an object is replaced."""
     if changes is not None and changes < 1:
         raise ValueError(f"changes is a number from 1 on, not {changes}")
-    return Room(8, 12, changes) if model == "mutex" else Room(3, 6, changes)
+    return changes

@@ -37,7 +37,7 @@ from ..live.values import NONE, missing
 from ..live.verdicts import Unknown
 from .folder import LongFolder
 from .handle import Handle
-from .limits import limits, room
+from .limits import changes_of, limits
 from .parts import Parts
 from .settings import Settings
 from .tally import add_counts
@@ -103,7 +103,7 @@ class LongMonitor(LiveTest):
         model = self._model if model is None else model_of(model)
         if model not in MODELS:
             raise ValueError(f"a model is one of {', '.join(MODELS)}, not {model!r}")
-        return Handle(self._parts, model, room(model, changes))
+        return Handle(self._parts, model, changes_of(changes))
 
     # --- What has come of it ---
 

@@ -4,8 +4,8 @@ from __future__ import annotations
 from typing import TYPE_CHECKING, Optional
 
 from ..history.kinds import QUEUES
+from ..live.room import room_of
 from ..live.values import integer, told
-from .limits import Room
 
 if TYPE_CHECKING:
     from .operation import LongOperation
@@ -58,11 +58,11 @@ class LongObject(Operations):
     """An object, as long as it is judged. A handle chooses among some; what belongs together is done with one of them: the release of
     a lock with the object of its acquire, a cas with that of the read before it. The numbers change under the lock of the test."""
 
-    def __init__(self, parts: Parts, part: Part, key: int, name: str, model: str, room: Room) -> None:
+    def __init__(self, parts: Parts, part: Part, key: int, name: str, model: str, changes: Optional[int]) -> None:
         self.part, self.key, self.name, self.model = part, key, name, model
         self.open = 0  # operations
         self.timeouts = 0  # operations that may yet take place
-        self._parts, self._room = parts, room
+        self._parts, self._room, self._most_changes = parts, room_of(part.kind(model)), changes
         self._answers = 0  # since it was replaced
         self._changes = 0
         self._held = 0  # how often a lock was taken, and not given back yet
@@ -89,8 +89,8 @@ class LongObject(Operations):
     @property
     def is_replaced(self) -> bool:
         """Whether it is written to no more."""
-        has_enough = self._room.changes is not None and self._changes >= self._room.changes
-        return has_enough or self.part.is_retired or self.timeouts >= self._room.timeouts or self.is_over
+        has_enough = self._most_changes is not None and self._changes >= self._most_changes
+        return has_enough or self.part.is_retired or self._room.is_left(self.timeouts) or self.is_over
 
     @property
     def is_read_enough(self) -> bool:
@@ -107,7 +107,7 @@ class LongObject(Operations):
     @property
     def has_room(self) -> bool:
         """For an operation of a handle."""
-        return self.part.has_room and (self.open == 0 or self.open + self.timeouts < self._room.at_once)
+        return self.part.has_room and self._room.holds(self.open, self.timeouts)
 
     def ended(self, name: str, outcome: Optional[str], is_answered: bool) -> None:
         """An operation of it has ended so: a dequeue that failed with an answer has found it empty."""

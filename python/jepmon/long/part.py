@@ -41,6 +41,10 @@ class Part:
         self.is_retired = False
         self.is_shut = False
 
+    def kind(self, model: str) -> str:
+        """The kind by which it judges objects of the model."""
+        return self.telling.kind(model) if self.telling is not None else model
+
     @property
     def name(self) -> str:
         return f"part-{self.number:04}"

@@ -16,7 +16,7 @@ from ..live.values import Missing
 from ..live.verdicts import NotLegal, Refused
 from .folder import LongFolder
 from .handle import Handle
-from .limits import Limits, Room
+from .limits import Limits
 from .objects import LongObject
 from .part import Part
 from .settings import Settings
@@ -138,12 +138,12 @@ class Parts:
 
     # --- Objects ---
 
-    def new_object(self, maker: Handle, room: Room) -> LongObject:
-        """The caller has the lock."""
+    def new_object(self, maker: Handle, changes: Optional[int]) -> LongObject:
+        """An object that is replaced after so many changes. The caller has the lock."""
         for current in list(self._current):
             self._test(current)
         part = next(filter(lambda current: current.has_room, self._current), None) or self._part()
-        one = LongObject(self, part, len(part.objects), f"{self._settings.names}{self._made}", maker.model, room)
+        one = LongObject(self, part, len(part.objects), f"{self._settings.names}{self._made}", maker.model, changes)
         try:
             part.add(one, maker)
         except NotLegal:

@@ -1,0 +1,41 @@
+//! Laws of the ends of registers with compare and set.
+ghost use Rattle.std.specs.Prelude.{◌≡◌, ◌↔◌, ℕ, ◌<◌, List, ◌∷◌, ◌++◌, [], length};
+ghost use Rattle.std.specs.List.{Contains};
+ghost use Rattle.models.specs.Objects.{cas_register};
+ghost use Rattle.events.specs.Events.{Mark, Entry, marks, IsFront};
+ghost use Rattle.linspec.specs.MarkRule.{AreWellFormed};
+ghost use Rattle.linspec.specs.Orders.{IsLinearizable};
+ghost use Rattle.linspec.specs.Verdicts.{EndsShortestBadFront};
+ghost use Rattle.linspec.specs.LeanEnds.{LeanEnd};
+ghost use Rattle.cas_ends.specs.CasEnds.{IsCasEnd, AreCasEnds, Front, AreFronts, HasMoreFronts};
+
+/// A history of a register with compare and set is linearizable exactly if it has an end. Nothing is lost if ends that are at most another one
+/// are left out at each event.
+pub fn ends_law()
+    ensures some { (marks : List Mark) → AreWellFormed marks
+        → IsLinearizable cas_register marks ↔ ((e : LeanEnd) × IsCasEnd marks e) }
+    ensures left { (marks : List Mark) (ends : List LeanEnd) → AreWellFormed marks → AreCasEnds marks ends
+        → IsLinearizable cas_register marks ↔ ((e : LeanEnd) × Contains ends e) }
+{}
+
+/// The number of ends of a history, and that of their fronts, do not depend on how they are found, and a history with more fronts than n is
+/// linearizable.
+pub fn count_law()
+    ensures ends { (marks : List Mark) (ends others : List LeanEnd) → AreCasEnds marks ends → AreCasEnds marks others
+        → length ends ≡ length others }
+    ensures fronts { (marks : List Mark) (ends others : List LeanEnd) (fronts these : List Front) → AreCasEnds marks ends
+        → AreCasEnds marks others → AreFronts marks ends fronts → AreFronts marks others these
+        → length fronts ≡ length these }
+    ensures more { (marks : List Mark) (n : ℕ) (ends : List LeanEnd) (fronts : List Front) → AreCasEnds marks ends
+        → AreFronts marks ends fronts → HasMoreFronts marks n → n < length fronts }
+    ensures order { (marks : List Mark) (n : ℕ) → HasMoreFronts marks n → IsLinearizable cas_register marks }
+{}
+
+/// The history of a register with compare and set becomes illegal at the event that leaves none of its ends.
+pub fn illegal_at_law()
+    ensures { (entries : List Entry) (last : Entry) → AreWellFormed (marks entries)
+        → EndsShortestBadFront cas_register entries last
+        ↔ ((before : List Entry) × IsFront (before ++ last ∷ []) entries
+        × ((e : LeanEnd) × IsCasEnd (marks before) e)
+        × (¬ ((e : LeanEnd) × IsCasEnd (marks (before ++ last ∷ [])) e))) }
+{}

@@ -1,0 +1,35 @@
+"""How many operations of one object a test has at once, so that the object stays below the default budget (docs/guide/BUDGETS.md)."""
+from __future__ import annotations
+
+from typing import Dict, NamedTuple, Optional
+
+from ..history.kinds import THREADS
+
+
+class Room(NamedTuple):
+    """Of one object."""
+
+    timeouts: Optional[int]  # after this many operations that timed out and may still take effect, writes leave it; None: never
+    most: int  # operations that are open at once
+    counts_timeouts: bool  # whether operations that timed out count as open
+
+    def is_left(self, timeouts: int) -> bool:
+        """Whether so many of its operations have timed out that writes leave it."""
+        return self.timeouts is not None and timeouts >= self.timeouts
+
+    def holds(self, pending: int, timeouts: int) -> bool:
+        """Whether one more operation may begin beside these: an object with none open is never full."""
+        return pending == 0 or self.at_once(pending, timeouts) < self.most
+
+    def at_once(self, pending: int, timeouts: int) -> int:
+        return pending + timeouts if self.counts_timeouts else pending
+
+
+BY_ENDS = Room(3, 6, True)  # of each model that is judged by ends, but for
+LOCKS = Room(8, 12, True)  # whose operations bring few ends
+WIDE: Dict[str, Room] = {"wide-register": Room(8, 10, False), "wide-set": Room(None, THREADS, False)}
+
+
+def room_of(kind: str) -> Room:
+    """The room of an object of this kind of the program."""
+    return LOCKS if kind == "mutex" else WIDE.get(kind, BY_ENDS)
