@@ -1,5 +1,5 @@
 #!/usr/bin/env python3
-"""Measures the libraries of clients/: `clients.py [NAME..]`, all of them if none is named: program, go, java, rust, python.
+"""Measures the libraries of clients/: `clients.py [NAME..]`, all of them if none is named: program, go, java, rust, c, erlang, python.
 
 Threads write and read registers of their own, each write and its read on the next of 64 keys, against no store at all. The table has
 thousands of events a second (two events are an operation) with 1, 5 and 50 threads, without waiting and with waiting: the median of the rounds.
@@ -100,6 +100,21 @@ def rust(room: pathlib.Path) -> Rate:
     return rate
 
 
+def c(room: pathlib.Path) -> Rate:
+    run(["cc", "-O2", "-pthread", "-o", str(room / "c-bench"), "bench.c"], CLIENTS / "c")
+    return lambda wait, threads, operations: found(r"(\d+) events a second", run([str(room / "c-bench"), str(int(wait)), str(threads), str(operations)], room))
+
+
+def erlang(room: pathlib.Path) -> Rate:
+    run(["erlc", "-o", str(room), "jepmon.erl", "jepmon_program.erl", "bench.erl"], CLIENTS / "erlang")
+
+    def rate(wait: bool, threads: int, operations: int) -> float:
+        call = f"bench:main([{str(wait).lower()}, {threads}, {operations}])."
+        return found(r"(\d+) events a second", run(["erl", "-noshell", "-pa", str(room), "-eval", call], room))
+
+    return rate
+
+
 def python(room: pathlib.Path) -> Rate:
     sys.path.insert(0, str(TOP / "python"))
     os.environ["JEPMON"] = ENVIRONMENT["JEPMON"]
@@ -125,7 +140,8 @@ def python(room: pathlib.Path) -> Rate:
     return rate
 
 
-LIBRARIES: Dict[str, Callable[[pathlib.Path], Rate]] = {"program": program, "go": go, "java": java, "rust": rust, "python": python}
+LIBRARIES: Dict[str, Callable[[pathlib.Path], Rate]] = {"program": program, "go": go, "java": java, "rust": rust, "c": c, "erlang": erlang,
+                                                       "python": python}
 # Whether events wait: those of Python's Monitor always do, and a file never does.
 WAYS: Dict[str, Tuple[bool, ...]] = {"program": (False,), "python": (True,)}
 
