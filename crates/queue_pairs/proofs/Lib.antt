@@ -11,3 +11,4 @@ pub mod Oks
 pub mod OkOfDequeue
 pub mod Quiet
 pub mod BadFronts
+mod Instances
