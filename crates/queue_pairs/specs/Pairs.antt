@@ -6,9 +6,12 @@ use Rattle.models.specs.declared.operation.Name.TheVariants.{Enqueue, Dequeue}
 use Rattle.models.specs.declared.operation.Part.TheVariants.{Nil, Int}
 use Rattle.models.specs.declared.operation.Op.{Op}
 use Rattle.models.specs.declared.finding.Answer.TheVariants.{Number}
+use Rattle.models.specs.Objects.{fifo_queue}
 use Rattle.events.specs.Events.{Mark, Entry, marks, IsFront}
 use Rattle.events.specs.Events.Mark.{Invoked, Returned, Failed}
 use Rattle.linspec.specs.Operations.{HasReturned, Precedes}
+use Rattle.linspec.specs.Orders.{IsLinearizable}
+use Rattle.linspec.specs.Ends.{Count}
 
 -- the operation enqueues v
 abbrev pub Enqueues : Op → ℤ → Type 0
@@ -99,6 +102,10 @@ TwinsAreLate marks = (a b : ℕ) (v : ℤ) → AreTwins marks a b v → IsLate m
 abbrev pub TwinsAreAlwaysLate : List Entry → Type 0
 TwinsAreAlwaysLate entries =
     (front : List Entry) → IsFront front entries → TwinsAreLate (marks front)
+
+-- more than any number is counted of a linearizable history that has twins
+abbrev pub CountsTwins : Count
+CountsTwins marks n = IsLinearizable fifo_queue marks × HasTwins marks
 
 -- u needs a taker once v is dequeued: it is another value, no dequeue has answered it, and it came in before v or is owed already
 abbrev pub IsOwedBeside : List Mark → ℤ → ℤ → Type 0
