@@ -74,8 +74,8 @@ pub fn twins_law()
         → ¬ HasTwins (marks ++ Returned id answer ∷ []) }
 {}
 
-/// The history of a queue becomes illegal at the event at which it stops being paired. This holds if twins were late after each event, and if no
-/// ok found the history linearizable with twins.
+/// The history of a queue becomes illegal at the event at which it stops being paired. This holds if twins were late after each event, and
+/// if no ok found the history linearizable with twins.
 pub fn illegal_at_law()
     ensures late { (entries : List Entry) (last : Entry) → AreWellFormed (marks entries)
         → TwinsAreAlwaysLate entries
