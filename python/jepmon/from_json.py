@@ -86,7 +86,7 @@ def _told(found: Recorded) -> Iterator[str]:
     """What standard error says of what was turned."""
     yield f"{found.form}: {found.facts.events} events"
     yield from found.notes
-    yield from found.account.told(not found.is_own)
+    yield from found.account.told()
     yield from outcomes(found.facts.outcomes)
     if found.key_names or found.value_names:
         yield "keys or values are numbered: comments at the end of the output tell what they are"

@@ -317,7 +317,7 @@ def said(found: Large, history: Asked, tally: Tally, verdict: Verdict, task: Tas
     yield (f"{found.name}: {form_of(found)}, {counted(tally.events, 'event')}, concurrency {task.options.concurrency:,}, "
            f"{counted(verdict.keys, 'key')}")
     yield from outcomes(tally.outcomes())
-    yield from history.account.told(history.made is not None)
+    yield from history.account.told()
     if not task.choice.is_guess:
         yield f"model {task.choice.common}, {task.choice.reason}"
 
