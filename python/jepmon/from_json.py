@@ -15,6 +15,7 @@ import sys
 from typing import Iterator, List, Optional
 
 from .forms import Refused, door, files, mapping_words, meant_words
+from .forms.look_alikes import account_for_types
 from .forms.recorded import Options, Recorded, recorded
 from .history.kinds import KEYS
 from .judge import models
@@ -42,6 +43,7 @@ def _turn(arguments: Optional[List[str]]) -> int:
     try:
         given = _given(arguments)
         found = _found(given)
+        account_for_types(found.key_names, found.value_names, given.values, found.account)
         for line in _told(found):
             command.say(NAME, line)
         if given.strict_input:
