@@ -12,7 +12,7 @@ from jepmon.program import has_wide_kinds
 
 KEY = 7
 CLIENTS = (5, 8, 12)
-SECONDS = 2.0  # for each; all of them together take a quarter of a minute
+SECONDS = 1.0  # for each
 PLANTED = 0.3  # seconds after which one read is stale
 PAUSE = 0.002  # seconds that the store takes at most, before and after an operation takes effect
 PATIENCE = 60.0  # seconds more for the stale read

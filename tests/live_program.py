@@ -64,7 +64,7 @@ def the_program_ends() -> None:
 
 def the_program_wants_memory() -> None:
     """It ends within the test, and what it says then is told, with what may be done."""
-    with another_program("ulimit -v 20000; exec $jepmon \"$@\"") as program:
+    with another_program("ulimit -v 10000; exec $jepmon \"$@\"") as program:
         monitor = Monitor(program)
 
         def fill() -> None:

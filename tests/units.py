@@ -13,7 +13,7 @@ from typing import List, Tuple
 
 TOP = pathlib.Path(__file__).resolve().parent.parent
 TESTS = TOP / "tests" / "python"
-TYPED = ["python/jepmon", "python/build"]  # each by itself
+TYPED = ["python/jepmon", "python/build"]
 LIMIT = 600  # seconds for mypy
 
 
@@ -34,19 +34,19 @@ def run_tests(names: List[str]) -> Tuple[int, int, int]:
     return max(result.testsRun - failed - skipped, 0), failed, skipped
 
 
-def run_mypy(folder: str) -> Tuple[int, int, int]:
+def run_mypy() -> Tuple[int, int, int]:
     mypy = shutil.which("mypy")
     if mypy is None:
-        print(f"skipped: the types of {folder}: mypy is not installed")
+        print(f"skipped: the types of {' and '.join(TYPED)}: mypy is not installed")
         return 0, 0, 1
-    ran = subprocess.run([mypy, "--strict", "--no-incremental", folder], cwd=TOP, timeout=LIMIT)
+    ran = subprocess.run([mypy, "--strict", "--no-incremental", *TYPED], cwd=TOP, timeout=LIMIT)
     return int(ran.returncode == 0), int(ran.returncode != 0), 0
 
 
 def main(names: List[str]) -> int:
     os.chdir(TOP)
     sys.path[0] = str(TOP)  # in the place of this folder, whose scripts are no modules
-    counts = [run_tests(names)] + ([] if names else [run_mypy(folder) for folder in TYPED])
+    counts = [run_tests(names)] + ([] if names else [run_mypy()])
     passed, failed, skipped = (sum(count) for count in zip(*counts))
     print(f"{passed} passed, {failed} failed" + (f", {skipped} skipped" if skipped else ""))
     return 1 if failed else 0

@@ -15,6 +15,7 @@ import sys
 from typing import Iterator, List, Optional
 
 from .forms import Refused, door, files, mapping_words, meant_words
+from .forms.look_alikes import account_for_types
 from .forms.recorded import Options, Recorded, recorded
 from .history.kinds import KEYS
 from .judge import models
@@ -42,6 +43,7 @@ def _turn(arguments: Optional[List[str]]) -> int:
     try:
         given = _given(arguments)
         found = _found(given)
+        account_for_types(found.key_names, found.value_names, given.values, found.account)
         for line in _told(found):
             command.say(NAME, line)
         if given.strict_input:
@@ -86,7 +88,7 @@ def _told(found: Recorded) -> Iterator[str]:
     """What standard error says of what was turned."""
     yield f"{found.form}: {found.facts.events} events"
     yield from found.notes
-    yield from found.account.told(not found.is_own)
+    yield from found.account.told()
     yield from outcomes(found.facts.outcomes)
     if found.key_names or found.value_names:
         yield "keys or values are numbered: comments at the end of the output tell what they are"

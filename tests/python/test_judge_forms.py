@@ -31,6 +31,10 @@ class Forms(unittest.TestCase):
         for text in ("hello", "legal\nlegal\n", "key 7 model register\n", "a,b\n1,2\n", "<html>", "%PDF-1.4"):
             with self.subTest(text=text), self.assertRaises(Refused):
                 detect.form_of(text)
+        for text, reason in (("---\n- op: read\n", "YAML"), ("- op: read\n  key: x\n", "YAML"),
+                             ("[2026-05-04T10:00:00.1+00:00] kv.INFO: read\n", "--mapping"), ("[04/May/2026:10:00:00 +0000] read x\n", "--mapping")):
+            with self.subTest(text=text), self.assertRaisesRegex(Refused, reason):
+                detect.form_of(text)
 
 
 class Lines(unittest.TestCase):

@@ -5,8 +5,8 @@ import json
 import unittest
 from typing import Any, List, Tuple
 
+from jepmon.forms.look_alikes import alike
 from jepmon.from_jepsen.meant import Meant
-from jepmon.judge.doubts import alike
 
 from .test_judge_results import Judged
 
@@ -109,6 +109,21 @@ class Values(Judged):
             for values in ("exact", "text", "number"):
                 with self.subTest(first=first, values=values):
                     self.assertEqual(self.status("".join(json.dumps(row) + "\n" for row in rows), "--values", values), 0)
+
+    def test_a_set_of_lists_and_maps(self) -> None:
+        def status(added: object, found: object, way: str) -> int:
+            rows = [{"client": 0, "op": "add", "key": 1, "value": added, "start": 1, "end": 2},
+                    {"client": 0, "op": "read", "key": 1, "result": [found], "start": 3, "end": 4}]
+            return self.status("".join(json.dumps(row) + "\n" for row in rows), "--values", way, "--model", "set")
+
+        for value in ([1, 2], ["1", 2.0], {"a": 1}, {"a": "1", "b": [True]}, [[1], {"b": [" x"]}]):
+            for way in ("exact", "text", "number"):
+                with self.subTest(value=value, values=way):
+                    self.assertEqual(status(value, value, way), 0)
+        for added, found, right in (([1, 2], ["1", 2], [1, 0, 0]), ([1], [1.0], [1, 1, 0]), ({"a": [1]}, {"a": ["1"]}, [1, 0, 0]), ([1, 2], [2, 1], [1, 1, 1]),
+                                    ([1, 2], "[1, 2]", [1, 0, 0]), ([1], 1, [1, 1, 1]), ({"a": 1}, {"a": True}, [1, 1, 0])):
+            with self.subTest(added=added, found=found):
+                self.assertEqual([status(added, found, way) for way in ("exact", "text", "number")], right)
 
     def test_groups(self) -> None:
         self.assertEqual(alike({0: "1", 1: '"1"', 2: "1.0", 3: '"a"', 4: '" a"', 5: "2", 6: "true", 7: ":a"}),

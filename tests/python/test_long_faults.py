@@ -18,7 +18,7 @@ from jepmon.long.part import Part
 from tests.python.monitored import Monitored
 
 TOP = pathlib.Path(__file__).resolve().parents[2]
-EVENTS = int(os.environ.get("JEPMON_LONG_EVENTS", "300000"))  # of the test of memory
+EVENTS = int(os.environ.get("JEPMON_LONG_EVENTS", "150000"))  # of the test of memory
 
 FULL = """
 import resource, sys
@@ -217,7 +217,7 @@ class Memory(Monitored):
             self.assertTrue(held.object.is_over, "a client may hold an object, which keeps none of it")
 
     def test_memory_is_flat(self) -> None:
-        """Over hundreds of programs, with objects that are dropped and operations that time out."""
+        """Over scores of programs, with objects that are dropped and operations that time out."""
         store: Dict[str, int] = {}
         taken: List[int] = []
         with LongMonitor(self.program, events=2000, budget=7, by_ends=True, expected=(TimeoutError,), unknown="drop",

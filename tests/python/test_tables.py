@@ -1,4 +1,4 @@
-"""Tables of psql and mysql, and Chrome's trace events: as rows, and what of them is refused."""
+"""Tables of psql, mysql and DuckDB, and Chrome's trace events: as rows, and what of them is refused."""
 from __future__ import annotations
 
 import json
@@ -22,6 +22,16 @@ MYSQL = """+--------+-------+-----+-------+-------+------+
 +--------+-------+-----+-------+-------+------+
 2 rows in set (0.00 sec)
 """
+DUCKDB = """┌────────┬─────────┬─────────┬───────┬───────┬───────┐
+│ client │   op    │   key   │ value │ start │  end  │
+│ int64  │ varchar │ varchar │ int64 │ int64 │ int64 │
+├────────┼─────────┼─────────┼───────┼───────┼───────┤
+│      0 │ write   │ x       │     1 │     1 │     2 │
+│      1 │ read    │ x       │     1 │     3 │     4 │
+├────────┴─────────┴─────────┴───────┴───────┴───────┤
+│ 2 rows                                   6 columns │
+└────────────────────────────────────────────────────┘
+"""
 WANT = ["invoke 0 write [0 1]", "ok 0 write [0 1]", "invoke 1 read [0 nil]", "ok 1 read [0 1]"]
 
 
@@ -33,7 +43,8 @@ def trace(**fields: Any) -> Dict[str, Any]:
 class Tables(Case):
     def test_rows(self) -> None:
         for text, skipped in ((PSQL, {"the heading": 1, "rulers of the table": 1, "counts of its rows": 1, "blank": 1}),
-                              (MYSQL, {"the heading": 1, "rulers of the table": 3, "counts of its rows": 1})):
+                              (MYSQL, {"the heading": 1, "rulers of the table": 3, "counts of its rows": 1}),
+                              (DUCKDB, {"the heading": 1, "types of its columns": 1, "rulers of the table": 4, "counts of its rows": 1})):
             self.assertEqual(events(text), WANT)
             account = made(text).account
             self.assertEqual((account.lines, account.taken, dict(account.skipped)), (text.count("\n"), 2, skipped))
@@ -41,11 +52,15 @@ class Tables(Case):
     def test_empty_cells_hold_nothing(self) -> None:
         self.assertEqual(events(PSQL.replace("|     1 |     3", "|       |     3"))[-1], "ok 1 read [0 nil]")
         self.assertEqual(events(MYSQL.replace("|     1 |     3", "|  NULL |     3"))[-1], "ok 1 read [0 nil]")
+        self.assertEqual(events(DUCKDB.replace("│     1 │     3", "│  NULL │     3"))[-1], "ok 1 read [0 nil]")
 
     def test_what_is_refused(self) -> None:
         self.refused(PSQL.replace("x   |     1 |     3", "x|y |     1 |     3"), "line 4: it has 7 cells for 6 columns: does a cell hold a bar?")
         self.refused(PSQL.replace("| x   |     1 |     3", "| x  +|     1 |     3"), "line 4: a cell of this table has several lines")
         self.refused(PSQL + PSQL, "line 7: more follows the table")
+        self.refused(DUCKDB + "done\n", "line 10: more follows the table")
+        left_out = "│   ·    │    ·    │    ·    │   ·   │   ·   │   ·   │\n"
+        self.refused(DUCKDB.replace("│      1 │ read", left_out + "│      1 │ read"), "line 6: rows are left out of this table")
         self.refused(PSQL.replace("| key |", "| op  |"), "two columns are called 'op'")
         self.refused(PSQL[:-len("(2 rows)\n\n") - 1], "line 4: the last line has no line feed")
 

@@ -159,7 +159,7 @@ class WrongRegister(InThisProcess):
 
 
 class Works(Monitored):
-    def ran(self, server: Type[Server], model: str, seconds: float = 2.0, keep: Optional[int] = None, clients: int = 5,
+    def ran(self, server: Type[Server], model: str, seconds: float = 1.0, keep: Optional[int] = None, clients: int = 5,
             parts: int = 1) -> Outcome:
         """A run of so many seconds; of more, if the machine is so busy that it then has no verdict, or fewer parts than these."""
         for longer in (1, 4, 16):
@@ -198,7 +198,7 @@ class Works(Monitored):
     def test_one_client(self) -> None:
         for model in InThisProcess.objects:
             with self.subTest(model):
-                self.assertEqual(self.ran(InThisProcess, model, 0.5, clients=1).verdict, "legal")
+                self.assertEqual(self.ran(InThisProcess, model, 0.3, clients=1).verdict, "legal")
 
     def test_a_queue_is_drained_at_the_end(self) -> None:
         self.ran(InThisProcess, "fifo-queue")

@@ -6,8 +6,6 @@ import io
 import json
 import os
 import pathlib
-import subprocess
-import sys
 import tempfile
 import unittest
 from typing import List
@@ -20,6 +18,7 @@ from jepmon.judge import tool as judge
 from jepmon.objects import configurations as walk
 from jepmon.program import KeyLine, Options, finding
 
+from .. import forked
 from . import TOP, fuzz, stores
 from .monitored import Monitored
 
@@ -183,8 +182,7 @@ class Judging(unittest.TestCase):
                 self.assertEqual(report, f"key 7 model {kind} budget 4096 events 6 status dead 5\nillegal key 7 index 5\n")
 
     def run_shards(self, *words: str) -> str:
-        ran = subprocess.run([sys.executable, "-m", "jepmon", "shards", *words], stdout=subprocess.PIPE, stderr=subprocess.PIPE,
-                             env={**os.environ, "PYTHONPATH": str(TOP / "python")}, check=False)
+        ran = forked.ran(["-m", "jepmon", "shards", *words])
         self.assertIn(ran.returncode, (0, 1), ran.stderr)
         return ran.stdout.decode()
 

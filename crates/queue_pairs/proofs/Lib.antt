@@ -10,4 +10,6 @@ pub mod Legal
 pub mod Oks
 pub mod OkOfDequeue
 pub mod Quiet
+pub mod Budgets
 pub mod BadFronts
+mod Instances

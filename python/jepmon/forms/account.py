@@ -108,9 +108,9 @@ class Account:
         for name in other.fields:
             self.field(name)
 
-    def told(self, with_lines: bool = True) -> Iterator[str]:
+    def told(self) -> Iterator[str]:
         """What is said of the lines, and of each guess."""
-        if self.skipped and with_lines:
+        if self.skipped:
             reasons = ", ".join(f"{count} {reason}" for reason, count in self.skipped.items())
             yield f"{self.lines} lines, {self.taken} of events; skipped: {reasons}"
         if self.fields:

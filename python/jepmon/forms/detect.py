@@ -13,7 +13,9 @@ OBJECT = re.compile(r'[\[{][\s\[{]*"(?:[^"\\]|\\.)*"\s*:[^A-Za-z]')
 EDN_BEHIND = re.compile(r"[\s,;]*[({\[#][\s{\[]*[:#;]")
 REPR = re.compile(r"[\[({][\s\[({]*'[^'\n]*'\s*:")
 COLUMNS = re.compile(r"(?:(?:\"\")?[,;\t])?[A-Za-z_ .\"'-][A-Za-z0-9_ .\"'()+-]*([,;\t][A-Za-z_ .\"'-][A-Za-z0-9_ .\"'()+-]*){2,}\s*$")
-LABEL = re.compile(r"\[[A-Za-z0-9_ -]*[A-Za-z][A-Za-z0-9_ -]*\](?=[ ,\t]+[^\s\]}])")  # before a line of a log
+# Before a line of a log: a word in brackets, or a time.
+LABEL = re.compile(r"\[(?:[A-Za-z0-9_ -]*[A-Za-z][A-Za-z0-9_ -]*|[0-9][0-9A-Za-z.,/ :+-]*[0-9]:[0-9][0-9A-Za-z.,/ :+-]*)\](?=[ ,\t]+[^\s\]}])")
+YAML = re.compile(r"---[ \t]*\r?\n|- *[A-Za-z_][A-Za-z0-9_]*:[ \r\n]")
 CELLS = re.compile(r"\"?-?[0-9][0-9.TZ:+ -]*\"?([,;\t][^,;\t\n]*){3,}$")  # CSV without the names of columns, whose first cell is a time
 EMPTY = re.compile(r"[\s,]*[\[(][\s,]*[\])][\s,]*")
 FRONT = 200_000  # characters within which a log's first event is looked for
@@ -42,6 +44,8 @@ def form_of(text: str) -> str:
         return LOGFMT
     if tables.FRONT.match(text, begin):
         return TABLE
+    if YAML.match(text, begin):
+        raise Refused("this is YAML: let the test print JSON, or turn it into JSON")
     shown = text[begin:begin + 60].split("\n", 1)[0]
     raise Refused(f"this is no form of a history that is known: it begins with {shown!r}; --mapping FILE reads the lines of a log by a "
                   "regular expression")

@@ -1,6 +1,7 @@
 """What a row says: it is an event, or an operation with the times of its call and its return."""
 from __future__ import annotations
 
+import re
 from typing import Any, Dict, List, NamedTuple, Optional, Tuple
 
 from ..history.kinds import ANSWERED
@@ -15,6 +16,8 @@ from .vocabulary import OF_STACKS, both_of, plain
 from .written import MISSING, element
 
 __all__ = ["ANSWERED", "MISSING", "Reader", "Told"]
+
+ROW = re.compile(r'\s*(?:\{\s*"|[\w.]+=\S+\s+[\w.]+=\S)')  # how a text begins that is a row of JSON or of logfmt
 
 
 class Told(NamedTuple):
@@ -50,6 +53,7 @@ class Reader:
         self._words: Dict[Any, str] = {}  # the operations by their words
         self._key_parts: Optional[List[str]] = None  # the fields that are the key, if the user names them
         self.last_index = -1  # that an event states
+        self._bare: Optional[Row] = None  # the first row that tells of no operation
         self._by_duration: Optional[bool] = None  # whether returns are calls and durations
 
     def told(self, row: Row) -> Optional[Told]:
@@ -58,6 +62,7 @@ class Reader:
         shape, fields = self.shapes.of(line, row.fields)
         uses = shape.uses
         if shape.is_bare and self.kind(self._one(line, "type", uses, fields)[1]) is None:
+            self._bare = self._bare or row
             return None
         call = self._one(line, "call", uses, fields)
         word, said = self._one(line, "type", uses, fields), self._one(line, "f", uses, fields)[1]
@@ -225,12 +230,19 @@ class Reader:
 
     def refuse_bare(self) -> None:
         """Refuses rows that all tell of no operation."""
-        raise Refused(f"no row names a client, an operation, a key or a value; {_listed(self.shapes.names())}")
+        held = _held(self._bare.fields) if self._bare is not None else ""
+        raise Refused(f"no row names a client, an operation, a key or a value; {held}{_listed(self.shapes.names())}")
 
     def refuse_no_kind(self, told: Told) -> None:
         """Refuses an event without a type."""
         raise Refused(f"line {told.line}: this event has no type (invoke, ok, fail or info), and no times of a call and a return; "
                       f"it says {', '.join(f'{shown(name)}: {short(field)}' for name, field in told.fields.items())}; {_listed(list(told.fields))}")
+
+
+def _held(fields: Fields) -> str:
+    """Names a field whose texts are rows, as a log of a container has what was printed."""
+    name = next((name for name, field in fields.items() if type(field) is str and ROW.match(field)), None)
+    return "" if name is None else f"the texts of {shown(name)} look like rows: take them out first, as jq -r .{shown(name)} FILE does; "
 
 
 def _listed(names: List[str]) -> str:

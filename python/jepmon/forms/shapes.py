@@ -34,7 +34,7 @@ class Shape:
         self.names = names
         self.count = 0  # rows that have it
         self.uses: Dict[str, List[Use]] = {}
-        self.unknown: List[str] = []
+        self.unknown: List[str] = []  # names that are not known, or of a key that is not the one that the user names
         self.passed: List[str] = []  # known names of a meaning for which the user names other fields
         mapped = {mapping.fields[plain(name)].meaning for name in names if plain(name) in mapping.fields}
         for name in names:
@@ -42,7 +42,8 @@ class Shape:
             if slot is not None and (slot.meaning not in mapped or plain(name) in mapping.fields):
                 self.uses.setdefault(slot.meaning, []).append(Use(name, slot))
             elif plain(name) not in mapping.ignored:
-                (self.unknown if slot is None else self.passed).append(name)
+                is_other_key = slot is not None and slot.meaning == "key"  # which may be a part of it
+                (self.unknown if slot is None or is_other_key else self.passed).append(name)
         self.is_bare = not SAYS & set(self.uses)
         self.key_parts = sorted(use.name for use in self.uses.get("key", ())) if "key" in mapped else []  # if the user names them
         for uses in self.uses.values():

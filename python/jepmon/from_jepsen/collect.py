@@ -41,6 +41,7 @@ class Collector:
         self.clients, self.outcomes, self.apart = Clients(), Outcomes(asked.outcomes), Apart(asked.ignored)
         self.open: Dict[int, Row] = {}
         self.history = History(Spool())
+        self.history.meant = asked.meant
         self.known: Dict[Tuple[str, str, Value], Tuple[Value, Value]] = {}  # the key and part of values that came, by :type and :f
         self.nil_fault: Optional[Refusal] = None  # the first write of nil
         self.has_false = False  # whether false was put into a queue

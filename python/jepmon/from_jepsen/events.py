@@ -6,6 +6,7 @@ from typing import Any, Counter, Dict, Iterator, List, NamedTuple, Optional, Pro
 
 from ..edn import Many, Value, fields_of, integer
 from ..history.process_lives import Lives
+from .meant import Meant
 
 PLAIN = range(-10**18 + 1, 10**18)  # integers that are values of jepmon, and none of the least
 
@@ -93,6 +94,7 @@ class History:
         self.clients: Dict[int, str] = {}  # the names of clients by their numbers, if they have names
         self.nil_fault: Optional[Exception] = None  # the first write of nil, which is refused unless nil is what a missing key answers
         self.is_of_rows = False  # whether it was made of rows, whose events have no index of their own
+        self.meant = Meant()  # which values are one
         self.is_plain = True  # whether the part of each event is nil, or one or more plain integers
         self._begun: Set[int] = set()  # the processes that have begun, and have not crashed
         self._open = 0

@@ -5,7 +5,7 @@ import json
 import re
 from typing import FrozenSet, NamedTuple
 
-from ..edn import Many, Value, integer, spelling, string
+from ..edn import Many, Value, canonical, integer, spelling, string
 from .numbering import NUMBER
 
 EXACT, TEXT, NUMBERS = "exact", "text", "number"
@@ -44,14 +44,15 @@ class Meant(NamedTuple):
         return self.alike(value)
 
     def alike(self, value: Value) -> Value:
-        """The value that stands for all which are one with it: of a list its text."""
+        """The value that stands for all which are one with it: of a list its text, of a map or a set that of its members."""
         if self.values == EXACT or value == "nil" or isinstance(value, str) and value.startswith(":"):
             return value
         text = (text_of(value) if isinstance(value, str) else spelling(value)).strip()
         if text.startswith(("[", "(")):
-            return json.dumps(" ".join(WORD.findall(text)), ensure_ascii=False)
+            words = WORD.findall(text)
+            return json.dumps(f"[{' '.join(map(number_of, words) if self.values == NUMBERS else words)}]", ensure_ascii=False)
         if not isinstance(value, str):
-            return value
+            return canonical(Many(value.opened, tuple(map(self.alike, value.members))))
         if self.values == NUMBERS:
             text = number_of(text)
         return text if integer(text) is not None and text == str(integer(text)) else json.dumps(text, ensure_ascii=False)

@@ -1,7 +1,7 @@
 """Numbers for keys and values that are no integers within jepmon's limits."""
 from __future__ import annotations
 
-from typing import Callable, Dict, Iterable, Iterator, List, Set
+from typing import Callable, Dict, Iterable, Iterator, List, Optional, Set
 
 from ..edn import Value, integer, shown
 
@@ -10,16 +10,19 @@ NUMBER = r"[+-]?[0-9]{1,100}(\.[0-9]{0,100})?([eE][+-]?[0-9]{1,3})?[MN]?"
 
 
 class Numbering:
-    """Integers stay as they are where all of them are within the limits; else each thing gets a number at first sight."""
+    """Integers stay as they are where all of them are within the limits; else each thing gets a number at first sight. Collections for
+    which `alike` gives one value are one."""
 
-    def __init__(self, things: Callable[[], Iterable[Value]], limits: range) -> None:
-        self._limits = limits
+    def __init__(self, things: Callable[[], Iterable[Value]], limits: range, alike: Optional[Callable[[Value], Value]] = None) -> None:
+        self._limits, self._alike = limits, alike
         self._low: Set[int] = set()  # the least integers that stay
         self._numbers: Dict[Value, int] = {}
+        self._things: List[Value] = []  # by their numbers, as they were first spelled
         self.stays = all(map(self._may_stay, things()))
         if not self.stays:
             for thing in things():
-                self._numbers.setdefault(thing, len(self._numbers))
+                if self._numbers.setdefault(self._one(thing), len(self._numbers)) == len(self._things):
+                    self._things.append(thing)
 
     def _may_stay(self, thing: Value) -> bool:
         number = integer(thing)
@@ -29,8 +32,11 @@ class Numbering:
             self._low.add(number)
         return True
 
+    def _one(self, thing: Value) -> Value:
+        return thing if self._alike is None or isinstance(thing, str) else self._alike(thing)
+
     def number(self, thing: Value) -> int:
-        return int(integer(thing) or 0) if self.stays else self._numbers[thing]
+        return int(integer(thing) or 0) if self.stays else self._numbers[self._one(thing)]
 
     def __call__(self, thing: Value) -> str:
         """The number of a thing, whose spelling is canonical, as it is written."""
@@ -42,27 +48,11 @@ class Numbering:
 
     def names(self) -> Dict[int, str]:
         """What the numbers stand for, where things were numbered."""
-        return {number: shown(thing) for thing, number in self._numbers.items()}
+        return dict(enumerate(map(shown, self._things)))
 
     def told(self, what: str) -> Iterator[str]:
-        """The table, where things were numbered, and what in it may be the same to the store."""
+        """The table, where things were numbered."""
         if self.stays:
             return
         yield f"{what}s are numbered:"
         yield from (f"  {what} {number} is {name}" for number, name in self.names().items())
-        for things in self.alike():
-            yield f"{what}s that are judged as different ones: {', '.join(map(shown, things))}; are they one to the store?"
-
-    def alike(self) -> List[List[Value]]:
-        """Groups of things that are one number in different spellings."""
-        import decimal
-        import re
-
-        groups: Dict[decimal.Decimal, List[Value]] = {}
-        for thing in self._numbers:
-            if isinstance(thing, str) and re.fullmatch(NUMBER, thing):
-                try:
-                    groups.setdefault(decimal.Decimal(thing.rstrip("MN")), []).append(thing)
-                except ArithmeticError:
-                    pass
-        return [things for things in groups.values() if len(things) > 1]

@@ -29,6 +29,7 @@ from typing import Iterable
 
 from ..edn import integer
 from ..forms import door, files, mapping_words, meant_words
+from ..forms.look_alikes import account_for_types
 from ..history.kinds import KEYS
 from ..tools import command
 from .refusal import Refusal
@@ -70,6 +71,7 @@ def turned(given: argparse.Namespace, source: files.Source) -> Turned:
         raise Refusal(f"it is {form}, and Jepsen's history.edn is EDN; {command.tool('from-json')} turns it")
     made = door.translated(source, door.KEYED if form == door.KEYED else door.JEPSEN, options)
     result = made.turned(given.shards)
+    account_for_types(result.names.keys, result.names.values, given.values, made.account)
     for line in [*source.notes, *made.notes, *made.account.told(), *result.notes, *result.advice]:
         command.say(NAME, line)
     if given.strict_input:

@@ -9,6 +9,7 @@ from ..history.kinds import KEYS, REGISTERS, THREADS, VALUES
 from ..history.line import line_of_words
 from ..history.names import ABSENT, Names
 from .events import Event, History
+from .meant import EXACT
 from .models import Models
 from .numbering import Numbering
 from .processes import OnThreads, OwnProcesses, processes_of
@@ -38,7 +39,7 @@ class Writer:
         self.registers = {key for key, possible in models.items() if begins and possible[0] in REGISTERS}
         self.sets = {key for key, possible in models.items() if possible == ["set"]}
         self.keys = Numbering(lambda: history.keys, KEYS if len(history.keys) <= len(KEYS) else limits.keys)
-        self.values = Numbering(self._values, VALUES)
+        self.values = Numbering(self._values, VALUES, None if history.meant.values == EXACT else history.meant.alike)
         self.absent = str(self.values.another()) if nil_is_absent else "nil"
         self.processes = processes_of(history, limits.threads)
         self.known: Dict[Tuple[str, str, Value, Value], Tuple[str, str]] = {}  # the texts of keys and parts that come again and again

@@ -14,6 +14,7 @@ from ..explain.said import said as explained
 from ..forms import Refused, door, faults
 from ..forms.account import Account
 from ..forms.jepsen import notes_of
+from ..forms.look_alikes import account_for_types
 from ..forms.own import Facts
 from ..forms.recorded import Recorded
 from ..from_jepsen import Turned
@@ -128,7 +129,7 @@ def _judge(given: Given, found: Large, history: Asked, session: shards.Session, 
         history.account.add(session.account())
     account_for(choice, history.account)
     if history.made is not None:
-        doubts.account_for_types(history.made.names.keys, history.made.names.values, given, history.account)
+        account_for_types(history.made.names.keys, history.made.names.values, given.values, history.account)
     options = session.options._replace(model=choice.common or EACH)
     path = os.path.join(session.tools.folder, "report.txt")
     with open(path, "wb") as file:
@@ -317,7 +318,7 @@ def said(found: Large, history: Asked, tally: Tally, verdict: Verdict, task: Tas
     yield (f"{found.name}: {form_of(found)}, {counted(tally.events, 'event')}, concurrency {task.options.concurrency:,}, "
            f"{counted(verdict.keys, 'key')}")
     yield from outcomes(tally.outcomes())
-    yield from history.account.told(history.made is not None)
+    yield from history.account.told()
     if not task.choice.is_guess:
         yield f"model {task.choice.common}, {task.choice.reason}"
 

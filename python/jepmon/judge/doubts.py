@@ -1,30 +1,17 @@
-"""What of a verdict may be due to how values were read: values that look alike, and an answer that nobody has written."""
+"""What of a verdict may be due to how values were read: an answer of nil, and one that nobody has written."""
 from __future__ import annotations
 
 import re
-from typing import Dict, Iterator, List, Mapping, Optional, Sequence
+from typing import Iterator, Optional, Sequence
 
-from ..forms.account import ABSENT, TYPE, Account
-from ..from_jepsen.meant import NUMBERS, Meant
+from ..forms.account import ABSENT, Account
 from ..history import Event, Operation, operations
 from ..history.kinds import REGISTERS
 from ..program import KeyLine
 from ..shrinking.registers import brought, wanted
 from .words import Given
 
-FEW = 3  # groups that are named
 NIL = "--nil-is-absent or --nil-is-unknown"  # which settles what nil says
-MAY_BE_ALIKE = re.compile(r'"\s*(?:[+-]?[0-9][0-9.eEMN+-]*|true|false|True|False)\s*"|[+-]?[0-9].*|true|false|" .*"|".* "|"?[\[(].*')
-
-
-def account_for_types(keys: Mapping[int, str], values: Mapping[int, str], given: Given, account: Account) -> None:
-    """Records that keys or values which look alike are taken for different ones, if nothing is said of that."""
-    for what, names in (("keys", keys), ("values", values)):
-        groups = alike(names) if given.values is None else []
-        if groups:
-            more = f", and {len(groups) - FEW} more groups" if len(groups) > FEW else ""
-            shown = "; ".join(" and ".join(group) for group in groups[:FEW])
-            account.guess(TYPE, f"{shown} are different {what}{more}", "--values exact|text|number")
 
 
 def account_for_nils(count: int, given: Given, account: Account) -> None:
@@ -32,16 +19,6 @@ def account_for_nils(count: int, given: Given, account: Account) -> None:
     if count and not given.nil_is_unknown:
         account.guess(ABSENT, f"nil says nothing of what a register holds, and {count:,} {'read' if count == 1 else 'reads'} answered it after a "
                       "value was there", NIL)
-
-
-def alike(names: Mapping[int, str]) -> List[List[str]]:
-    """Groups of values that are one number, or one text but for spaces."""
-    meant, groups = Meant(NUMBERS), {}  # type: Meant, Dict[str, List[str]]
-    spaced = any(name.startswith('" ') or name.endswith(' "') for name in names.values())
-    for name in names.values():
-        if spaced or MAY_BE_ALIKE.fullmatch(name):
-            groups.setdefault(str(meant.alike(name)), []).append(name)
-    return [group for group in groups.values() if len(group) > 1]
 
 
 def quoted(text: str) -> str:

@@ -33,7 +33,7 @@ def found(source: Source, history: Recorded, task: Task) -> Iterator[str]:
     if history.faults:
         yield f"faults, which the page shows: {len(history.faults)}"
     yield from outcomes(facts.outcomes)
-    yield from history.account.told(not history.is_own)
+    yield from history.account.told()
     if not task.choice.is_guess:
         yield f"model {task.choice.common}, {task.choice.reason}" if task.choice.common else task.choice.reason
 

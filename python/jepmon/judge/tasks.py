@@ -3,6 +3,7 @@ from __future__ import annotations
 
 from ..forms import Refused
 from ..forms.files import Source
+from ..forms.look_alikes import account_for_types
 from ..forms.recorded import Recorded, recorded
 from ..program import Options
 from . import doubts, models
@@ -14,7 +15,7 @@ def of(found: Recorded, given: Given) -> Task:
     """How the history is to be judged."""
     choice = models.chosen(found.facts, given.model, found.stated, found.possible)
     models.account_for(choice, found.account)
-    doubts.account_for_types(found.key_names, found.value_names, given, found.account)
+    account_for_types(found.key_names, found.value_names, given.values, found.account)
     if not found.has_commands:  # what was told to jepmon script is in its own form, in which nil says nothing
         doubts.account_for_nils(sum(facts.nils_after_values for facts in found.facts.keys.values()), given, found.account)
     concurrency = given.concurrency or models.concurrency_of(found.facts)

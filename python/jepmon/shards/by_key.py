@@ -2,6 +2,7 @@
 are tested here, since no program sees them."""
 from __future__ import annotations
 
+import functools
 from typing import Any, Callable, Dict, Iterable, List, Sequence, Tuple
 
 from .doubt import Doubt
@@ -11,6 +12,7 @@ from .reading import Reader, Unreadable
 from .routing import Source, segments_of
 
 FIELDS = 3  # of an event of a key: part, code and place
+KNOWN = 1 << 12  # events that are remembered, since most come again and again
 
 Events = List[Any]  # one behind another: the part, the code and the place of each
 
@@ -48,6 +50,7 @@ class Rest:
         self.count += len(events) // FIELDS
 
 
+@functools.lru_cache(maxsize=KNOWN)
 def event_of(kind: bytes, process: int, name: bytes, part: bytes) -> Event:
     """An event of any key; a Doubt where its part is none."""
     try:
