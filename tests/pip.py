@@ -160,6 +160,23 @@ def run_wheel() -> List[str]:
             + differing("the mode of the program", oct(modes.get(program, 0)), oct(0o755)))
 
 
+def run_page() -> List[str]:
+    """The page of the wheel has no link to a file beside it, with the address of a repository and without it."""
+    faults = []
+    address = "https://host.example/jepmon"
+    for urls in ("", f'\n[project.urls]\nRepository = "{address}"\n'):
+        with spoiled() as copy:
+            with open(copy / "pyproject.toml", "a") as project:
+                project.write(urls)
+            ran = backend(copy, "metadata().decode()")
+            links = re.findall(r"\]\(([^)\s]+)\)", re.sub(r"^```.*?^```$", "", ran.stdout, flags=re.M | re.S))
+            faults += differing("links to files beside it", [link for link in links if not re.match(r"[a-z]+:", link)], [])
+            faults += differing("whether it has links", len(links) > 20, bool(urls))
+            faults += differing("its addresses", [link for link in links if not link.startswith((f"{address}/blob/v", f"{address}/raw/v"))], [])
+            faults += differing("Project-URL", f"Project-URL: Repository, {address}\n" in ran.stdout, bool(urls))
+    return faults
+
+
 def backend(copy: pathlib.Path, call: str) -> "subprocess.CompletedProcess[str]":
     return run([sys.executable, "-c", f"import jepmon_wheel; print(jepmon_wheel.{call})"], copy, PYTHONPATH="python/build")
 
@@ -222,7 +239,7 @@ def all_cases() -> List[Case]:
     """Each test by its name."""
     helps = [(f"help_of_{tool}", functools.partial(run_help, tool)) for tool in TOOLS]
     return [("the_program", run_program), ("the_module", run_module), *helps, ("names_of_tools", run_names_of_tools),
-            ("explain", run_explain), ("from_jepsen", run_from_jepsen), ("readme", run_readme), ("wheel", run_wheel),
+            ("explain", run_explain), ("from_jepsen", run_from_jepsen), ("readme", run_readme), ("wheel", run_wheel), ("page", run_page),
             ("no_program", run_no_program), ("pip_without_program", run_pip_without_program), ("sdist", run_sdist),
             ("uninstall", run_uninstall)]
 

@@ -178,6 +178,7 @@ static struct jepmon_options options_of(const struct scenario *s, int wait)
         if (!strcmp(word, "concurrency")) o.concurrency = (int)number(line, 1);
         if (!strcmp(word, "budget")) o.budget = (int)number(line, 1);
         if (!strcmp(word, "timeout")) o.timeout = (int)number(line, 1);
+        if (!strcmp(word, "by-ends")) o.by_ends = 1;
         if (!strcmp(word, "unknown")) o.go_on = 1;
         if (!strcmp(word, "initial")) { initial = number(line, 1); o.initial = &initial; }
         if (!strcmp(word, "program")) { snprintf(program, sizeof program, "%s/programs/%s", table, line->words[1]); o.program = program; }
@@ -219,6 +220,8 @@ static void run(const struct scenario *s, int wait, char *fault, size_t room)
     if (status && status != last) snprintf(fault, room, "an operation gave %d, and the end %d", status, last);
     for (int n = 0; n < s->count; n++) {
         if (!strcmp(s->lines[n].words[0], "expect") && !is_expected(&s->lines[n], text))
+            snprintf(fault, room, "%s: the verdict is %s", joined(&s->lines[n], 0), text);
+        if (!strcmp(s->lines[n].words[0], "says") && !strstr(text, joined(&s->lines[n], 1)))
             snprintf(fault, room, "%s: the verdict is %s", joined(&s->lines[n], 0), text);
     }
 }

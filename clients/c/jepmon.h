@@ -38,6 +38,7 @@
 #define JEPMON_MISTAKE 4        /* the test made a mistake: a key that is none, too many open operations */
 #define JEPMON_MAJOR 1          /* of the oldest program that this header works with */
 #define JEPMON_MINOR 4
+#define JEPMON_WIDE_MINOR 5     /* of the first one that has wide kinds */
 
 enum jepmon_outcome { JEPMON_OK, JEPMON_FAIL, JEPMON_INFO }; /* it took place; it did not; it may have, or may yet */
 
@@ -46,6 +47,7 @@ struct jepmon_options {
     const char *model;      /* register, cas-register, mutex, fifo-queue, unordered-queue, set; register if none is named */
     int concurrency;        /* operations that may be open at once, 1 to 64; 64 if it is 0 */
     int budget;             /* outcomes of a key that are followed; the program's if it is 0 */
+    int by_ends;            /* registers and sets are judged by all their outcomes, as `jepmon check --model register` does */
     int wait;               /* each event waits for its reply */
     int go_on;              /* a key over its budget does not end the test; jepmon_close gives 2 then */
     const int64_t *initial; /* what each register holds at first; none: it is missing */
@@ -71,6 +73,8 @@ static const char *const jepmon_outcomes[4] = { "ok", "fail", "info", "open" };
 struct jepmon {
     struct jepmon_options options;
     char program[PATH_MAX];
+    const char *kind; /* by which the program judges all keys: the wide one of the model, if there is one */
+    char concurrency[16], budget[16];
     pid_t pid;
     int input, output;
     FILE *errors;
@@ -81,8 +85,9 @@ struct jepmon {
     struct jepmon_bytes unread;
     char last[128], verdict[1024];
     int status, unknown, is_over, is_closed;
+    struct jepmon_bytes unknown_text; /* of a test that goes on: the first `unknown`, from the end of its history on */
     char unknown_reply[128];
-    long key, index;
+    long key, index, unknown_key, unknown_index;
     int free[64], free_count;
     long processes[64];
     unsigned char begun[65536 / 8];
@@ -154,8 +159,11 @@ static void jepmon_reply_(struct jepmon *m, const char *reply)
     if (sscanf(reply, "%15s key %ld index %ld%c", word, &key, &index, &rest) == 3 && (!strcmp(word, "illegal") || !strcmp(word, "unknown"))) {
         int status = word[0] == 'i' ? 1 : 2;
         if (status == 2 && m->options.go_on) {
-            if (!m->unknown) snprintf(m->unknown_reply, sizeof m->unknown_reply, "%s", reply);
+            if (m->unknown) return;
+            snprintf(m->unknown_reply, sizeof m->unknown_reply, "%s", reply);
             m->unknown = 1;
+            m->unknown_key = key;
+            m->unknown_index = index;
             return;
         }
         m->key = key;
@@ -215,7 +223,8 @@ static void jepmon_pump_(struct jepmon *m, long until, size_t most)
             if (m->replies != before) since = time(NULL);
         }
         if (time(NULL) - since > m->options.timeout) {
-            jepmon_fail_(m, 3, "refused: jepmon gave no reply for %d seconds, after %ld replies to %ld lines", m->options.timeout, m->replies, m->appended);
+            jepmon_fail_(m, 3, "refused: jepmon gave no reply for %d seconds, after %ld replies to %ld lines: lines take long if many clients share a "
+                         "key, so use more keys, or a greater .timeout", m->options.timeout, m->replies, m->appended);
             kill(-m->pid, SIGKILL);
         }
     }
@@ -298,22 +307,36 @@ static pid_t jepmon_spawn_(char *const words[], int *input, int *output, FILE *e
     return pid;
 }
 
-/* Whether the program has a version that this header works with; else the verdict says so. */
+/* Models of which the program has a second kind: the same object, of which fewer outcomes count against the budget. */
+static const char *const jepmon_kinds[2][2] = { { "register", "wide-register" }, { "set", "wide-set" } };
+
+/* The wide kind of a model; none: NULL. */
+static const char *jepmon_wide_(const char *model)
+{
+    for (int n = 0; n < 2; n++) if (!strcmp(jepmon_kinds[n][0], model)) return jepmon_kinds[n][1];
+    return NULL;
+}
+
+/* Whether the program has a version that this header works with; else the verdict says so. It also chooses the kind. */
 static int jepmon_version_(struct jepmon *m)
 {
     char *words[] = { m->program, "--version", NULL }, line[128] = "";
-    int input, output, major, minor, patch;
+    int input, output, major, minor, patch, status = 0;
     pid_t pid = jepmon_spawn_(words, &input, &output, NULL);
     if (pid < 0) { jepmon_fail_(m, 3, "refused: %s", strerror(errno)); return 0; }
     FILE *told = fdopen(output, "r");
     if (fgets(line, sizeof line, told)) line[strcspn(line, "\n")] = 0;
     fclose(told);
     close(input);
-    waitpid(pid, NULL, 0);
-    if (sscanf(line, "jepmon %d.%d.%d", &major, &minor, &patch) != 3)
+    waitpid(pid, &status, 0);
+    if (WIFEXITED(status) && WEXITSTATUS(status) == 127)
+        jepmon_fail_(m, 3, "refused: there is no %s: JEPMON names the program, or it is on the PATH", m->program);
+    else if (sscanf(line, "jepmon %d.%d.%d", &major, &minor, &patch) != 3)
         jepmon_fail_(m, 3, "refused: %s is no jepmon: its --version prints '%s'", m->program, line);
     else if (major != JEPMON_MAJOR || minor < JEPMON_MINOR)
         jepmon_fail_(m, 3, "refused: %s is %s: this header needs jepmon %d.%d or a later %d", m->program, line, JEPMON_MAJOR, JEPMON_MINOR, JEPMON_MAJOR);
+    else if (minor >= JEPMON_WIDE_MINOR && !m->options.by_ends && jepmon_wide_(m->options.model))
+        m->kind = jepmon_wide_(m->options.model);
     return !m->status;
 }
 
@@ -321,10 +344,11 @@ static int jepmon_version_(struct jepmon *m)
 static struct jepmon *jepmon_start(const struct jepmon_options *options)
 {
     struct jepmon *m = calloc(1, sizeof *m);
-    char concurrency[16], budget[16];
     if (!m) abort();
     if (options) m->options = *options;
     if (!m->options.model) m->options.model = "register";
+    for (int n = 0; n < 2; n++) if (!strcmp(jepmon_kinds[n][1], m->options.model)) m->options.model = jepmon_kinds[n][0];
+    m->kind = m->options.model;
     if (!m->options.concurrency) m->options.concurrency = 64;
     if (!m->options.timeout) m->options.timeout = 60;
     m->key = m->index = -1;
@@ -338,10 +362,10 @@ static struct jepmon *jepmon_start(const struct jepmon_options *options)
     m->is_over = 1;
     jepmon_find_(m);
     if (!jepmon_version_(m)) return m;
-    snprintf(concurrency, sizeof concurrency, "%d", m->options.concurrency);
-    snprintf(budget, sizeof budget, "%d", m->options.budget);
-    char *words[] = { m->program, "script", "--strict", "--concurrency", concurrency, "--model", (char *)m->options.model,
-                      m->options.budget ? "--budget" : NULL, budget, NULL };
+    snprintf(m->concurrency, sizeof m->concurrency, "%d", m->options.concurrency);
+    snprintf(m->budget, sizeof m->budget, "%d", m->options.budget);
+    char *words[] = { m->program, "script", "--strict", "--concurrency", m->concurrency, "--model", (char *)m->kind,
+                      m->options.budget ? "--budget" : NULL, m->budget, NULL };
     m->pid = jepmon_spawn_(words, &m->input, &m->output, m->errors);
     if (m->pid < 0) { jepmon_fail_(m, 3, "refused: %s", strerror(errno)); return m; }
     m->is_over = 0;
@@ -511,6 +535,8 @@ static inline long jepmon_count(struct jepmon *m, const char *name, const char *
     return count;
 }
 
+static inline void jepmon_report_unknown_(struct jepmon *m);
+
 /* Begins a new history in the same program, and waits for the verdict on the one before. No operation may be open. The keys begin again,
  * so the store has to have nothing under them. A history has at most 1,048,576 events. */
 static inline int jepmon_reset(struct jepmon *m)
@@ -523,6 +549,7 @@ static inline int jepmon_reset(struct jepmon *m)
         jepmon_line_(m, "[:rewind 0]\n", 12);
         jepmon_pump_(m, m->appended, 0);
         if (!m->status) {
+            if (m->unknown) jepmon_report_unknown_(m);
             m->lines.length = m->sent = 0;
             memset(m->begun, 0, sizeof m->begun);
             for (int t = 0; t < 64; t++) m->processes[t] = t;
@@ -534,6 +561,8 @@ static inline int jepmon_reset(struct jepmon *m)
 }
 
 /* --- The end --- */
+
+static inline void jepmon_text_(struct jepmon_bytes *all, const char *text) { jepmon_add(all, text, strlen(text)); }
 
 /* Adds the last events of the key, each after its index. */
 static inline void jepmon_tail_(struct jepmon *m, struct jepmon_bytes *text)
@@ -553,6 +582,41 @@ static inline void jepmon_tail_(struct jepmon *m, struct jepmon_bytes *text)
             count++;
         }
     }
+}
+
+/* Adds what helps if the key is over its budget. */
+static inline void jepmon_hint_(struct jepmon *m, struct jepmon_bytes *text)
+{
+    char line[PATH_MAX + 256];
+    const char *wide = jepmon_wide_(m->options.model);
+    snprintf(line, sizeof line, "\n  key %ld has more outcomes than its budget: raise .budget, let fewer clients use one key, or write to a new key "
+             "after timeouts", m->key);
+    jepmon_text_(text, line);
+    if (!wide || !strcmp(wide, m->kind)) return;
+    if (m->options.by_ends) snprintf(line, sizeof line, ". Without .by_ends the kind %s may decide it", wide);
+    else snprintf(line, sizeof line, ". %s does not have the kind %s: a newer jepmon may decide it", m->program, wide);
+    jepmon_text_(text, line);
+}
+
+/* Adds the keys over their budget other than the verdict's, by `jepmon check`. `script` names the first one alone. */
+static inline void jepmon_over_(struct jepmon *m, const char *file, struct jepmon_bytes *text)
+{
+    char line[256];
+    long key, index;
+    int input, output;
+    char *words[] = { m->program, "check", (char *)file, "--concurrency", m->concurrency, "--model", (char *)m->kind,
+                      m->options.budget ? "--budget" : NULL, m->budget, NULL };
+    pid_t pid = jepmon_spawn_(words, &input, &output, NULL);
+    if (pid < 0) return;
+    FILE *told = fdopen(output, "r");
+    while (told && fgets(line, sizeof line, told)) {
+        if (sscanf(line, "key %ld model %*s budget %*d events %*d status over %ld", &key, &index) != 2 || key == m->key) continue;
+        snprintf(line, sizeof line, "\n  also unknown key %ld index %ld", key, index);
+        jepmon_text_(text, line);
+    }
+    if (told) fclose(told);
+    close(input);
+    waitpid(pid, NULL, 0);
 }
 
 /* Adds the headline and the sentences of the cause, if jepmon-judge is there. JEPMON_JUDGE names it, and `no` is none. */
@@ -595,12 +659,40 @@ static inline void jepmon_cause_(struct jepmon *m, const char *file, struct jepm
     free(json.text);
 }
 
+/* Writes the history to a file, and adds what is known of a verdict at the end of its history. */
+static inline void jepmon_report_(struct jepmon *m, int status, struct jepmon_bytes *all)
+{
+    char file[PATH_MAX];
+    if (status == 1 || status == 2) jepmon_tail_(m, all);
+    if (status == 2) jepmon_hint_(m, all);
+    const char *out = m->options.out ? m->options.out : getenv("JEPMON_OUT") ? getenv("JEPMON_OUT") : "/tmp";
+    snprintf(file, sizeof file, "%s/jepmon-XXXXXX.edn", out);
+    int made = m->lines.length ? mkstemps(file, 4) : -1;
+    FILE *history = made < 0 ? NULL : fdopen(made, "w");
+    if (!history) return;
+    fwrite(m->lines.text, 1, m->lines.length, history);
+    fclose(history);
+    if (status == 1) jepmon_cause_(m, file, all);
+    if (status == 2 && m->options.go_on) jepmon_over_(m, file, all);
+    jepmon_text_(all, "\n  history: ");
+    jepmon_text_(all, file);
+}
+
+/* Completes the first `unknown` of a test that goes on, at the end of its history. */
+static inline void jepmon_report_unknown_(struct jepmon *m)
+{
+    if (m->unknown_text.length) return;
+    m->key = m->unknown_key;
+    m->index = m->unknown_index;
+    jepmon_text_(&m->unknown_text, m->unknown_reply);
+    jepmon_report_(m, 2, &m->unknown_text);
+}
+
 /* Ends the program and frees the monitor. It gives 0 if each line got its reply and all is legal, else the status of the verdict, which
  * the text has, with the last events of the key, the cause in words if jepmon-judge is there, and the file of the history. */
 static int jepmon_close(struct jepmon *m, char *text, size_t room)
 {
     struct jepmon_bytes all = { 0 };
-    char file[PATH_MAX];
     pthread_mutex_lock(&m->lock);
     m->is_closed = 1;
     jepmon_pump_(m, m->appended, 0);
@@ -608,26 +700,20 @@ static int jepmon_close(struct jepmon *m, char *text, size_t room)
         kill(-m->pid, SIGKILL);
         waitpid(m->pid, NULL, 0);
     }
-    if (!m->status && m->unknown) jepmon_fail_(m, 2, "%s", m->unknown_reply);
-    int status = m->status;
-    jepmon_add(&all, status ? m->verdict : "legal", strlen(status ? m->verdict : "legal"));
-    if (status == 1 || status == 2) jepmon_tail_(m, &all);
-    const char *out = m->options.out ? m->options.out : getenv("JEPMON_OUT") ? getenv("JEPMON_OUT") : "/tmp";
-    snprintf(file, sizeof file, "%s/jepmon-XXXXXX.edn", out);
-    int made = status && m->lines.length ? mkstemps(file, 4) : -1;
-    FILE *history = made < 0 ? NULL : fdopen(made, "w");
-    if (history) {
-        fwrite(m->lines.text, 1, m->lines.length, history);
-        fclose(history);
-        if (status == 1) jepmon_cause_(m, file, &all);
-        jepmon_add(&all, "\n  history: ", 12);
-        jepmon_add(&all, file, strlen(file));
+    int status = m->status ? m->status : m->unknown ? 2 : 0;
+    if (!m->status && m->unknown) {
+        jepmon_report_unknown_(m);
+        jepmon_add(&all, m->unknown_text.text, m->unknown_text.length);
+    } else {
+        jepmon_text_(&all, status ? m->verdict : "legal");
+        if (status) jepmon_report_(m, status, &all);
     }
     if (text && room) snprintf(text, room, "%s", all.text);
     close(m->input);
     close(m->output);
     fclose(m->errors);
     free(all.text);
+    free(m->unknown_text.text);
     free(m->lines.text);
     free(m->unread.text);
     pthread_mutex_unlock(&m->lock);

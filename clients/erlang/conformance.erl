@@ -29,28 +29,30 @@ options(Table, Scenario, Wait) ->
     lists:foldl(fun
         (["model", M], O) -> O#{model => list_to_atom(M)};
         ([Word, N], O) when Word =:= "concurrency"; Word =:= "budget"; Word =:= "initial"; Word =:= "timeout" -> O#{list_to_atom(Word) => list_to_integer(N)};
+        (["by-ends", _], O) -> O#{by_ends => true};
         (["unknown", _], O) -> O#{go_on => true};
         (["program", P], O) -> O#{program => filename:absname(filename:join([Table, "programs", P]))};
         (_, O) -> O
     end, #{wait => Wait, out => os:getenv("JEPMON_OUT", "/tmp")}, Scenario).
 
 run(Table, Scenario, Wait) ->
-    {Reply, Counts} = case jepmon:start_link(options(Table, Scenario, Wait)) of
-        {error, #{reply := Text}} -> {Text, #{}};
+    {Verdict, Counts} = case jepmon:start_link(options(Table, Scenario, Wait)) of
+        {error, Refused} -> {Refused, #{}};
         {ok, M} ->
             Ended = steps(M, Scenario, #{}),
             C = jepmon:counts(M),
             case {jepmon:close(M), Ended} of
-                {legal, ok} -> {<<"legal">>, C};
-                {{verdict, #{reply := Text}}, _} -> {Text, C}
+                {legal, ok} -> {#{reply => <<"legal">>}, C};
+                {{verdict, Given}, _} -> {Given, C}
             end
     end,
-    case [{Line, Reply, Counts} || Line <- Scenario, not fits(Line, Reply, Counts)] of [] -> ok; Wrong -> Wrong end.
+    case [{Line, Verdict, Counts} || Line <- Scenario, not fits(Line, Verdict, Counts)] of [] -> ok; Wrong -> Wrong end.
 
-fits(["expect", "refused" | Words], Reply, _) ->
+fits(["says" | Words], Verdict, _) -> string:find(jepmon:text(Verdict), lists:join(" ", Words)) =/= nomatch;
+fits(["expect", "refused" | Words], #{reply := Reply}, _) ->
     string:prefix(Reply, "refused") =/= nomatch andalso string:find(Reply, lists:join(" ", Words)) =/= nomatch;
-fits(["expect", Word, Key, Index], Reply, _) -> string:prefix(Reply, lists:join(" ", [Word, "key", Key, "index", Index])) =/= nomatch;
-fits(["expect", Word], Reply, _) -> string:prefix(Reply, Word) =/= nomatch;
+fits(["expect", Word, Key, Index], #{reply := Reply}, _) -> string:prefix(Reply, lists:join(" ", [Word, "key", Key, "index", Index])) =/= nomatch;
+fits(["expect", Word], #{reply := Reply}, _) -> string:prefix(Reply, Word) =/= nomatch;
 fits(["count", F, Outcome, N], _, Counts) -> maps:get({list_to_atom(F), list_to_atom(Outcome)}, Counts, 0) =:= list_to_integer(N);
 fits(_, _, _) -> true.
 

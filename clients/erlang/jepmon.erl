@@ -9,17 +9,18 @@
 %% The mailbox of the server is the order of the history. An invocation is a call, since it has to stand before the request; a completion
 %% is a cast, since a late one makes an operation look longer, which never makes a false alarm. With `wait` each event waits for its reply.
 %%
-%% Options: program, model, concurrency, budget, wait, initial, go_on, timeout (seconds), out. An operation is {read, Key}, {write, Key, Value},
+%% Options: program, model, concurrency, budget, by_ends, wait, initial, go_on, timeout (seconds), out. Registers and sets are judged as
+%% wide-register and wide-set, of which fewer outcomes count against the budget; by_ends turns that off. An operation is {read, Key}, {write, Key, Value},
 %% {cas, Key, Old, New}, {add, Key, Member}, {enqueue, Key, Message}, {dequeue, Key}, {acquire, Key} or {release, Key}. It ends by ok,
 %% {value, V}, missing, {values, List}, fail or info.
 -module(jepmon).
 -behaviour(gen_server).
--export([start_link/1, start/1, operation/3, invoke/2, complete/3, begin_key/3, reset/1, counts/1, failure/1, close/1]).
+-export([start_link/1, start/1, operation/3, invoke/2, complete/3, begin_key/3, reset/1, counts/1, failure/1, close/1, text/1]).
 -export([init/1, handle_continue/2, handle_call/3, handle_cast/2, handle_info/2, terminate/2]).
 
 -define(ABSENT, -(1 bsl 63)).    % the value of a missing key
 -define(MOST, 1 bsl 20).         % bytes that wait for the program: if there are more, invocations wait
--record(s, {options, program, port, writer, folder, buffer = [], size = 0, writing = true, kept = [], lines = 0, replies = 0,
+-record(s, {options, program, kind, port, writer, folder, buffer = [], size = 0, writing = true, kept = [], lines = 0, replies = 0,
     free, processes, open = #{}, begun = #{}, counts = #{}, last = <<"legal">>, bad = none, unknown = none, refusal = none,
     closer = none, resetter = none, waiting = [], delayed = [], progress = 0, partial = <<>>}).
 
@@ -81,11 +82,21 @@ close(M) ->
     gen_server:stop(M),
     Verdict.
 
+%% The text of a verdict, or of what close gives.
+text(legal) -> <<"legal">>;
+text({verdict, Verdict}) -> text(Verdict);
+text(#{reply := Reply} = Verdict) ->
+    Lines = maps:get(tail, Verdict, []) ++ [Hint || #{hint := Hint} <- [Verdict]] ++ [["also ", Other] || Other <- maps:get(also, Verdict, [])]
+        ++ maps:get(cause, Verdict, []) ++ [["history: ", File] || #{history := File} <- [Verdict]],
+    iolist_to_binary([Reply | [["\n  ", Line] || Line <- Lines]]).
+
 %% --- The server ---
 
 init(Given) ->
     process_flag(trap_exit, true),
-    Options = maps:merge(#{model => register, concurrency => 64, budget => 0, wait => false, initial => ?ABSENT, go_on => false, timeout => 60}, Given),
+    Merged = maps:merge(#{model => register, concurrency => 64, budget => 0, by_ends => false, wait => false, initial => ?ABSENT, go_on => false,
+        timeout => 60}, Given),
+    Options = maps:update_with(model, fun jepmon_program:model/1, Merged),
     Processes = processes(Options),
     {ok, #s{options = Options, free = lists:sort(maps:keys(Processes)), processes = Processes}, {continue, start}}.
 
@@ -94,12 +105,13 @@ processes(#{concurrency := N}) -> maps:from_list([{T, T} || T <- lists:seq(0, N 
 
 handle_continue(start, S) ->
     Program = jepmon_program:find(S#s.options),
-    case jepmon_program:fault(Program) of
-        none ->
-            {Port, Writer, Folder} = jepmon_program:start(Program, S#s.options),
+    case jepmon_program:version(Program) of
+        {ok, Minor} ->
+            Kind = jepmon_program:kind(S#s.options, Minor),
+            {Port, Writer, Folder} = jepmon_program:start(Program, Kind, S#s.options),
             erlang:send_after(timeout(S) div 10, self(), look),
-            {noreply, command(S#s{program = Program, port = Port, writer = Writer, folder = Folder}, <<"[:verdict]\n">>)};
-        Why -> {noreply, fail(S#s{program = Program}, refused(Why))}
+            {noreply, command(S#s{program = Program, kind = Kind, port = Port, writer = Writer, folder = Folder}, <<"[:verdict]\n">>)};
+        {error, Why} -> {noreply, fail(S#s{program = Program}, refused(Why))}
     end.
 
 timeout(S) -> 1000 * maps:get(timeout, S#s.options).
@@ -161,8 +173,8 @@ handle_info(look, S) ->
     case S#s.progress of
         {Replies, Since} when Replies =:= S#s.replies, not Idle ->
             case erlang:monotonic_time(millisecond) - Since > timeout(S) of
-                true -> {noreply, at_end(fail(S, refused(io_lib:format("jepmon gave no reply for ~b seconds, after ~b replies to ~b lines",
-                    [maps:get(timeout, S#s.options), S#s.replies, S#s.lines]))))};
+                true -> {noreply, at_end(fail(S, refused(io_lib:format("jepmon gave no reply for ~b seconds, after ~b replies to ~b lines: lines "
+                    "take long if many clients share a key, so use more keys, or a greater timeout", [maps:get(timeout, S#s.options), S#s.replies, S#s.lines]))))};
                 false -> {noreply, S}
             end;
         _ -> {noreply, S#s{progress = {S#s.replies, erlang:monotonic_time(millisecond)}}}
@@ -277,19 +289,19 @@ replied(S0, Line) ->
         {none, _} when S#s.replies > S#s.lines -> fail(S, refused(io_lib:format("jepmon gave ~b replies to ~b lines", [S#s.replies, S#s.lines])));
         {none, legal} -> reset_done(woken(S));
         {none, refused} -> erlang:send_after(1000, self(), kill), S#s{refusal = Line};       % the program ends after one
-        {none, #{status := unknown} = V} when S#s.unknown =:= none ->
+        {none, #{status := unknown}} when S#s.unknown =/= none -> reset_done(woken(S));
+        {none, #{status := unknown} = V} ->
             case S#s.options of
-                #{go_on := true} -> reset_done(woken(S#s{unknown = V}));
-                _ -> fail(S, V)
+                #{go_on := true} -> reset_done(woken(S#s{unknown = described(S, V)}));
+                _ -> fail(S, described(S, V))
             end;
-        {none, #{status := unknown}} -> reset_done(woken(S));
-        {none, V} -> fail(S, V);
+        {none, V} -> fail(S, described(S, V));
         _ -> S
     end.
 
 reset_done(S = #s{resetter = From, replies = N, lines = N}) when From =/= none ->
     gen_server:reply(From, ok),
-    S#s{resetter = none, kept = [], begun = #{}, processes = processes(S#s.options)};
+    S#s{resetter = none, unknown = reported(S, S#s.unknown), kept = [], begun = #{}, processes = processes(S#s.options)};
 reset_done(S) -> S.
 
 verdict(<<"legal">>) -> legal;
@@ -305,15 +317,20 @@ refused(Text) ->
     #{status => refused, reply => Reply}.
 
 %% Ends the test, once.
-fail(S = #s{bad = none}, Verdict) ->
-    Bad = case Verdict of
-        #{key := _} -> Verdict#{tail => jepmon_program:tail(history(S), Verdict)};
-        _ -> Verdict
-    end,
+fail(S = #s{bad = none}, Bad) ->
     S1 = woken(kill(S#s{bad = Bad})),
     S1#s.resetter =:= none orelse gen_server:reply(S1#s.resetter, {verdict, Bad}),
     again(S1#s{resetter = none});
 fail(S, _) -> S.
+
+%% The verdict with the last events of its key, and with what helps if the key is over its budget.
+described(S, Verdict) ->
+    jepmon_program:hinted(Verdict#{tail => jepmon_program:tail(history(S), Verdict)}, S#s.options, S#s.program, S#s.kind).
+
+%% What is known of a verdict at the end of its history, once.
+reported(_, none) -> none;
+reported(_, #{history := _} = Verdict) -> Verdict;
+reported(S, Verdict) -> jepmon_program:report(Verdict, S#s.options, S#s.program, S#s.kind, history(S)).
 
 history(S) ->
     All = iolist_to_binary([lists:reverse(S#s.kept), S#s.buffer]),
@@ -336,8 +353,8 @@ at_end(S = #s{closer = none}) -> S;
 at_end(S = #s{bad = none, port = Port}) when Port =/= none -> S;
 at_end(S) ->
     Bad = case S#s.bad of none -> S#s.unknown; Verdict -> Verdict end,
-    gen_server:reply(S#s.closer, case Bad of
+    gen_server:reply(S#s.closer, case reported(S, Bad) of
         none -> legal;
-        _ -> {verdict, jepmon_program:report(Bad, S#s.options, S#s.program, history(S))}
+        Reported -> {verdict, Reported}
     end),
     S.

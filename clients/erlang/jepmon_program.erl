@@ -1,8 +1,10 @@
 %% The program of jepmon.erl: where it is, its version, its pipes, and what is said of a verdict.
 -module(jepmon_program).
--export([find/1, fault/1, start/2, kill/1, errors/1, remove/2, tail/2, report/4, cause_of/1]).
+-export([find/1, version/1, model/1, kind/2, start/3, kill/1, errors/1, remove/2, tail/2, hinted/4, report/5, cause_of/1]).
 -define(MAJOR, 1).               % of the oldest program that this library works with
 -define(MINOR, 4).
+-define(WIDE_MINOR, 5).          % of the first one that has wide kinds
+-define(WIDE, #{register => 'wide-register', set => 'wide-set'}).
 
 %% The path that is named, or that JEPMON names; else the program in a folder above this library; else jepmon on the PATH.
 find(#{program := Path}) -> Path;
@@ -30,25 +32,36 @@ is_machine_code(Path) ->
         _ -> false
     end.
 
-%% What is wrong with the program or its version, or none.
-fault(Program) ->
+%% The model of this name, or of its wide kind.
+model(Name) -> maps:get(Name, maps:from_list([{Kind, Model} || {Model, Kind} <- maps:to_list(?WIDE)]), Name).
+
+%% The kind by which a program of this minor version judges the model.
+kind(#{model := Model, by_ends := false}, Minor) when Minor >= ?WIDE_MINOR -> maps:get(Model, ?WIDE, Model);
+kind(#{model := Model}, _) -> Model.
+
+%% {ok, Minor}, or {error, Text}: what is wrong with the program or its version.
+version(Program) ->
     Line = case run(Program, ["--version"], []) of
         {0, Text} -> hd(binary:split(Text, <<"\n">>));
         {Status, _} -> {Status}
     end,
     case Line of
-        {enoent} -> io_lib:format("~s can't be used: there is no such program", [Program]);
-        {Other} -> io_lib:format("~s can't be used: ~p", [Program, Other]);
+        {enoent} -> {error, io_lib:format("there is no ~s: JEPMON names the program, or it is on the PATH", [Program])};
+        {Other} -> {error, io_lib:format("~s can't be used: ~p", [Program, Other])};
         _ ->
             case re:run(Line, "^jepmon (\\d+)\\.(\\d+)\\.\\d+$", [{capture, all_but_first, list}]) of
                 {match, [Major, Minor]} ->
                     case list_to_integer(Major) =:= ?MAJOR andalso list_to_integer(Minor) >= ?MINOR of
-                        true -> none;
-                        false -> io_lib:format("~s is ~s: this library needs jepmon ~b.~b or a later ~b", [Program, Line, ?MAJOR, ?MINOR, ?MAJOR])
+                        true -> {ok, list_to_integer(Minor)};
+                        false -> {error, io_lib:format("~s is ~s: this library needs jepmon ~b.~b or a later ~b",
+                            [Program, Line, ?MAJOR, ?MINOR, ?MAJOR])}
                     end;
-                nomatch -> io_lib:format("~s is no jepmon: its --version prints ~p", [Program, Line])
+                nomatch -> {error, io_lib:format("~s is no jepmon: its --version prints ~p", [Program, Line])}
             end
     end.
+
+%% Runs a program without input, and without its standard error.
+quietly(Words, Env) -> run("/bin/sh", ["-c", "exec \"$0\" \"$@\" </dev/null 2>/dev/null" | Words], Env).
 
 %% Runs a program to its end: its status and what it printed.
 run(Program, Words, Env) ->
@@ -66,13 +79,11 @@ collected(Port, Text) ->
 
 %% The program reads from a named pipe, so that its input can end while its output is read. A process of its own writes: a write waits
 %% while the pipe is full.
-start(Program, Options) ->
+start(Program, Kind, Options) ->
     Folder = string:trim(os:cmd("mktemp -d")),
     Pipe = filename:join(Folder, "lines"),
     os:cmd("mkfifo " ++ Pipe),
-    Budget = case maps:get(budget, Options) of 0 -> []; N -> ["--budget", integer_to_list(N)] end,
-    Words = ["script", "--strict", "--concurrency", integer_to_list(maps:get(concurrency, Options)), "--model",
-        atom_to_list(maps:get(model, Options)) | Budget],
+    Words = ["script", "--strict" | words(Kind, Options)],
     Port = open_port({spawn_executable, "/bin/sh"}, [{args, ["-c", "exec \"$0\" \"$@\" <\"$JEPMON_LINES\" 2>\"$JEPMON_ERRORS\"", Program | Words]},
         {env, [{"JEPMON_LINES", Pipe}, {"JEPMON_ERRORS", filename:join(Folder, "errors")}]}, {line, 65536}, binary, exit_status, in]),
     Server = self(),
@@ -82,6 +93,10 @@ start(Program, Options) ->
         write(Server, File)
     end),
     {Port, Writer, Folder}.
+
+%% The options that `jepmon script` and `jepmon check` have.
+words(Kind, #{concurrency := Concurrency, budget := Budget}) ->
+    ["--concurrency", integer_to_list(Concurrency), "--model", atom_to_list(Kind)] ++ [Word || Budget > 0, Word <- ["--budget", integer_to_list(Budget)]].
 
 write(Server, File) ->
     receive
@@ -122,15 +137,38 @@ tail(History, #{key := Key, index := Index}) ->
     All = [{N, Line} || {N, Line} <- lists:zip(lists:seq(0, length(Lines) - 1), Lines), binary:match(Line, Of) =/= nomatch],
     [iolist_to_binary(io_lib:format("~b ~s", [N, Line])) || {N, Line} <- lists:nthtail(max(0, length(All) - 12), All)].
 
-%% The verdict with the file of the history, and the cause in words if jepmon-judge is there.
-report(Verdict, Options, Program, History) ->
+%% The verdict with what helps if the key is over its budget.
+hinted(#{status := unknown, key := Key} = Verdict, #{model := Model} = Options, Program, Kind) ->
+    Way = case {maps:get(Model, ?WIDE, Kind), Options} of
+        {Kind, _} -> "";
+        {Wide, #{by_ends := true}} -> io_lib:format(". Without by_ends the kind ~s may decide it", [Wide]);
+        {Wide, _} -> io_lib:format(". ~s does not have the kind ~s: a newer jepmon may decide it", [Program, Wide])
+    end,
+    Verdict#{hint => unicode:characters_to_binary(io_lib:format(
+        "key ~b has more outcomes than its budget: raise budget, let fewer clients use one key, or write to a new key after timeouts~s", [Key, Way]))};
+hinted(Verdict, _, _, _) -> Verdict.
+
+%% The verdict with the file of the history. It has the other keys over their budget, if a test went on, and the cause in words, if
+%% jepmon-judge is there.
+report(Verdict, Options, Program, Kind, History) ->
     Folder = maps:get(out, Options, os:getenv("JEPMON_OUT", "/tmp")),
     File = filename:join(Folder, io_lib:format("jepmon-~s-~b.edn", [os:getpid(), erlang:unique_integer([positive])])),
     case file:write_file(File, History) of
         ok ->
             Cause = case Verdict of #{status := illegal} -> cause(File, Options, Program); _ -> [] end,
-            Verdict#{history => unicode:characters_to_binary(File), cause => Cause};
+            Also = case {Verdict, Options} of
+                {#{status := unknown, key := Key}, #{go_on := true}} -> over(Key, quietly([Program, "check", File | words(Kind, Options)], []));
+                _ -> []
+            end,
+            Verdict#{history => unicode:characters_to_binary(File), cause => Cause, also => Also};
         {error, _} -> Verdict
+    end.
+
+%% The keys over their budget other than this one, by the report of `jepmon check`. `script` names the first one alone.
+over(Key, {_, Report}) ->
+    case re:run(Report, "^key (\\d+) .* status over (\\d+)$", [global, multiline, {capture, all_but_first, list}]) of
+        {match, All} -> [iolist_to_binary(["unknown key ", K, " index ", I]) || [K, I] <- All, K =/= integer_to_list(Key)];
+        nomatch -> []
     end.
 
 cause(File, Options, Program) ->
@@ -138,7 +176,7 @@ cause(File, Options, Program) ->
         none -> [];
         Judge ->
             Words = [Judge, File, "--json", "--model", atom_to_list(maps:get(model, Options)), "--concurrency", integer_to_list(maps:get(concurrency, Options))],
-            {_, Text} = run("/bin/sh", ["-c", "exec \"$0\" \"$@\" </dev/null 2>/dev/null" | Words], [{"JEPMON", Program}]),
+            {_, Text} = quietly(Words, [{"JEPMON", Program}]),
             cause_of(Text)
     end.
 

@@ -7,7 +7,6 @@ import (
 	"fmt"
 	"os/exec"
 	"sort"
-	"strconv"
 	"strings"
 )
 
@@ -52,25 +51,18 @@ func CheckOperations(ctx context.Context, options Options, operations []Recorded
 	if err != nil {
 		return err
 	}
-	path, err := findProgram(options.Program)
-	if err == nil {
-		err = testVersion(path)
-	}
+	path, kind, err := chooseProgram(options)
 	if err != nil {
-		return refused(err.Error())
+		return err
 	}
-	words := []string{"check", "-", "--concurrency", "64", "--model", string(options.Model)}
-	if options.Budget > 0 {
-		words = append(words, "--budget", strconv.Itoa(options.Budget))
-	}
-	command := exec.CommandContext(ctx, path, words...)
+	command := exec.CommandContext(ctx, path, append([]string{"check", "-"}, options.words(kind)...)...)
 	command.Stdin = bytes.NewReader(text)
 	said, err := command.Output()
-	return verdictOfCheck(said, err, options, path, text)
+	return verdictOfCheck(said, err, options, &program{path: path, kind: kind}, text)
 }
 
 // verdictOfCheck takes the last line of a report, whose word has to agree with the status of the program.
-func verdictOfCheck(said []byte, err error, options Options, path string, text []byte) error {
+func verdictOfCheck(said []byte, err error, options Options, p *program, text []byte) error {
 	var exit *exec.ExitError
 	if err != nil && !errors.As(err, &exit) {
 		return refused(err.Error())
@@ -82,8 +74,8 @@ func verdictOfCheck(said []byte, err error, options Options, path string, text [
 	case err == nil && last == "legal":
 		return nil
 	case is && exit != nil && exit.ExitCode() == map[string]int{"illegal": 1, "unknown": 2}[verdict.Status]:
-		verdict.Tail = tail([][]byte{text}, verdict)
-		return withCause(*verdict, options, path, [][]byte{text})
+		verdict.Tail, verdict.Hint = tail([][]byte{text}, verdict), hint(verdict, options, p)
+		return withCause(*verdict, options, p, [][]byte{text})
 	case exit != nil:
 		return refused(fmt.Sprintf("%s: %v %s", last, err, strings.TrimSpace(string(exit.Stderr))))
 	}

@@ -83,6 +83,26 @@ func TestQueuesAndSets(t *testing.T) {
 	}
 }
 
+// Eight clients that never rest: more outcomes than the budget of a register by its ends.
+func TestManyClientsOfOneKey(t *testing.T) {
+	var operations []jepmon.RecordedOperation
+	for i := int64(0); i < 400; i++ {
+		input, output := write(i), interface{}(nil)
+		if i%2 == 1 {
+			input, output = read, i-1
+		}
+		operations = append(operations, jepmon.RecordedOperation{ClientId: int(i % 8), Input: input, Call: 10*i - 35, Output: output, Return: 10*i + 38})
+	}
+	if got := check(t, jepmon.Register, operations); got != "legal" {
+		t.Errorf("it is %s", got)
+	}
+	err := jepmon.CheckOperations(context.Background(), jepmon.Options{ByEnds: true, Out: t.TempDir()}, operations)
+	var verdict *jepmon.Verdict
+	if !errors.As(err, &verdict) || verdict.Status != "unknown" || verdict.Hint == "" {
+		t.Errorf("by ends it is %v", err)
+	}
+}
+
 func TestManyOperations(t *testing.T) {
 	var operations []jepmon.RecordedOperation
 	for i := 0; i < 100_000; i++ {

@@ -77,7 +77,6 @@ type runner struct {
 	monitor    *jepmon.Monitor
 	operations map[string]*jepmon.Operation
 	ended      error // the verdict that has ended the test, or why it did not begin
-	closed     bool
 }
 
 func run(s scenario, wait bool, out string) error {
@@ -115,6 +114,8 @@ func (r *runner) step(words []string) error {
 	case "initial":
 		value := integer(words[1])
 		r.options.Initial = &value
+	case "by-ends":
+		r.options.ByEnds = true
 	case "unknown":
 		r.options.GoOn = true
 	case "timeout":
@@ -123,6 +124,10 @@ func (r *runner) step(words []string) error {
 		r.options.Program, _ = filepath.Abs(filepath.Join(table, "programs", words[1]))
 	case "expect":
 		return r.expect(words[1], words[2:])
+	case "says":
+		if text := fmt.Sprint(r.verdict()); !strings.Contains(text, strings.Join(words[1:], " ")) {
+			return fmt.Errorf("the verdict is %s", text)
+		}
 	case "count":
 		if got := r.monitor.Counts()[words[1]+" "+words[2]]; int64(got) != integer(words[3]) {
 			return fmt.Errorf("there are %d", got)
@@ -297,15 +302,20 @@ func (r *runner) parts(words []string) error {
 	return nil
 }
 
-// expect closes the monitor, and compares the verdict.
-func (r *runner) expect(word string, more []string) error {
+// verdict closes the monitor.
+func (r *runner) verdict() error {
 	if r.monitor == nil && r.ended == nil {
 		r.monitor, r.ended = jepmon.Start(context.Background(), r.options)
 	}
-	got := r.ended
 	if r.monitor != nil {
-		got = r.monitor.Close()
+		return r.monitor.Close()
 	}
+	return r.ended
+}
+
+// expect compares the verdict.
+func (r *runner) expect(word string, more []string) error {
+	got := r.verdict()
 	var verdict *jepmon.Verdict
 	if got != nil && !errors.As(got, &verdict) {
 		return got

@@ -84,14 +84,21 @@ func (m *Monitor) replied(reply string, count int) string {
 	if !is {
 		return strings.TrimSpace("refused: " + strings.TrimPrefix(reply, "refused "))
 	}
-	if verdict.Status == "unknown" && m.unknown == nil {
-		m.unknown = verdict
+	goesOn := verdict.Status == "unknown" && m.options.GoOn
+	if goesOn && m.unknown != nil || m.bad != nil {
+		return ""
 	}
-	if verdict.Status != "unknown" || !m.options.GoOn {
+	verdict.Tail, verdict.Hint = tail(m.history(), verdict), hint(verdict, m.options, m.program)
+	if goesOn {
+		m.unknown = verdict
+	} else {
 		m.fail(verdict)
 	}
 	return ""
 }
+
+// slow is said if no reply comes in time.
+const slow = ": lines take long if many clients share a key, so use more keys, or a greater Timeout"
 
 // watch kills a program that gives no reply in time.
 func (m *Monitor) watch() {
@@ -108,7 +115,7 @@ func (m *Monitor) watch() {
 			before, since = m.replies, time.Now()
 		}
 		if time.Since(since) > m.options.Timeout {
-			m.fail(refused(fmt.Sprintf("jepmon gave no reply for %v, after %d replies to %d lines", m.options.Timeout, m.replies, m.lines)))
+			m.fail(refused(fmt.Sprintf("jepmon gave no reply for %v, after %d replies to %d lines%s", m.options.Timeout, m.replies, m.lines, slow)))
 			m.program.kill()
 		}
 		m.mutex.Unlock()

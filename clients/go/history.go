@@ -8,6 +8,7 @@ import (
 	"os"
 	"os/exec"
 	"path/filepath"
+	"regexp"
 	"strconv"
 	"strings"
 	"time"
@@ -55,11 +56,29 @@ func tail(pieces [][]byte, verdict *Verdict) []string {
 	return last
 }
 
-// withCause writes the history to a file, and asks jepmon-judge for the cause in words, if it is there.
-func withCause(verdict Verdict, o Options, program string, pieces [][]byte) *Verdict {
-	if verdict.Index < 0 && len(pieces) == 0 {
+// hint says what helps if a key is over its budget.
+func hint(verdict *Verdict, o Options, p *program) string {
+	if verdict.Status != "unknown" {
+		return ""
+	}
+	text := fmt.Sprintf("key %d has more outcomes than its budget: raise Budget, let fewer clients use one key, or write to a new key after timeouts", verdict.Key)
+	switch kind := wide[o.Model]; {
+	case kind == "" || kind == p.kind:
+	case o.ByEnds:
+		text += ". Without ByEnds the kind " + string(kind) + " may decide it"
+	default:
+		text += fmt.Sprintf(". %s does not have the kind %s: a newer jepmon may decide it", p.path, kind)
+	}
+	return text
+}
+
+// withCause adds, once, what is known at the end of the verdict's history. It writes the history to a file. It asks the program for the
+// other keys over their budget, and jepmon-judge for the cause in words, if it is there.
+func withCause(verdict Verdict, o Options, p *program, pieces [][]byte) *Verdict {
+	if verdict.reported || verdict.Index < 0 && len(pieces) == 0 {
 		return &verdict
 	}
+	verdict.reported = true
 	file, err := os.CreateTemp(o.Out, "jepmon-*.edn")
 	if err != nil {
 		return &verdict
@@ -69,21 +88,38 @@ func withCause(verdict Verdict, o Options, program string, pieces [][]byte) *Ver
 		file.Write(piece)
 	}
 	verdict.History, _ = filepath.Abs(file.Name())
-	if verdict.Status == "illegal" {
-		verdict.Cause = cause(verdict.History, o, program)
+	switch {
+	case verdict.Status == "illegal":
+		verdict.Cause = cause(verdict.History, o, p)
+	case verdict.Status == "unknown" && o.GoOn:
+		verdict.Also = over(verdict, o, p)
 	}
 	return &verdict
 }
 
-func cause(history string, o Options, program string) string {
-	judge := findJudge(program)
+var overLine = regexp.MustCompile(`(?m)^key (\d+) .* status over (\d+)$`)
+
+// over gives the keys over their budget other than the verdict's. `script` names the first one alone.
+func over(verdict Verdict, o Options, p *program) []string {
+	said, _ := exec.Command(p.path, append([]string{"check", verdict.History}, o.words(p.kind)...)...).Output()
+	var others []string
+	for _, line := range overLine.FindAllSubmatch(said, -1) {
+		if string(line[1]) != strconv.Itoa(verdict.Key) {
+			others = append(others, fmt.Sprintf("unknown key %s index %s", line[1], line[2]))
+		}
+	}
+	return others
+}
+
+func cause(history string, o Options, p *program) string {
+	judge := findJudge(p.path)
 	if judge == "" {
 		return ""
 	}
 	ctx, cancel := context.WithTimeout(context.Background(), time.Minute)
 	defer cancel()
 	command := exec.CommandContext(ctx, judge, history, "--json", "--model", string(o.Model), "--concurrency", strconv.Itoa(o.Concurrency))
-	command.Env = append(os.Environ(), "JEPMON="+program)
+	command.Env = append(os.Environ(), "JEPMON="+p.path)
 	text, _ := command.Output()
 	var report struct {
 		BadKeys []struct {

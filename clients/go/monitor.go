@@ -27,13 +27,26 @@ import (
 type Model string
 
 const (
-	Register       Model = "register"
+	Register       Model = "register" // also "wide-register"
 	CASRegister    Model = "cas-register"
 	Mutex          Model = "mutex"
 	FIFOQueue      Model = "fifo-queue"
 	UnorderedQueue Model = "unordered-queue"
-	Set            Model = "set"
+	Set            Model = "set" // also "wide-set"
 )
+
+// wide has the models of which the program has a second kind. It is the same object, and fewer outcomes count against the budget.
+var wide = map[Model]Model{Register: "wide-register", Set: "wide-set"}
+
+// modelOf is the model by one of its names.
+func modelOf(name Model) Model {
+	for model, kind := range wide {
+		if kind == name {
+			return model
+		}
+	}
+	return name
+}
 
 // Absent is the value of a missing key. The key of a register begins with it, if Options.Initial is nil.
 const Absent int64 = -1 << 63
@@ -52,6 +65,7 @@ type Options struct {
 	Model       Model            // default: Register
 	Concurrency int              // operations that may be open at once, 1 to 64; default 64
 	Budget      int              // outcomes of a key that are followed; default: the program's
+	ByEnds      bool             // registers and sets are judged by all their outcomes, as `jepmon check --model register` does
 	Wait        bool             // each event waits for its reply: no request is sent after a bad event
 	Initial     *int64           // what each register holds at first; default: it is missing
 	Failed      func(error) bool // whether an error means that the operation did not take place; default: ErrFailed and refused connections
@@ -67,12 +81,22 @@ type Verdict struct {
 	Index   int      // of illegal and unknown: the event, from 0
 	Reply   string   // what the program said, or what is wrong with it
 	Tail    []string // the last events of the key, each after its index
+	Hint    string   // of unknown: what helps
+	Also    []string // of unknown, after Close with GoOn: the other keys over their budget, as "unknown key 2 index 13"
 	Cause   string   // the cause in words, after Close, if jepmon-judge is there
 	History string   // the file of the history, after Close
+
+	reported bool // it has all that is known at the end of its history
 }
 
 func (v *Verdict) Error() string {
 	lines := append([]string{v.Reply}, v.Tail...)
+	if v.Hint != "" {
+		lines = append(lines, v.Hint)
+	}
+	for _, other := range v.Also {
+		lines = append(lines, "also "+other)
+	}
 	if v.Cause != "" {
 		lines = append(lines, v.Cause)
 	}
@@ -110,8 +134,7 @@ type Monitor struct {
 	closed    bool
 	resetting bool
 
-	ended  chan struct{} // the program has ended
-	report sync.Once
+	ended chan struct{} // the program has ended
 }
 
 // Start starts the program. A *Verdict says why it can't be used. No operation begins once ctx is done.
@@ -155,7 +178,7 @@ func withDefaults(o Options) Options {
 	if o.Concurrency == 0 {
 		o.Concurrency = 64
 	}
-	if o.Model == "" {
+	if o.Model = modelOf(o.Model); o.Model == "" {
 		o.Model = Register
 	}
 	if o.Timeout == 0 {
@@ -177,9 +200,6 @@ func withDefaults(o Options) Options {
 // fail ends the test, once. The caller has the lock.
 func (m *Monitor) fail(verdict *Verdict) {
 	if m.bad == nil {
-		if verdict.Status != "refused" {
-			verdict.Tail = tail(m.history(), verdict)
-		}
 		m.bad = verdict
 		m.cancel()
 	}
@@ -287,6 +307,7 @@ func (m *Monitor) Reset() error {
 	if m.bad != nil {
 		return m.bad
 	}
+	m.describe()
 	m.kept, m.skip, m.begun = nil, 0, map[int]bool{}
 	for thread := range m.processes {
 		m.processes[thread] = thread
@@ -305,14 +326,22 @@ func (m *Monitor) Close() error {
 	m.cancel()
 	m.mutex.Lock()
 	defer m.mutex.Unlock()
-	if m.bad == nil && m.unknown != nil {
-		m.bad = m.unknown
+	if m.bad == nil {
+		m.bad = m.describe()
 	}
 	if m.bad == nil {
 		return nil
 	}
-	m.report.Do(func() { m.bad = withCause(*m.bad, m.options, m.program.path, m.history()) })
+	m.bad = withCause(*m.bad, m.options, m.program, m.history())
 	return m.bad
+}
+
+// describe completes the first `unknown` of a test that goes on, at the end of its history. The caller has the lock.
+func (m *Monitor) describe() *Verdict {
+	if m.unknown != nil {
+		m.unknown = withCause(*m.unknown, m.options, m.program, m.history())
+	}
+	return m.unknown
 }
 
 // Go runs work(0) to work(n-1), each in a goroutine, and waits for them. The error is the verdict so far, else the first of theirs.

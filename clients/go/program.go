@@ -19,14 +19,15 @@ import (
 	"time"
 )
 
-// The oldest program that this package works with.
-const needsMajor, needsMinor = 1, 4
+// The oldest program that this package works with, and the first one that has wide kinds.
+const needsMajor, needsMinor, wideMinor = 1, 4, 5
 
 const patience = 10 * time.Second // for what takes milliseconds
 
 // program is a running `jepmon script`.
 type program struct {
 	path    string
+	kind    Model // by which it judges all keys
 	command *exec.Cmd
 	input   io.WriteCloser
 	output  *bufio.Reader
@@ -41,18 +42,11 @@ func refused(reply string) *Verdict {
 }
 
 func startProgram(o Options) (*program, error) {
-	path, err := findProgram(o.Program)
+	path, kind, err := chooseProgram(o)
 	if err != nil {
-		return nil, refused(err.Error())
+		return nil, err
 	}
-	if err := testVersion(path); err != nil {
-		return nil, refused(err.Error())
-	}
-	words := []string{"script", "--strict", "--concurrency", strconv.Itoa(o.Concurrency), "--model", string(o.Model)}
-	if o.Budget > 0 {
-		words = append(words, "--budget", strconv.Itoa(o.Budget))
-	}
-	p := &program{path: path, command: exec.Command(path, words...)}
+	p := &program{path: path, kind: kind, command: exec.Command(path, append([]string{"script", "--strict"}, o.words(kind)...)...)}
 	p.command.SysProcAttr = &syscall.SysProcAttr{Setpgid: true} // Ctrl-C in a terminal is for the test
 	p.command.Stderr = &p.errors
 	if p.input, err = p.command.StdinPipe(); err != nil {
@@ -67,6 +61,31 @@ func startProgram(o Options) (*program, error) {
 		return nil, refused(err.Error())
 	}
 	return p, nil
+}
+
+// chooseProgram finds the program, and the kind by which it judges. A *Verdict says why it can't be used.
+func chooseProgram(o Options) (string, Model, error) {
+	path, err := findProgram(o.Program)
+	if err != nil {
+		return "", "", refused(err.Error())
+	}
+	minor, err := version(path)
+	if err != nil {
+		return "", "", refused(err.Error())
+	}
+	if kind := wide[o.Model]; kind != "" && !o.ByEnds && minor >= wideMinor {
+		return path, kind, nil
+	}
+	return path, o.Model, nil
+}
+
+// words are those options that `jepmon script` and `jepmon check` have.
+func (o Options) words(kind Model) []string {
+	words := []string{"--concurrency", strconv.Itoa(o.Concurrency), "--model", string(kind)}
+	if o.Budget > 0 {
+		words = append(words, "--budget", strconv.Itoa(o.Budget))
+	}
+	return words
 }
 
 // findProgram gives the path of the program: the one that is named, or that JEPMON names; else the one that lies beside this
@@ -117,24 +136,24 @@ func isProgram(path string) bool {
 
 var versionLine = regexp.MustCompile(`^jepmon (\d+)\.(\d+)\.\d+\n`)
 
-// testVersion says what is wrong with the version of the program.
-func testVersion(path string) error {
+// version gives the minor version of the program, or says what is wrong with it.
+func version(path string) (int, error) {
 	ctx, cancel := context.WithTimeout(context.Background(), patience)
 	defer cancel()
 	said, err := exec.CommandContext(ctx, path, "--version").Output()
 	if err != nil {
-		return fmt.Errorf("%s can't be used: %v", path, err)
+		return 0, fmt.Errorf("%s can't be used: %v", path, err)
 	}
 	found := versionLine.FindSubmatch(said)
 	if found == nil {
-		return fmt.Errorf("%s is no jepmon: its --version prints %.80q", path, said)
+		return 0, fmt.Errorf("%s is no jepmon: its --version prints %.80q", path, said)
 	}
 	major, _ := strconv.Atoi(string(found[1]))
 	minor, _ := strconv.Atoi(string(found[2]))
 	if major != needsMajor || minor < needsMinor {
-		return fmt.Errorf("%s is %s: this package needs jepmon %d.%d or a later %d", path, bytes.SplitN(said, []byte("\n"), 2)[0], needsMajor, needsMinor, needsMajor)
+		return 0, fmt.Errorf("%s is %s: this package needs jepmon %d.%d or a later %d", path, bytes.SplitN(said, []byte("\n"), 2)[0], needsMajor, needsMinor, needsMajor)
 	}
-	return nil
+	return minor, nil
 }
 
 // legalReplies takes the replies `legal` that have come already, and says how many they are.

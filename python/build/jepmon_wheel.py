@@ -55,10 +55,29 @@ def modules() -> Files:
 
 
 def metadata() -> bytes:
-    told = project("project")
+    told, addresses = project("project"), project("project.urls")
     head = (f"Metadata-Version: 2.1\nName: jepmon\nVersion: {told['version']}\nSummary: {told['description']}\n"
-            f"Requires-Python: {told['requires-python']}\nDescription-Content-Type: text/markdown\n\n")
-    return head.encode() + (TOP / told["readme"]).read_bytes()
+            + "".join(f"Project-URL: {name}, {address}\n" for name, address in addresses.items())
+            + f"Requires-Python: {told['requires-python']}\nDescription-Content-Type: text/markdown\n\n")
+    return (head + page((TOP / told["readme"]).read_text(encoding="utf-8"), addresses.get("Repository"), f"v{told['version']}")).encode()
+
+
+def page(text: str, repository: Optional[str], tag: str) -> str:
+    """The page of the package on an index, where no file lies beside it. Links and pictures lead to this version in the repository that
+    pyproject.toml names. If it names none, a link is its words, and there are no pictures."""
+
+    def absolute(match: "re.Match[str]") -> str:
+        is_picture, words, target = match.groups()
+        if re.match(r"[a-z]+:", target):
+            return match.group()
+        if repository is None:
+            return "" if is_picture else words
+        if target.startswith("#"):
+            target = f"README.md{target}"
+        return f"{is_picture}[{words}]({repository.rstrip('/')}/{'raw' if is_picture else 'blob'}/{tag}/{target})"
+
+    parts = re.split(r"(^```.*?^```$)", text, flags=re.M | re.S)  # commands stay as they are
+    return "".join(part if part.startswith("```") else re.sub(r"(!?)\[([^\]]*)\]\(([^)\s]+)\)", absolute, part) for part in parts)
 
 
 def described() -> Files:

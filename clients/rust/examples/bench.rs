@@ -16,7 +16,9 @@ fn measure(monitor: &Monitor, client: u32, operations: u32) -> Result<(), Error>
 
 fn main() {
     let words: Vec<String> = std::env::args().collect();
-    let (wait, clients, operations) = (words[1] == "true", words[2].parse().unwrap(), words[3].parse().unwrap());
+    let wait = words[1] == "true";
+    let clients: u32 = words[2].parse().unwrap();
+    let operations: u32 = words[3].parse().unwrap();
     let monitor = Monitor::start(Options { wait, ..Options::default() }).unwrap();
     let mut most = 0.0_f64;
     for _ in 0..3 {

@@ -1,7 +1,7 @@
 //! The exchange with the program: one thread writes, one reads, and one looks at the time.
 use crate::monitor::{Shared, MOST};
 use crate::program::Program;
-use crate::{Status, Verdict};
+use crate::{history, Status, Verdict};
 use std::fmt;
 use std::io::{BufRead, BufReader, Write};
 use std::process::{ChildStdin, ChildStdout};
@@ -93,14 +93,19 @@ fn replied(shared: &Shared, reply: &str, count: u64) -> Option<String> {
     if reply == "legal" {
         return None;
     }
-    let verdict = match Verdict::of(reply) {
+    let mut verdict = match Verdict::of(reply) {
         Some(verdict) => verdict,
         None => return Some(if reply.starts_with("refused") { reply.to_string() } else { format!("refused: {reply}") }),
     };
-    if verdict.status == Status::Unknown && state.unknown.is_none() {
-        state.unknown = Some(verdict.clone());
+    let goes_on = verdict.status == Status::Unknown && shared.options.go_on;
+    if goes_on && state.unknown.is_some() || state.bad.is_some() {
+        return None;
     }
-    if verdict.status == Status::Illegal || !shared.options.go_on {
+    verdict.tail = history::tail(state.history(), &verdict);
+    verdict.hint = history::hint(&verdict, &shared.options, &shared.program);
+    if goes_on {
+        state.unknown = Some(verdict);
+    } else {
         shared.fail(&mut state, verdict);
         shared.kill(&state);
     }
@@ -140,7 +145,11 @@ pub(crate) fn watch(shared: &Shared) {
         }
         if since.elapsed() > timeout {
             let seconds = timeout.as_secs();
-            let text = format!("jepmon gave no reply for {seconds} seconds, after {} replies to {} lines", state.replies, state.lines);
+            let (replies, lines) = (state.replies, state.lines);
+            let text = format!(
+                "jepmon gave no reply for {seconds} seconds, after {replies} replies to {lines} lines: lines take long if many clients share a key, so use \
+                 more keys, or a greater timeout"
+            );
             shared.fail(&mut state, Verdict::refused(&text));
             shared.kill(&state);
         }

@@ -1,5 +1,5 @@
 //! The lines of a history, for what is said of a verdict.
-use crate::program::{is_executable, on_path};
+use crate::program::{is_executable, on_path, Chosen};
 use crate::{Options, Status, Verdict};
 use std::io::Write;
 use std::path::{Path, PathBuf};
@@ -18,8 +18,25 @@ pub(crate) fn tail<'a>(pieces: impl Iterator<Item = &'a str>, verdict: &Verdict)
     all[all.len().saturating_sub(MOST)..].iter().map(|(index, line)| format!("{index} {line}")).collect()
 }
 
-/// Writes the history to a file, and asks jepmon-judge for the cause in words, if it is there.
-pub(crate) fn report<'a>(verdict: &mut Verdict, options: &Options, program: &Path, pieces: impl Iterator<Item = &'a str>) {
+/// What helps if a key is over its budget.
+pub(crate) fn hint(verdict: &Verdict, options: &Options, program: &Chosen) -> Option<String> {
+    if verdict.status != Status::Unknown {
+        return None;
+    }
+    let way = match options.model.wide().filter(|kind| *kind != program.kind) {
+        None => String::new(),
+        Some(kind) if options.by_ends => format!(". Without by_ends the kind {kind} may decide it"),
+        Some(kind) => format!(". {} does not have the kind {kind}: a newer jepmon may decide it", program.path.display()),
+    };
+    let key = verdict.key;
+    Some(format!(
+        "key {key} has more outcomes than its budget: raise budget, let fewer clients use one key, or write to a new key after timeouts{way}"
+    ))
+}
+
+/// Writes the history to a file. It asks the program for the other keys over their budget, and jepmon-judge for the cause in words, if
+/// it is there.
+pub(crate) fn report<'a>(verdict: &mut Verdict, options: &Options, program: &Chosen, pieces: impl Iterator<Item = &'a str>) {
     let folder = options.out.clone().or_else(|| std::env::var_os("JEPMON_OUT").map(PathBuf::from)).unwrap_or_else(std::env::temp_dir);
     let name = format!("jepmon-{}-{}.edn", std::process::id(), FILES.fetch_add(1, Ordering::Relaxed));
     let path = folder.join(name);
@@ -33,9 +50,19 @@ pub(crate) fn report<'a>(verdict: &mut Verdict, options: &Options, program: &Pat
         return;
     }
     if verdict.status == Status::Illegal {
-        verdict.cause = cause(&path, options, program);
+        verdict.cause = cause(&path, options, &program.path);
+    }
+    if verdict.status == Status::Unknown && options.go_on {
+        verdict.also = over(&program.check(&path), verdict.key);
     }
     verdict.history = Some(path);
+}
+
+/// The keys over their budget other than this one, by the report of `jepmon check`. `script` names the first one alone.
+fn over(report: &str, key: u32) -> Vec<String> {
+    let words = report.lines().map(|line| line.split(' ').collect::<Vec<_>>());
+    let over = words.filter(|words| words.len() == 11 && words[9] == "over" && words[1] != key.to_string());
+    over.map(|words| format!("unknown key {} index {}", words[1], words[10])).collect()
 }
 
 fn cause(history: &Path, options: &Options, program: &Path) -> Vec<String> {

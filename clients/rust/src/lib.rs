@@ -62,6 +62,15 @@ impl Model {
         }
     }
 
+    /// The name of the program's second kind of the same object, of which fewer outcomes count against the budget.
+    pub(crate) fn wide(self) -> Option<&'static str> {
+        match self {
+            Model::Register => Some("wide-register"),
+            Model::Set => Some("wide-set"),
+            _ => None,
+        }
+    }
+
     pub(crate) fn operations(self) -> &'static [&'static str] {
         match self {
             Model::Register => &["read", "write"],
@@ -77,6 +86,17 @@ impl Model {
     }
 }
 
+impl std::str::FromStr for Model {
+    type Err = Error;
+
+    /// The model of this name, as `cas-register`, or of its kind, as `wide-register`.
+    fn from_str(name: &str) -> Result<Model, Error> {
+        let all = [Model::Register, Model::CasRegister, Model::Mutex, Model::FifoQueue, Model::UnorderedQueue, Model::Set];
+        let found = all.iter().find(|model| model.name() == name || model.wide() == Some(name));
+        found.copied().ok_or_else(|| Error::Mistake(format!("there is no model {name}")))
+    }
+}
+
 /// How a monitor judges.
 #[derive(Clone, Debug)]
 pub struct Options {
@@ -88,6 +108,8 @@ pub struct Options {
     pub concurrency: usize,
     /// How many outcomes of a key are followed before it is unknown.
     pub budget: Option<u32>,
+    /// Registers and sets are judged by all their outcomes, as `jepmon check --model register` does.
+    pub by_ends: bool,
     /// Each event waits for its reply: no request is sent after a bad event.
     pub wait: bool,
     /// What each register holds at first; without it, it is missing.
@@ -107,6 +129,7 @@ impl Default for Options {
             model: Model::Register,
             concurrency: 64,
             budget: None,
+            by_ends: false,
             wait: false,
             initial: None,
             go_on: false,

@@ -1,5 +1,5 @@
 use crate::exchange::{self, Line};
-use crate::program::{kill_group, Program};
+use crate::program::{kill_group, Chosen, Program};
 use crate::{history, Error, Operation, Options, Verdict, ABSENT};
 use std::collections::{BTreeMap, HashSet};
 use std::fmt::Write as _;
@@ -11,6 +11,7 @@ pub(crate) const MOST: usize = 1 << 20; // bytes that wait for the program: if t
 /// What the threads share.
 pub(crate) struct Shared {
     pub options: Options,
+    pub program: Chosen,
     pub id: i32, // of the program's process
     pub state: Mutex<State>,
     pub changed: Condvar, // replies came, there is room, or it is over
@@ -48,13 +49,8 @@ impl Shared {
     }
 
     /// Ends the test, once.
-    pub fn fail(&self, state: &mut State, mut verdict: Verdict) {
-        if state.bad.is_none() {
-            if verdict.status != crate::Status::Refused {
-                verdict.tail = history::tail(state.history(), &verdict);
-            }
-            state.bad = Some(verdict);
-        }
+    pub fn fail(&self, state: &mut State, verdict: Verdict) {
+        state.bad.get_or_insert(verdict);
         self.changed.notify_all();
         self.filled.notify_all();
     }
@@ -80,6 +76,16 @@ impl Shared {
             state = self.wait(state);
         }
         state.test()
+    }
+
+    /// Completes the first `unknown` of a test that goes on, at the end of its history.
+    fn report_unknown(&self, state: &mut State) {
+        if let Some(mut verdict) = state.unknown.take() {
+            if verdict.history.is_none() {
+                history::report(&mut verdict, &self.options, &self.program, state.history());
+            }
+            state.unknown = Some(verdict);
+        }
     }
 
     fn begin_key(&self, state: &mut State, key: u32, value: i64) {
@@ -110,7 +116,6 @@ impl State {
 /// legal and nothing else panics.
 pub struct Monitor {
     pub(crate) shared: Arc<Shared>,
-    program: std::path::PathBuf,
     threads: Vec<JoinHandle<()>>,
 }
 
@@ -118,7 +123,6 @@ impl Monitor {
     /// Starts the program. The verdict says why it can't be used.
     pub fn start(options: Options) -> Result<Monitor, Error> {
         let (program, input, output) = Program::start(&options)?;
-        let path = program.path.clone();
         let state = State {
             buffer: String::new(),
             kept: vec![],
@@ -138,6 +142,7 @@ impl Monitor {
         };
         let shared = Arc::new(Shared {
             id: program.id(),
+            program: program.chosen.clone(),
             options,
             state: Mutex::new(state),
             changed: Condvar::new(),
@@ -149,7 +154,7 @@ impl Monitor {
             std::thread::spawn(move || exchange::read(&reading, output, program)),
             std::thread::spawn(move || exchange::watch(&watching)),
         ];
-        let mut monitor = Monitor { shared, program: path, threads };
+        let mut monitor = Monitor { shared, threads };
         monitor.greet()?;
         Ok(monitor)
     }
@@ -316,6 +321,7 @@ impl Monitor {
         state.resetting = false;
         self.shared.changed.notify_all();
         state.test()?;
+        self.shared.report_unknown(&mut state);
         state.kept.clear();
         state.begun.clear();
         state.processes = (0..self.shared.options.concurrency as u64).collect();
@@ -334,14 +340,13 @@ impl Monitor {
         for thread in self.threads.drain(..) {
             let _ = thread.join();
         }
-        let state = self.shared.lock();
-        match state.bad.clone().or_else(|| state.unknown.clone()) {
-            None => Ok(()),
-            Some(mut verdict) => {
-                history::report(&mut verdict, &self.shared.options, &self.program, state.history());
-                Err(verdict.into())
-            }
+        let mut state = self.shared.lock();
+        if let Some(mut verdict) = state.bad.clone() {
+            history::report(&mut verdict, &self.shared.options, &self.shared.program, state.history());
+            return Err(verdict.into());
         }
+        self.shared.report_unknown(&mut state);
+        state.unknown.clone().map_or(Ok(()), |verdict| Err(verdict.into()))
     }
 }
 

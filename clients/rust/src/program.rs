@@ -10,15 +10,44 @@ use std::time::Duration;
 
 const MAJOR: u32 = 1; // of the oldest program that this crate works with
 const MINOR: u32 = 4;
+const WIDE_MINOR: u32 = 5; // of the first one that has wide kinds
 
 extern "C" {
     fn setsid() -> i32;
     fn kill(process: i32, signal: i32) -> i32;
 }
 
+/// The program, and the options that `jepmon script` and `jepmon check` have.
+#[derive(Clone)]
+pub(crate) struct Chosen {
+    pub path: PathBuf,
+    pub kind: &'static str, // by which it judges all keys
+    words: Vec<String>,
+}
+
+impl Chosen {
+    fn new(options: &Options) -> Result<Chosen, Verdict> {
+        let path = find(options.program.as_deref())?;
+        let has_wide = minor_version(&path)? >= WIDE_MINOR;
+        let kind = options.model.wide().filter(|_| has_wide && !options.by_ends).unwrap_or(options.model.name());
+        let mut words = vec!["--concurrency".into(), options.concurrency.to_string(), "--model".into(), kind.into()];
+        if let Some(budget) = options.budget {
+            words.extend(["--budget".into(), budget.to_string()]);
+        }
+        Ok(Chosen { path, kind, words })
+    }
+
+    /// What `jepmon check` says of a history.
+    pub fn check(&self, history: &Path) -> String {
+        let mut command = Command::new(&self.path);
+        command.arg("check").arg(history).args(&self.words).stdin(Stdio::null()).stderr(Stdio::null());
+        command.output().map_or(String::new(), |told| String::from_utf8_lossy(&told.stdout).into_owned())
+    }
+}
+
 /// A running `jepmon script`.
 pub(crate) struct Program {
-    pub path: PathBuf,
+    pub chosen: Chosen,
     child: Child,
     errors: JoinHandle<String>,
 }
@@ -32,13 +61,9 @@ pub(crate) struct End {
 
 impl Program {
     pub fn start(options: &Options) -> Result<(Program, ChildStdin, ChildStdout), Verdict> {
-        let path = find(options.program.as_deref())?;
-        test_version(&path)?;
-        let mut command = Command::new(&path);
-        command.args(["script", "--strict", "--concurrency", &options.concurrency.to_string(), "--model", options.model.name()]);
-        if let Some(budget) = options.budget {
-            command.args(["--budget", &budget.to_string()]);
-        }
+        let chosen = Chosen::new(options)?;
+        let mut command = Command::new(&chosen.path);
+        command.args(["script", "--strict"]).args(&chosen.words);
         command.stdin(Stdio::piped()).stdout(Stdio::piped()).stderr(Stdio::piped());
         // SAFETY: setsid is async-signal-safe. Ctrl-C in a terminal is for the test.
         unsafe {
@@ -47,7 +72,7 @@ impl Program {
                 Ok(())
             });
         }
-        let mut child = command.spawn().map_err(|e| Verdict::refused(&format!("{}: {e}", path.display())))?;
+        let mut child = command.spawn().map_err(|e| Verdict::refused(&format!("{}: {e}", chosen.path.display())))?;
         let (input, output) = (child.stdin.take().unwrap(), child.stdout.take().unwrap());
         let mut stderr = child.stderr.take().unwrap();
         let errors = std::thread::spawn(move || {
@@ -55,7 +80,7 @@ impl Program {
             let _ = stderr.read_to_end(&mut text);
             String::from_utf8_lossy(&text).split_whitespace().collect::<Vec<_>>().join(" ")
         });
-        Ok((Program { path, child, errors }, input, output))
+        Ok((Program { chosen, child, errors }, input, output))
     }
 
     pub fn id(&self) -> i32 {
@@ -124,7 +149,7 @@ fn is_machine_code(path: &Path) -> bool {
     is_executable(path) && std::fs::File::open(path).and_then(|mut file| file.read_exact(&mut first)).is_ok() && &first == b"\x7fELF"
 }
 
-fn test_version(path: &Path) -> Result<(), Verdict> {
+fn minor_version(path: &Path) -> Result<u32, Verdict> {
     let told = Command::new(path)
         .arg("--version")
         .stdin(Stdio::null())
@@ -135,7 +160,7 @@ fn test_version(path: &Path) -> Result<(), Verdict> {
     let line = text.lines().next().unwrap_or("");
     let numbers: Vec<u32> = line.strip_prefix("jepmon ").unwrap_or("").split('.').filter_map(|word| word.parse().ok()).collect();
     match numbers[..] {
-        [MAJOR, minor, _] if minor >= MINOR => Ok(()),
+        [MAJOR, minor, _] if minor >= MINOR => Ok(minor),
         [_, _, _] => Err(Verdict::refused(&format!("{} is {line}: this crate needs jepmon {MAJOR}.{MINOR} or a later {MAJOR}", path.display()))),
         _ => Err(Verdict::refused(&format!("{} is no jepmon: its --version prints {line:?}", path.display()))),
     }

@@ -25,6 +25,10 @@ pub struct Verdict {
     pub reply: String,
     /// The last events of the key, each after its index.
     pub tail: Vec<String>,
+    /// Of unknown: what helps.
+    pub hint: Option<String>,
+    /// Of unknown, at the end of a test that goes on: the other keys over their budget, as `unknown key 2 index 13`.
+    pub also: Vec<String>,
     /// The cause in words, at the end, if jepmon-judge is there.
     pub cause: Vec<String>,
     /// The file of the history, at the end.
@@ -34,7 +38,7 @@ pub struct Verdict {
 impl Verdict {
     pub(crate) fn refused(why: &str) -> Verdict {
         let reply = if why.starts_with("refused") { why.to_string() } else { format!("refused: {why}") };
-        Verdict { status: Status::Refused, key: 0, index: 0, reply, tail: vec![], cause: vec![], history: None }
+        Verdict { status: Status::Refused, key: 0, index: 0, reply, tail: vec![], hint: None, also: vec![], cause: vec![], history: None }
     }
 
     /// The verdict of a reply; none if it is not illegal or unknown.
@@ -49,14 +53,20 @@ impl Verdict {
             _ => return None,
         };
         let (key, index) = (words[2].parse().ok()?, words[4].parse().ok()?);
-        Some(Verdict { status, key, index, reply: reply.to_string(), tail: vec![], cause: vec![], history: None })
+        Some(Verdict { status, key, index, reply: reply.to_string(), tail: vec![], hint: None, also: vec![], cause: vec![], history: None })
     }
 }
 
 impl fmt::Display for Verdict {
     fn fmt(&self, f: &mut fmt::Formatter<'_>) -> fmt::Result {
         write!(f, "{}", self.reply)?;
-        for line in self.tail.iter().chain(&self.cause) {
+        for line in self.tail.iter().chain(&self.hint) {
+            write!(f, "\n  {line}")?;
+        }
+        for line in &self.also {
+            write!(f, "\n  also {line}")?;
+        }
+        for line in &self.cause {
             write!(f, "\n  {line}")?;
         }
         match &self.history {

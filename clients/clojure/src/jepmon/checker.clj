@@ -14,15 +14,26 @@
 
 (defn- executable? [^File file] (and (.isFile file) (.canExecute file)))
 
+(defn- above
+  "The folders above a file."
+  [^File file]
+  (take-while some? (rest (iterate #(some-> ^File % .getParentFile) (.getAbsoluteFile file)))))
+
+(defn- own-file
+  "The file of this namespace; nil if it lies in a jar."
+  []
+  (let [source (io/resource "jepmon/checker.clj")]
+    (when (= "file" (some-> source .getProtocol)) (io/file source))))
+
 (defn judge
-  "The path of jepmon-judge: JEPMON_JUDGE names it, or it lies beside the program that JEPMON names or in its clone, or it is on the
-  PATH."
+  "The path of jepmon-judge: JEPMON_JUDGE names it, or it lies beside the program that JEPMON names or in its clone, or in the clone of
+  this library, or it is on the PATH."
   []
   (let [named (System/getenv "JEPMON_JUDGE")
         program (System/getenv "JEPMON")
-        folders (when program (take 2 (rest (iterate #(some-> ^File % .getParentFile) (.getAbsoluteFile (io/file program))))))]
+        folders (concat (when program (take 2 (above (io/file program)))) (some-> (own-file) above))]
     (or (when-not (contains? #{nil "" "no"} named) named)
-        (some #(when (and % (executable? (io/file % "jepmon-judge"))) (str (io/file % "jepmon-judge"))) folders)
+        (some #(when (executable? (io/file % "jepmon-judge")) (str (io/file % "jepmon-judge"))) folders)
         "jepmon-judge")))
 
 (defn- folder
@@ -50,7 +61,8 @@
   [line]
   (when-let [[_ k model events status at]
              (re-matches #"key (\d+) model (\S+) budget \d+ events (\d+) status (\S+)(?: (\d+))?" line)]
-    {:key (parse-long k) :model (keyword model) :events (parse-long events) :status (keyword status) :index (some-> at parse-long)}))
+    {:key (parse-long k) :model (keyword (str/replace model #"^wide-" "")) :kind (keyword model) :events (parse-long events)
+     :status (keyword status) :index (some-> at parse-long)}))
 
 (defn- event
   "The event of this index in the history that was judged."
@@ -67,7 +79,7 @@
      :jepsen-index (:jepsen-index op)
      :cause (when (.exists cause) (slurp cause))}))
 
-(defn- words-of [{:keys [model key budget jobs nil-is-absent initial decide-seconds wide-seconds]}]
+(defn- words-of [{:keys [model key budget by-ends jobs nil-is-absent initial decide-seconds wide-seconds]}]
   (cond-> []
     model (into ["--model" (name model)])
     key (into ["--key" (str key)])
@@ -75,6 +87,7 @@
     jobs (into ["--jobs" (str jobs)])
     initial (into ["--initial" (str initial)])
     (or decide-seconds wide-seconds) (into ["--decide-seconds" (str (or decide-seconds wide-seconds))])
+    by-ends (conj "--by-ends")
     nil-is-absent (conj "--nil-is-absent")))
 
 (def verdicts
@@ -111,8 +124,8 @@
           {:valid? :unknown, :error (str "jepmon-judge can't be run: " (.getMessage e)), :jepmon-dir (str dir)})))))
 
 (defn linearizable
-  "A checker. Options: :model, which jepmon-judge else finds out; :key, if values are no tuples; :budget, :jobs, :initial, :nil-is-absent
-  and :decide-seconds (formerly :wide-seconds) as those of jepmon-judge; :program, its path.
+  "A checker. Options: :model, which jepmon-judge else finds out; :key, if values are no tuples; :budget, :by-ends, :jobs, :initial,
+  :nil-is-absent and :decide-seconds (formerly :wide-seconds) as those of jepmon-judge; :program, its path.
 
   The result has :valid? (true, false or :unknown), :verdict (the last line of the report), :key-count, :failures, :unknown and
   :jepmon-dir, the folder of all that came of it. If :valid? is false, also :key, :index, :op (the first event after which the history

@@ -13,11 +13,12 @@
            (jepmon Model Monitor Operation Options Verdict)))
 
 (defn options
-  "The options of a monitor. Keys: :model, :concurrency, :budget, :wait?, :initial, :go-on?, :timeout (seconds), :program, :out."
-  ^Options [{:keys [model concurrency budget wait? initial go-on? timeout program out]}]
+  "The options of a monitor. Keys: :model, :concurrency, :budget, :by-ends?, :wait?, :initial, :go-on?, :timeout (seconds), :program, :out."
+  ^Options [{:keys [model concurrency budget by-ends? wait? initial go-on? timeout program out]}]
   (cond-> (Options/of (Model/of (name (or model :register))))
     concurrency (.concurrency (int concurrency))
     budget (.budget (int budget))
+    by-ends? .byEnds
     wait? .waiting
     initial (.initial (long initial))
     go-on? .goOn

@@ -21,6 +21,7 @@
             (case word
               "model" (assoc opts :model value)
               ("concurrency" "budget" "initial" "timeout") (assoc opts (keyword word) (parse-long value))
+              "by-ends" (assoc opts :by-ends? true)
               "unknown" (assoc opts :go-on? true)
               "program" (assoc opts :program (.getCanonicalPath (io/file table "programs" value)))
               opts))
@@ -87,23 +88,24 @@
       operations)))
 
 (defn reply
-  "The reply of the verdict, and the counts."
+  "The reply of the verdict, the counts, and the text of the verdict."
   [scenario wait?]
   (let [m (try (live/start (options-of scenario wait?)) (catch Verdict v v))]
     (if (instance? Verdict m)
-      [(.reply ^Verdict m) {}]
+      [(.reply ^Verdict m) {} (.getMessage ^Verdict m)]
       (try
         (try (reduce #(act m %1 %2) {} scenario) (catch Verdict _ nil))
-        (let [r (live/result m)] [(:verdict r) (:counts r)])
+        (let [r (live/result m)] [(:verdict r) (:counts r) (:cause r)])
         (finally (live/result m))))))
 
 (defn fault [scenario wait?]
-  (let [[reply counts] (reply scenario wait?)]
+  (let [[reply counts text] (reply scenario wait?)]
     (first (for [[word a b c :as words] scenario
                  :let [wrong (case word
                                "expect" (let [want (if (and c (not= "refused" a)) (str a " key " b " index " c) a)
                                               more (if (= "refused" a) (str/join " " (drop 2 words)) "")]
                                           (not (and (str/starts-with? reply want) (str/includes? reply more))))
+                               "says" (not (str/includes? (str text) (str/join " " (rest words))))
                                "count" (not= (parse-long c) (get counts (str a " " b) 0))
                                false)]
                  :when wrong]

@@ -14,6 +14,7 @@ import java.util.regex.Pattern;
 /** The lines of a history, for what is said of a verdict. */
 final class History {
     private static final int MOST = 12; // events in a verdict's text
+    private static final Pattern OVER = Pattern.compile("(?m)^key (\\d+) .* status over (\\d+)$");
     private static final Pattern STRING = Pattern.compile("\"((?:[^\"\\\\]|\\\\.)*)\"");
 
     private History() {}
@@ -33,18 +34,47 @@ final class History {
         return new ArrayList<>(last);
     }
 
-    /** Writes the history to a file, and says where it is, and the cause in words if jepmon-judge is there. */
-    static List<String> report(Verdict verdict, Options options, String program, List<Lines> pieces) {
+    /** The verdict with the last events of its key, and with what helps if the key is over its budget. */
+    static Verdict described(Verdict verdict, Options options, Program program, List<Lines> pieces) {
+        List<String> lines = tail(pieces, verdict);
+        if (verdict.status.equals("unknown")) lines.add(hint(verdict, options, program));
+        return verdict.with(lines);
+    }
+
+    private static String hint(Verdict verdict, Options options, Program program) {
+        String text = "key " + verdict.key + " has more outcomes than its budget: raise budget, let fewer clients use one key, or write to a new key"
+            + " after timeouts";
+        String kind = options.model.wide;
+        if (kind == null || kind.equals(program.kind)) return text;
+        if (options.byEnds) return text + ". Without byEnds the kind " + kind + " may decide it";
+        return text + ". " + program.path + " does not have the kind " + kind + ": a newer jepmon may decide it";
+    }
+
+    /**
+     * Writes the history to a file, and says where it is. It asks the program for the other keys over their budget, and jepmon-judge for the
+     * cause in words, if it is there.
+     */
+    static List<String> report(Verdict verdict, Options options, Program program, List<Lines> pieces) {
         List<String> lines = new ArrayList<>();
         try {
             Path file = Files.createTempFile(options.folder(), "jepmon-", ".edn");
             try (OutputStream out = Files.newOutputStream(file)) {
                 for (Lines piece : pieces) out.write(piece.bytes, 0, piece.length);
             }
-            if (verdict.status.equals("illegal")) lines.addAll(cause(file, options, program));
+            if (verdict.status.equals("illegal")) lines.addAll(cause(file, options, program.path));
+            if (verdict.status.equals("unknown") && options.goesOn) lines.addAll(over(verdict, program.check(file, options)));
             lines.add("history: " + file.toAbsolutePath());
         } catch (IOException e) {
             lines.add("the history can't be written: " + e);
+        }
+        return lines;
+    }
+
+    /** The keys over their budget other than the verdict's. {@code script} names the first one alone. */
+    private static List<String> over(Verdict verdict, String report) {
+        List<String> lines = new ArrayList<>();
+        for (Matcher found = OVER.matcher(report); found.find(); ) {
+            if (Integer.parseInt(found.group(1)) != verdict.key) lines.add("also unknown key " + found.group(1) + " index " + found.group(2));
         }
         return lines;
     }

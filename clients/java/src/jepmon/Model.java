@@ -4,18 +4,21 @@ import java.util.Set;
 
 /** The kind of object that each key is, and its operations. */
 public enum Model {
-    REGISTER("register", "read", "write"),
-    CAS_REGISTER("cas-register", "read", "write", "cas"),
-    MUTEX("mutex", "acquire", "release"),
-    FIFO_QUEUE("fifo-queue", "enqueue", "dequeue"),
-    UNORDERED_QUEUE("unordered-queue", "enqueue", "dequeue"),
-    SET("set", "add", "read");
+    REGISTER("register", "wide-register", "read", "write"),
+    CAS_REGISTER("cas-register", null, "read", "write", "cas"),
+    MUTEX("mutex", null, "acquire", "release"),
+    FIFO_QUEUE("fifo-queue", null, "enqueue", "dequeue"),
+    UNORDERED_QUEUE("unordered-queue", null, "enqueue", "dequeue"),
+    SET("set", "wide-set", "add", "read");
 
     final String word;
+    /** The program's second kind of the same object, of which fewer outcomes count against the budget; null if it has none. */
+    final String wide;
     final Set<String> operations;
 
-    Model(String word, String... operations) {
+    Model(String word, String wide, String... operations) {
         this.word = word;
+        this.wide = wide;
         this.operations = Set.of(operations);
     }
 
@@ -23,10 +26,10 @@ public enum Model {
         return this == REGISTER || this == CAS_REGISTER;
     }
 
-    /** The model of this word, as {@code "cas-register"}. */
+    /** The model of this word, as {@code "cas-register"}, or of its kind, as {@code "wide-register"}. */
     public static Model of(String word) {
         for (Model model : values()) {
-            if (model.word.equals(word)) return model;
+            if (model.word.equals(word) || word.equals(model.wide)) return model;
         }
         throw new IllegalArgumentException("there is no model " + word);
     }

@@ -48,7 +48,7 @@ public final class Monitor implements AutoCloseable {
     private final Map<String, Long> counts = new TreeMap<>();
     private String last = "legal";
     private Verdict bad, unknown;
-    private boolean isClosed, hasEnded, isResetting, isReported;
+    private boolean isClosed, hasEnded, isResetting;
 
     private Monitor(Options options) {
         this.options = options;
@@ -151,8 +151,11 @@ public final class Monitor implements AutoCloseable {
             if (reply.equals("legal")) return null;
             Verdict verdict = Verdict.of(reply);
             if (verdict == null) return reply.startsWith("refused") ? reply : "refused: " + reply;
-            if (verdict.status.equals("unknown") && unknown == null) unknown = verdict;
-            if (!verdict.status.equals("unknown") || !options.goesOn) fail(verdict);
+            boolean goesOn = verdict.status.equals("unknown") && options.goesOn;
+            if (goesOn && unknown != null || bad != null) return null;
+            verdict = History.described(verdict, options, program, history());
+            if (goesOn) unknown = verdict;
+            else fail(verdict);
             return null;
         } finally {
             lock.unlock();
@@ -172,7 +175,7 @@ public final class Monitor implements AutoCloseable {
                 }
                 if (System.nanoTime() - since > options.timeout.toNanos()) {
                     fail(Verdict.refused("jepmon gave no reply for " + options.timeout.toSeconds() + " seconds, after " + replies + " replies to "
-                        + lines + " lines"));
+                        + lines + " lines: lines take long if many clients share a key, so use more keys, or a greater timeout"));
                     program.kill();
                 }
             }
@@ -187,7 +190,7 @@ public final class Monitor implements AutoCloseable {
 
     /** Ends the test, once. */
     private void fail(Verdict verdict) {
-        if (bad == null) bad = verdict.status.equals("refused") ? verdict : verdict.with(History.tail(history(), verdict));
+        if (bad == null) bad = verdict;
         changed.signalAll();
         filled.signalAll();
     }
@@ -402,6 +405,7 @@ public final class Monitor implements AutoCloseable {
             isResetting = false;
             changed.signalAll();
             test();
+            if (unknown != null) unknown = reported(unknown);
             kept.clear();
             begun.clear();
             for (int thread = 0; thread < processes.length; thread++) processes[thread] = thread;
@@ -420,11 +424,18 @@ public final class Monitor implements AutoCloseable {
             while (!hasEnded) changed.awaitUninterruptibly();
             if (bad == null) bad = unknown;
             if (bad == null) return;
-            if (!isReported) bad = bad.with(History.report(bad, options, program.path, history()));
-            isReported = true;
+            bad = reported(bad);
             throw bad;
         } finally {
             lock.unlock();
         }
+    }
+
+    /** Adds to a verdict what is known at the end of its history, once. The caller has the lock. */
+    private Verdict reported(Verdict verdict) {
+        if (verdict.isReported) return verdict.again();
+        Verdict whole = verdict.with(History.report(verdict, options, program, history()));
+        whole.isReported = true;
+        return whole;
     }
 }

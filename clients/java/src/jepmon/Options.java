@@ -9,6 +9,7 @@ public final class Options implements Cloneable {
     Model model = Model.REGISTER;
     int concurrency = 64;
     int budget;
+    boolean byEnds;
     boolean waits;
     boolean goesOn;
     Long initial;
@@ -50,6 +51,11 @@ public final class Options implements Cloneable {
     /** How many outcomes of a key are followed before it is unknown. */
     public Options budget(int outcomes) {
         return with(o -> o.budget = outcomes);
+    }
+
+    /** Registers and sets are judged by all their outcomes, as {@code jepmon check --model register} does. */
+    public Options byEnds() {
+        return with(o -> o.byEnds = true);
     }
 
     /** Each event waits for its reply: no request is sent after a bad event. */

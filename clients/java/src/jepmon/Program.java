@@ -16,25 +16,39 @@ import java.util.regex.Pattern;
 /** The running {@code jepmon script}. */
 final class Program {
     private static final int MAJOR = 1, MINOR = 4; // of the oldest program that this package works with
+    private static final int WIDE_MINOR = 5; // of the first one that has wide kinds
     private static final int PATIENCE = 10; // seconds, for what takes milliseconds
     private static final Pattern VERSION = Pattern.compile("jepmon (\\d+)\\.(\\d+)\\.\\d+\n[\\s\\S]*");
 
-    final String path;
+    final String path, kind; // by which it judges all keys
     final Process process;
     private final Path errors;
 
     Program(Options options) {
         path = find(options.program);
-        testVersion(path);
-        List<String> words = new ArrayList<>(List.of(path, "script", "--strict", "--concurrency", "" + options.concurrency,
-            "--model", options.model.word));
-        if (options.budget > 0) words.addAll(List.of("--budget", "" + options.budget));
+        boolean hasWide = minorVersion(path) >= WIDE_MINOR;
+        kind = options.model.wide != null && !options.byEnds && hasWide ? options.model.wide : options.model.word;
+        List<String> words = words("script", "--strict", options);
         try {
             errors = Files.createTempFile("jepmon", ".errors");
             process = new ProcessBuilder(words).redirectError(errors.toFile()).start();
         } catch (IOException e) {
             throw Verdict.refused(e.getMessage());
         }
+    }
+
+    /** A command with those options that {@code jepmon script} and {@code jepmon check} have. */
+    private List<String> words(String command, String first, Options options) {
+        List<String> words = new ArrayList<>(List.of(path, command, first, "--concurrency", "" + options.concurrency, "--model", kind));
+        if (options.budget > 0) words.addAll(List.of("--budget", "" + options.budget));
+        return words;
+    }
+
+    /** What {@code jepmon check} says of a history. */
+    String check(Path history, Options options) throws IOException {
+        Process asked = new ProcessBuilder(words("check", history.toString(), options)).redirectError(ProcessBuilder.Redirect.DISCARD).start();
+        asked.getOutputStream().close();
+        return new String(asked.getInputStream().readAllBytes(), StandardCharsets.UTF_8);
     }
 
     /** The path that is named, or that JEPMON names; else the program beside the package or in its clone; else jepmon on the PATH. */
@@ -81,7 +95,7 @@ final class Program {
         }
     }
 
-    private static void testVersion(String path) {
+    private static int minorVersion(String path) {
         String said;
         try {
             Process asked = new ProcessBuilder(path, "--version").redirectError(ProcessBuilder.Redirect.DISCARD).start();
@@ -100,6 +114,7 @@ final class Program {
             throw Verdict.refused(path + " is " + said.lines().findFirst().orElse("") + ": this package needs jepmon " + MAJOR + "." + MINOR
                 + " or a later " + MAJOR);
         }
+        return Integer.parseInt(found.group(2));
     }
 
     void kill() {

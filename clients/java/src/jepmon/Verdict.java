@@ -15,6 +15,7 @@ public final class Verdict extends AssertionError {
     public final int key, index;
     /** What the program said, or what is wrong with it. */
     public final String reply;
+    boolean isReported; // it has all that is known at the end of its history
 
     private Verdict(String status, int key, int index, String reply, String text) {
         super(text);
@@ -39,7 +40,9 @@ public final class Verdict extends AssertionError {
     /** The same, and more lines of text, to be thrown from here. */
     Verdict with(List<String> lines) {
         String text = lines.isEmpty() ? getMessage() : getMessage() + "\n  " + String.join("\n  ", lines);
-        return new Verdict(status, key, index, reply, text);
+        Verdict same = new Verdict(status, key, index, reply, text);
+        same.isReported = isReported;
+        return same;
     }
 
     /** The same, to be thrown from here. */

@@ -85,10 +85,15 @@ class ConformanceTest {
             case "concurrency" -> options = options.concurrency(Integer.parseInt(words[1]));
             case "budget" -> options = options.budget(Integer.parseInt(words[1]));
             case "initial" -> options = options.initial(Long.parseLong(words[1]));
+            case "by-ends" -> options = options.byEnds();
             case "unknown" -> options = options.goOn();
             case "timeout" -> options = options.timeout(Duration.ofSeconds(Long.parseLong(words[1])));
             case "program" -> options = options.program(TABLE.resolve("programs").resolve(words[1]).toAbsolutePath().toString());
             case "expect" -> expect(words);
+            case "says" -> {
+                String text = "" + verdict(), said = String.join(" ", Arrays.copyOfRange(words, 1, words.length));
+                if (!text.contains(said)) throw new AssertionError(String.join(" ", words) + ": the verdict is " + text);
+            }
             case "count" -> {
                 long got = monitor.counts().getOrDefault(words[1] + " " + words[2], 0L);
                 if (got != Long.parseLong(words[3])) throw new AssertionError(String.join(" ", words) + ": there are " + got);
@@ -218,10 +223,15 @@ class ConformanceTest {
         }
     }
 
-    /** Closes the monitor, and compares the verdict. */
-    private void expect(String[] words) {
+    /** Closes the monitor. */
+    private Verdict verdict() {
         begin();
-        Verdict got = monitor == null ? ended : close();
+        return monitor == null ? ended : close();
+    }
+
+    /** Compares the verdict. */
+    private void expect(String[] words) {
+        Verdict got = verdict();
         String want = words[1].equals("refused") || words.length < 4 ? words[1] : words[1] + " key " + words[2] + " index " + words[3];
         String more = words[1].equals("refused") ? String.join(" ", Arrays.copyOfRange(words, 2, words.length)) : "";
         String reply = got == null ? "legal" : got.reply;

@@ -1,5 +1,5 @@
 //! Runs the scenarios of clients/conformance, whose words clients/README.md explains.
-use jepmon::{Error, Model, Monitor, Operation, Options, Verdict};
+use jepmon::{Error, Monitor, Operation, Options, Verdict};
 use std::collections::HashMap;
 use std::path::{Path, PathBuf};
 use std::sync::Mutex;
@@ -46,22 +46,18 @@ fn options_of(scenario: &[Vec<&str>], wait: bool) -> Options {
     let mut options = Options { wait, out: Some(std::env::temp_dir()), ..Options::default() };
     for words in scenario {
         match words[0] {
-            "model" => options.model = model(words[1]),
+            "model" => options.model = words[1].parse().unwrap(),
             "concurrency" => options.concurrency = words[1].parse().unwrap(),
             "budget" => options.budget = Some(words[1].parse().unwrap()),
             "initial" => options.initial = Some(words[1].parse().unwrap()),
             "timeout" => options.timeout = Duration::from_secs(words[1].parse().unwrap()),
+            "by-ends" => options.by_ends = true,
             "unknown" => options.go_on = true,
             "program" => options.program = Some(table().join("programs").join(words[1])),
             _ => {}
         }
     }
     options
-}
-
-fn model(name: &str) -> Model {
-    let all = [Model::Register, Model::CasRegister, Model::Mutex, Model::FifoQueue, Model::UnorderedQueue, Model::Set];
-    *all.iter().find(|model| model.name() == name).unwrap()
 }
 
 /// Runs a scenario up to its verdict, and compares it, and the counts.
@@ -92,6 +88,12 @@ fn run(scenario: &[Vec<&str>], wait: bool) -> Fault {
     for words in scenario {
         match words[0] {
             "expect" => expect(words, &verdict)?,
+            "says" => {
+                let text = verdict.as_ref().map_or(String::new(), Verdict::to_string);
+                if !text.contains(&words[1..].join(" ")) {
+                    return Err(format!("{}: the verdict is {text}", words.join(" ")));
+                }
+            }
             "count" => {
                 let number = counts.get(&words[1..3].join(" ")).copied().unwrap_or(0);
                 if number.to_string() != words[3] {

@@ -29,7 +29,8 @@ public final class JepmonExtension implements ParameterResolver {
     @Override public Object resolveParameter(ParameterContext parameter, ExtensionContext context) {
         Judged judged = parameter.getParameter().getAnnotation(Judged.class);
         Options options = Options.of(judged == null ? Model.REGISTER : judged.value());
-        if (judged != null) options = options.concurrency(judged.concurrency());
+        if (judged != null) options = options.concurrency(judged.concurrency()).budget(judged.budget());
+        if (judged != null && judged.byEnds()) options = options.byEnds();
         Monitor monitor = Monitor.start(judged != null && judged.waiting() ? options.waiting() : options);
         ExtensionContext.Namespace own = ExtensionContext.Namespace.create(JepmonExtension.class, context.getUniqueId());
         context.getStore(own).put(parameter.getIndex(), new Running(monitor));

@@ -15,6 +15,12 @@ public @interface Judged {
     /** How many operations may be open at once, 1 to 64. */
     int concurrency() default 64;
 
+    /** How many outcomes of a key are followed before it is unknown; 0 leaves it to the program. */
+    int budget() default 0;
+
+    /** Whether registers and sets are judged by all their outcomes. */
+    boolean byEnds() default false;
+
     /** Whether each event waits for its reply. */
     boolean waiting() default false;
 }
