@@ -1,4 +1,4 @@
-"""Why jepmon refuses an event: what the check answers by `refused N NAME event I`."""
+"""Why jepmon refuses an event: the reasons for `refused N NAME event I`."""
 from __future__ import annotations
 
 from typing import Iterator, Sequence

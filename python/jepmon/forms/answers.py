@@ -1,4 +1,4 @@
-"""What the answer of an operation that has none says: whether it took place."""
+"""Whether an operation took place, if it has an answer of its own that denies it."""
 from __future__ import annotations
 
 from typing import Any, Counter, Optional

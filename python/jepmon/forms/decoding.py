@@ -36,7 +36,7 @@ def pieces_of(file: BinaryIO) -> Iterator[bytes]:
 
 
 def texts_of(pieces: Iterable[bytes]) -> Iterator[str]:
-    """The text of these bytes, in pieces of whole lines. Refuses what is no text."""
+    """The text of these bytes, in pieces of whole lines. Refuses bytes that are not text."""
     place = 0
     for raw in whole_lines(plain(pieces)):
         try:
@@ -81,7 +81,7 @@ def joined(front: bytes, pieces: Iterator[bytes]) -> Iterator[bytes]:
 
 
 def unpacked(pieces: Iterator[bytes]) -> Iterator[bytes]:
-    """The bytes out of gzip, also of several parts. Of little that becomes much, some is made at a time."""
+    """The bytes out of gzip, also of several parts. If little becomes much, it makes some at a time."""
     inflate = zlib.decompressobj(wbits=31)
     for piece in pieces:
         try:

@@ -8,7 +8,7 @@ from . import Refused, log_rows, logs, rows, tables
 NOTHING, EDN, JSON, CSV, LOG, LOGFMT, LINES, TABLE = "nothing", "EDN", "JSON", "CSV", "log", "logfmt", "a log by a mapping", "a table"
 
 GAP = re.compile(r"(?:[\s,]+|;[^\n]*)*")
-# The front of a JSON text that has an object: a name in quotes, and a colon that begins no keyword of EDN.
+# The beginning of a JSON text that has an object: a name in quotes, and a colon that begins no keyword of EDN.
 OBJECT = re.compile(r'[\[{][\s\[{]*"(?:[^"\\]|\\.)*"\s*:[^A-Za-z]')
 EDN_BEHIND = re.compile(r"[\s,;]*[({\[#][\s{\[]*[:#;]")
 REPR = re.compile(r"[\[({][\s\[({]*'[^'\n]*'\s*:")

@@ -16,7 +16,7 @@ Said = Tuple[str, Any, str]  # the name of a field, what it says, and the outcom
 
 
 def truth(line: int, name: str, field: Any) -> Optional[bool]:
-    """What a flag says, in whatever way a language prints it. None if it says nothing."""
+    """The value of a flag, in whatever way a language prints it. None if it says nothing."""
     if field is None or field is True or field is False:
         return field
     word = str(field).strip().lower() if isinstance(field, (str, int, float)) else None

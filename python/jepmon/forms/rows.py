@@ -67,7 +67,7 @@ def of_json(texts: Iterable[str], mapping: Mapping, account: Account) -> Iterato
 
 
 class _Pieces:
-    """A text in pieces, of which as much is held as is not read yet."""
+    """A text in pieces. It holds only the part that was not read yet."""
 
     def __init__(self, texts: Iterable[str]) -> None:
         self._texts = iter(texts)
@@ -102,7 +102,7 @@ class _Pieces:
         return True
 
     def pass_gap(self) -> None:
-        """Goes on to what is neither white space nor a comma nor a comment."""
+        """Goes on past white space, commas and comments."""
         while True:
             begin = self.at
             self.at = SPACE.match(self.text, begin).end()  # type: ignore[union-attr]
@@ -245,8 +245,8 @@ def of_csv(texts: Iterable[str], mapping: Mapping, account: Account) -> Iterator
 
 
 class Lines:
-    """The lines of a text that comes in pieces of whole lines, each with its end. Refuses a last one that may be cut off: without a line
-    feed, but for one that ends so."""
+    """The lines of a text that comes in pieces of whole lines, each with its end. Refuses a last line without a line feed, which may be cut
+    off, except for one that ends like a complete row."""
 
     def __init__(self, texts: Iterable[str], but_for: str = "\r") -> None:
         self._texts, self._but_for = iter(texts), but_for

@@ -1,4 +1,4 @@
-"""Turns a history: from the source of its text to the lines in jepmon's form, and what is to be told of them."""
+"""Turns a history: from the source of its text to the lines in jepmon's form, and the notes on them."""
 from __future__ import annotations
 
 from typing import Dict, Iterator, List, Mapping, Optional

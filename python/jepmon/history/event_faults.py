@@ -1,4 +1,4 @@
-"""Why an element is no event that jepmon takes: what it refuses by 5, BadValue, in words."""
+"""Why jepmon refuses an element by 5, BadValue, in words."""
 from __future__ import annotations
 
 from typing import Dict, Optional
@@ -13,7 +13,7 @@ PARTS = {"cas": "two integers, as [1 2]", "read": "nil, an integer or a set of i
 
 
 def fault_of(value: Value) -> str:
-    """Which part of an element that is no event is outside the tables of docs/FORMATS.md."""
+    """Which part of an invalid event is outside the tables of docs/FORMATS.md."""
     fields = fields_of(value)
     if fields is None:
         return of_no_map(value)

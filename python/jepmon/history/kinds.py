@@ -1,9 +1,9 @@
-"""The six kinds of objects that jepmon judges (its models), their operations, and the limits of what it takes."""
+"""The six kinds of objects that jepmon judges (its models), their operations, and the limits of the program."""
 from __future__ import annotations
 
 from typing import Dict, FrozenSet, Tuple
 
-# Each model and its operations. Of two models with the same operations the stricter one comes first.
+# Each model and its operations. If two models have the same operations, the stricter one comes first.
 MODELS: Dict[str, FrozenSet[str]] = {
     "register": frozenset({"read", "write"}),
     "cas-register": frozenset({"read", "write", "cas"}),

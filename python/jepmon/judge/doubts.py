@@ -1,4 +1,4 @@
-"""What of a verdict may be due to how values were read: values that look alike, and an answer that nobody has written."""
+"""The parts of a verdict that may be due to how values were read: values that look alike, and an answer that nobody has written."""
 from __future__ import annotations
 
 import re
@@ -28,14 +28,14 @@ def account_for_types(keys: Mapping[int, str], values: Mapping[int, str], given:
 
 
 def account_for_nils(count: int, given: Given, account: Account) -> None:
-    """Records that so many answers of nil, which may say that a value is lost, are taken to say nothing."""
+    """Records the number of nil answers, which may say that a value is lost, that are taken to say nothing."""
     if count and not given.nil_is_unknown:
         account.guess(ABSENT, f"nil says nothing of what a register holds, and {count:,} {'read' if count == 1 else 'reads'} answered it after a "
                       "value was there", NIL)
 
 
 def alike(names: Mapping[int, str]) -> List[List[str]]:
-    """Groups of values that are one number, or one text but for spaces."""
+    """Groups of values that are one number, or one text except for spaces."""
     meant, groups = Meant(NUMBERS), {}  # type: Meant, Dict[str, List[str]]
     spaced = any(name.startswith('" ') or name.endswith(' "') for name in names.values())
     for name in names.values():

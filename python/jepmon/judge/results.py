@@ -1,4 +1,4 @@
-"""What --html and --out write: the pages, and the folder with the history as judged and all that came of it."""
+"""The files of --html and --out: the pages, and the folder with the history as judged and all results."""
 from __future__ import annotations
 
 from typing import Dict, List, Mapping, NamedTuple, Optional, Sequence
@@ -17,7 +17,7 @@ HISTORY, REPORT, CAUSE, PAGE, KEYS = "history.edn", "report.txt", "cause.txt", "
 
 
 class Results(NamedTuple):
-    """What came of a history."""
+    """The results of a history."""
 
     name: str
     found: Recorded

@@ -28,7 +28,7 @@ proved. Exit status: 0 legal, 1 illegal, 2 unknown, 3 no verdict.
 
 
 class Given(NamedTuple):
-    """What the command line says."""
+    """The options of the command line."""
 
     histories: List[str]
     model: Optional[str]
@@ -56,7 +56,7 @@ class Given(NamedTuple):
 
     @property
     def said(self) -> Said:
-        """What is said of the history."""
+        """The options about the history."""
         return Said(self.key, self.nil_is_absent, self.model, self.mapping, values=self.values, absent=self.absent, initial=self.initial)
 
 
