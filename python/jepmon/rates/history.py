@@ -32,7 +32,7 @@ class Key:
 
 
 class Read:
-    """What was read of a history. Faults that have not ended end with it."""
+    """The facts in a history. Faults that have not ended end with it."""
 
     def __init__(self) -> None:
         self.keys: Dict[int, Key] = {}

@@ -23,7 +23,7 @@ BADGES = ("legal", "illegal", "unknown", "lost", "crashed")
 
 
 def leave(folder: pathlib.Path) -> None:
-    """Makes the page of a folder anew. The verdict of a run stands whatever comes of this, so that nothing is raised."""
+    """Makes the page of a folder again. The verdict of a run stands whatever comes of this, so that nothing is raised."""
     try:
         put(folder, summaries(folder))
     except OSError as fault:

@@ -1,4 +1,4 @@
-"""A folder of shards, which are judged one by one, by whom and in what order one likes, and joined at the end.
+"""A folder of shards, which any machines judge one by one, in any order, and which are joined at the end.
 
     shards.json   what they are of: the history, the options, and the name and the checksum of each shard. It is written last
     NAME.edn      a shard: a history that one check takes. Its first line says by which options

@@ -1,6 +1,6 @@
 """After a finding: the servers are whole again, the bad key is read once more at every node, and the nodes' data are kept.
 
-What is read then tells a write that was lost from a read that was stale, or nodes that differ. It is found by reading, and not proved.
+These reads tell a lost write from a stale read and from nodes that differ. It is found by reading, and not proved.
 """
 from __future__ import annotations
 
@@ -34,7 +34,7 @@ SHOWN = 120  # characters of a value
 
 
 class Reading(NamedTuple):
-    """What a node has answered: a value, or why there is none."""
+    """The answer of a node: a value, or the reason why there is none."""
 
     value: Any
     fault: str = ""
@@ -46,7 +46,7 @@ class Reading(NamedTuple):
 
 @contextlib.contextmanager
 def after_a_finding(cluster: Cluster, folder: pathlib.Path, keep: str, lost: Callable[[], int]) -> Iterator[None]:
-    """The block is the test. If it ends by a finding, or if messages are lost, what can be learned is learned before the servers are gone."""
+    """The block is the test. If it ends by a finding, or if messages are lost, it learns what it can before the servers are gone."""
     found = False
     try:
         yield
@@ -116,7 +116,7 @@ def mend(cluster: Cluster) -> None:
 
 
 def drained(cluster: Cluster, key: int) -> List[int]:
-    """What a queue still has."""
+    """The messages that a queue still has."""
     found: List[int] = []
     with cluster.clients():
         client: Any = cluster.server.client(0)
@@ -145,7 +145,7 @@ def verdict_on_queue(key: int, events: Sequence[Event], rest: Sequence[int], los
 
 
 def readings_of(cluster: Cluster, key: int) -> Dict[str, Reading]:
-    """What each node that clients reach answers, by its name, once they agree, or have had some time to."""
+    """The answer of each node that clients reach, by its name, once they agree, or have had some time to."""
     readings: Dict[str, Reading] = {}
     with cluster.clients():
         for number in range(ROUNDS):
@@ -237,7 +237,7 @@ def shown(value: Any) -> str:
 
 
 def keep_nodes(cluster: Cluster, folder: pathlib.Path) -> None:
-    """Kills the nodes, and copies their folders into that of the run, as n1.data. What can't be copied is said."""
+    """Kills the nodes, and copies their folders into that of the run, as n1.data. It reports files that it can't copy."""
     for node in cluster.nodes:
         node.kill()
         try:

@@ -31,7 +31,7 @@ class Postgres:
         self.stream, self.user, self.connected = Stream(at, timeout), user, 0
 
     def query(self, text: str) -> Answer:
-        """What the last statement of these answered. All of them are one transaction, where the text begins none itself."""
+        """The answer of the last of these statements. All of them are one transaction, where the text begins none itself."""
         try:
             if not self.stream.is_open:
                 self._connect()

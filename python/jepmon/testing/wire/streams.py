@@ -1,5 +1,5 @@
-"""A connection that is made when it is needed, and made anew after a fault, so that a late answer is not taken for the next one.
-It tries nothing again, so that a ConnectionRefusedError says that nothing was sent."""
+"""A connection that is made when needed, and made again after a fault, so that a late answer never counts for the next one. It tries
+nothing again, so that a ConnectionRefusedError says that nothing was sent."""
 from __future__ import annotations
 
 import socket

@@ -51,7 +51,7 @@ class ZooKeeper:
         return Found(answer[4:end], STAT.unpack_from(answer, end)[4])
 
     def set(self, path: str, data: bytes, version: int = -1) -> None:
-        """Of any version, unless one is given."""
+        """Any version, unless one is given."""
         self._asked(SET, text(path) + buffer(data) + struct.pack(">i", version))
 
     def create(self, path: str, data: bytes) -> None:
