@@ -30,7 +30,7 @@ class Part(NamedTuple):
     operations: int  # how many of them are left
     values: FrozenSet[int]  # of a set: what was taken out of each answer
     checks: int  # how often the program was asked
-    finished: bool  # False: the limit of work was met, and more might go out
+    finished: bool  # False: the limit of work was met, and more might be removed
 
 
 def smallest(events: Sequence[Event], report: Report, options: Options, program: Optional[str] = None, effort: Optional[Effort] = None,

@@ -126,7 +126,7 @@ def untold(options: Options, front: List[Event], names: Names) -> Found:
     fatal = next(operation for operation in operations(front, options.concurrency) if operation.completion is front[-1])
     where = names.object(options.model, front[-1].key)
     said = f"{capital(client(fatal))}'s {names.operation(fatal)} on {where} fits no order of the operations."
-    return Found(said, ["There were too many orders to try within the limit of work: which it might have fitted can't be told."], mentions([fatal]))
+    return Found(said, ["There were too many orders to try within the limit of work: nobody knows which one it might have fitted."], mentions([fatal]))
 
 
 # --- As text ---
@@ -151,7 +151,7 @@ def of_part(part: Part) -> List[str]:
         what = {1: "The only operation", 2: "Both operations"}.get(part.of, f"All {part.of} operations")
         return [f"{what} of the key up to there:"]
     which, verb = ("This one", "is") if part.operations == 1 else (f"These {part.operations}", "are")
-    asked = f"jepmon was asked {ordinal_times(part.checks)}{'' if part.finished else '; the limit of the search was met, and more might go out'}"
+    asked = f"jepmon was asked {ordinal_times(part.checks)}{'' if part.finished else '; the limit of the search was met, and more might be removed'}"
     said = [f"{which} of the key's {part.of} operations up to there {verb} illegal alone ({asked}):"]
     return said + ["    (of sets only the members that matter are shown)"] if part.values else said
 

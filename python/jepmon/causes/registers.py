@@ -63,7 +63,7 @@ def of_failed(case: Case, value: int, failed: List[Operation]) -> Found:
         head = f"{did(case, value)}, but {case.names.owned(failed[0])} had failed (event {last_event(failed[0])})."
     else:
         head = f"{did(case, value)}, but each write of {shown} had failed."
-    said = f"What failed did not take place, and {shown} can have come from nothing else then."
+    said = f"A failed operation did not take place, and {shown} can have come from nothing else then."
     told = mentions([case.fatal] + failed[-2:], {operation.invocation.index: "it did not take place" for operation in failed})
     return Found(head, [while_open(case, value), said], told)
 

@@ -16,7 +16,7 @@ def of_set(case: Case) -> Found:
         shown = case.names.value(answer)
         counter = "Reads answered by integers are of a register, or of a counter, which jepmon does not judge."
         hint = [] if answer is None else [counter]
-        return Found(f"{capital(client(case.fatal))}'s read of {case.object} answered {shown}, which is no answer of a set.",
+        return Found(f"{capital(client(case.fatal))}'s read of {case.object} answered {shown}, which is not an answer of a set.",
                      hint, mentions([case.fatal]))
     found = [finding for finding in case.findings() if isinstance(finding, frozenset)]
     lacking = frozenset.intersection(*found) - answer if found else frozenset()

@@ -42,10 +42,10 @@ def texts_of(pieces: Iterable[bytes]) -> Iterator[str]:
         try:
             text = raw.decode("utf-8")
         except UnicodeDecodeError as fault:
-            raise Refused(f"it is no text: byte {place + fault.start} is no UTF-8") from fault
+            raise Refused(f"it is not text: byte {place + fault.start} is not UTF-8") from fault
         if "\0" in text:
             at = place + raw.index(0)
-            raise Refused(f"it is no text: a byte of it is 0, the first at place {at} (is it binary, or UTF-16?)")
+            raise Refused(f"it is not text: a byte of it is 0, the first at place {at} (is it binary, or UTF-16?)")
         place += len(raw)
         yield text
 

@@ -43,5 +43,5 @@ def form_of(text: str) -> str:
     if tables.FRONT.match(text, begin):
         return TABLE
     shown = text[begin:begin + 60].split("\n", 1)[0]
-    raise Refused(f"this is no form of a history that is known: it begins with {shown!r}; --mapping FILE reads the lines of a log by a "
+    raise Refused(f"this is not a form of a history that is known: it begins with {shown!r}; --mapping FILE reads the lines of a log by a "
                   "regular expression")

@@ -75,7 +75,7 @@ def _list(row: Row, fields: Dict[str, Any], name: str) -> List[Dict[str, Any]]:
     """The objects in a field."""
     inner = fields.get(name) or []
     if not isinstance(inner, list) or not all(isinstance(member, dict) for member in inner):
-        raise Refused(f"line {row.line}: its {name} is no list of objects")
+        raise Refused(f"line {row.line}: its {name} is not a list of objects")
     return [named(member) for member in inner]
 
 

@@ -91,7 +91,7 @@ class Outcomes:
                 continue
             outcome = self.word(field)
             if outcome is None or outcome == "invoke":
-                raise Refused(f"line {line}: {shown(use.name)} is {short(field)}, which is no outcome: it is none of ok, fail, info; say what it is "
+                raise Refused(f"line {line}: {shown(use.name)} is {short(field)}, which is not an outcome: it is none of ok, fail, info; say what it is "
                               f'by "outcomes" of a mapping file, or --ignore {shown(use.name)}')
             yield use.name, field, outcome
 

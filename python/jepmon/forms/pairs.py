@@ -67,7 +67,7 @@ class Pairs:
         if is_nemesis(told):
             return told
         if told.client is MISSING or not isinstance(told.client, (int, str)):
-            raise Refused(f"line {told.line}: this event has no client, by which events are paired whose times go back; say --map FIELD=client")
+            raise Refused(f"line {told.line}: this event has no client, which pairs events whose times go back; say --map FIELD=client")
         if told.time is None:
             where = f"times go back in line {self._first_back}" if self._first_back else "events are ordered by their times"
             raise Refused(f"line {told.line}: this event has no time, and {where}: which came first?")

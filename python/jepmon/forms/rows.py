@@ -172,7 +172,7 @@ def _is_plain(value: Any) -> bool:
 def _rows(value: Any, line: int, place: Tuple[str, int, int], mapping: Mapping, account: Account) -> Iterator[Row]:
     """The rows of a value at the top: one, or those of the lists in it that have the history."""
     if not isinstance(value, dict):
-        raise Refused(f"line {line}: this is no object, so no event: {spelled(value)[:60]}")
+        raise Refused(f"line {line}: this is not an object, so not an event: {spelled(value)[:60]}")
     if mapping.rows is None and _is_history(value.get(traces.EVENTS)):
         yield from (Row(line, fields) for fields in traces.rows(line, value[traces.EVENTS], account))
         return

@@ -34,5 +34,5 @@ def values_of(line: int, drained: Value) -> Sequence[Value]:
     if drained == "nil":
         return ()
     if not isinstance(drained, Many) or drained.opened not in ("[", "#{"):
-        refuse(line, f"this :drain is answered by {shown(drained)}, which is no list of what came out")
+        refuse(line, f"this :drain is answered by {shown(drained)}, which is not a list of the values that came out")
     return drained.members

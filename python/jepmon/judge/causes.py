@@ -83,7 +83,7 @@ def sentences(key: Shown) -> List[str]:
     if key.decided.index is None:
         return [*said, f"The key was over its budget, and an order of all its operations was found afterwards; {who}."]
     return [*said, "The key was over its budget, and was decided afterwards: the smallest part is illegal by jepmon check, and so is the key, "
-            f"which is proved of each sort of removal; and there is an order of what stands before event {key.decided.index}; {who}."]
+            f"which is proved of each sort of removal; and there is an order of the events before event {key.decided.index}; {who}."]
 
 
 def proviso(key: Shown) -> str:

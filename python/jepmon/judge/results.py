@@ -84,7 +84,7 @@ def files(results: Results) -> Dict[str, Optional[str]]:
 def again(task: Task) -> str:
     """The script that judges the history again."""
     if task.by_judge:
-        how = "in shards, each by the proved program" if task.in_shards else "by the proved program, and by what is found afterwards"
+        how = "in shards, each by the proved program" if task.in_shards else "by the proved program, and by a search afterwards"
         return (f"#!/bin/sh\n# Judges history.edn, beside this file, again: {how}.\n"
                 f'cd "$(dirname "$0")" || exit 3\nexec {task.again(HISTORY)} --no-cause\n')
     return ("#!/bin/sh\n# Judges history.edn, beside this file, again by the proved program.\n"

@@ -17,7 +17,7 @@ UNKNOWN = (
     "or raise the budget"
 )
 UNKNOWN_WIDE = (
-    "many writes were open or had timed out that answers need: let fewer clients write to one key, let writes go on at a new key after some "
+    "answers need many open or timed-out writes: let fewer clients write to one key, let writes go on at a new key after some "
     "timeouts while reads stay (Monitor.keys), or raise the budget"
 )
 UNKNOWN_QUEUE = (

@@ -55,7 +55,7 @@ class RunFolder:
         self.path = path.absolute()  # the test may go to another folder
         with contextlib.ExitStack() as on_fault:
             self._history = on_fault.enter_context(open(self.path / HISTORY, "xb", buffering=0))
-            self._append(f"; what clients did in a live test, from {self.begun.isoformat()} on; :time is in nanoseconds from then")
+            self._append(f"; the events of a live test, from {self.begun.isoformat()} on; :time is in nanoseconds from then")
             write_whole(self.path / AGAIN, self._script(), executable=True)
             on_fault.pop_all()
 

@@ -37,7 +37,7 @@ class Read:
     def __init__(self) -> None:
         self.keys: Dict[int, Key] = {}
         self.faults: List[Fault] = []
-        self.untimed = 0  # events without a time, of which nothing is said
+        self.untimed = 0  # events without a time, and nothing is said about it
 
 
 class Begun(NamedTuple):

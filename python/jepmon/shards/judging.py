@@ -95,7 +95,7 @@ def status_of(key: KeyMap, said: KeyLine, first: int, places: Sequence[int]) -> 
         return Status(first, line._replace(status=key.cut or "alive", index=key.cut_place if key.cut else None))
     place = places[said.index] if said.index is not None and said.index < len(places) else NOWHERE
     if place == NOWHERE:
-        raise Doubt(f"jepmon's report on a shard says {said.status} {said.index}, which is no event of the history")
+        raise Doubt(f"jepmon's report on a shard says {said.status} {said.index}, which is not an event of the history")
     return Status(first, line._replace(index=place))
 
 

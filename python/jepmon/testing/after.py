@@ -184,7 +184,7 @@ def verdict_on(fatal: Event, readings: Dict[str, Reading], acknowledged: Acknowl
     answer in the key, or -1."""
     values = [reading.value for reading in readings.values() if not reading.fault]
     if not values:
-        return "No node answered, so it can't be told whether something is lost."
+        return "No node answered, so nobody knows whether something is lost."
     if any(value != values[0] for value in values):
         return "Nodes DIVERGED: they still hold different values."
     if isinstance(values[0], frozenset):
@@ -195,7 +195,7 @@ def verdict_on(fatal: Event, readings: Dict[str, Reading], acknowledged: Acknowl
     if values[0] != wrong and any(one.value == values[0] for one in acknowledged.values):
         return f"The read was STALE: the nodes hold {shown(values[0])}, which had been acknowledged before the read began."
     if values[0] != wrong:
-        return f"LOST or STALE, which can't be told: a write of {shown(values[0])}, not acknowledged when the read began, took place since."
+        return f"LOST or STALE, nobody knows which: a write of {shown(values[0])}, not acknowledged when the read began, took place since."
     if known < 0 and wrong is not None:
         return "The wrong answer stays."
     later = [one for one in acknowledged.after(known) if one.value != wrong]

@@ -24,7 +24,7 @@ class LogWatch:
         try:
             self._patterns = [re.compile(pattern) for pattern in patterns]
         except re.error as fault:
-            raise ServerError(f"crashes of the server's class: {fault.pattern!r} is no regular expression: {fault}") from fault
+            raise ServerError(f"crashes of the server's class: {fault.pattern!r} is not a regular expression: {fault}") from fault
         self._read: Dict[str, int] = {}  # by node: bytes that were looked at
 
     def look(self) -> None:

@@ -239,7 +239,7 @@ class Test:
             verdict, status = "", 3
         elif few:
             verdict, status = "", 3
-            reason = f"fewer than {self.given.least} operations were ok ({', '.join(few)}), of which nothing is said"
+            reason = f"fewer than {self.given.least} operations were ok ({', '.join(few)}), and nothing is said about it"
         elif work.lost:
             verdict, status = f"lost {work.lost} messages: acknowledged, and never dequeued; this was counted, and is not proved", 1
             losses.leave(monitor.folder, work.lost, work.missing)

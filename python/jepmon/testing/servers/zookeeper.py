@@ -78,7 +78,7 @@ class ZooKeeper(Server):
     size, sizes, survives_power = 3, range(1, 8), True
     # A record of its log that is torn ends a server for good, so `tear` is not among those that it ought to bear.
     bears = {model: (*ALL_STRIKES, "power") for model in CLIENTS}
-    plants = {"own": Plant("reads are of what the client's server has", "register", "pause,partition")}
+    plants = {"own": Plant("reads give the data of the client's server", "register", "pause,partition")}
 
     @classmethod
     def test_installed(cls) -> None:
