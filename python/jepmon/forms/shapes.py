@@ -61,10 +61,10 @@ def slot_in(name: str, mapping: Mapping) -> Optional[Slot]:
     if not dot:
         slot = slot_of(name)
         return slot if slot is not None else Slot("value", None, 99) if plain(name) in ARGUMENTS else None
-    return _member(plain(outer.rpartition("\0")[2]), slot_of(inner), inner)
+    return _member(plain(outer.rpartition("\0")[2]), slot_of(inner))
 
 
-def _member(outer: str, slot: Optional[Slot], inner: str) -> Optional[Slot]:
+def _member(outer: str, slot: Optional[Slot]) -> Optional[Slot]:
     """The meaning of a member of an object."""
     of_outer = slot_of(outer)
     if of_outer is not None and of_outer.meaning == "answer":
