@@ -155,7 +155,7 @@ In the next test let fewer clients use one key at once.""")
             "    event 3, line 5: {:type :ok, :process 0, :f :write, :value [7 2]}    <-- from here on 1 is impossible",
             "    event 4, line 6: {:type :invoke, :process 1, :f :read, :value [7 nil]}",
             "    event 5, line 7: {:type :ok, :process 1, :f :read, :value [7 1]}",
-            "Proved are the verdict, and what jepmon was asked. The other sentences are not."])
+            "The verdict and jepmon's answers are proved. The other sentences are not."])
 
     def test_names(self) -> None:
         """Values and keys as they were before they were numbered."""

@@ -134,7 +134,7 @@ class Found(unittest.TestCase):
             for text in (err, page.read_text("utf-8")):
                 self.assertIn(causes.BY_PART, text)
                 self.assertNotIn("verdict is jepmon's, and proved", text)
-                self.assertNotIn("Proved are the verdict", text)
+                self.assertNotIn("The verdict and jepmon's answers are proved", text)
 
     def test_a_fault_of_the_search_leaves_the_verdict(self) -> None:
         for fault, said in ((ValueError("x"), "key 0 is not decided, by a fault of judge itself: ValueError('x')"),

@@ -30,7 +30,7 @@ from .registers import of_register
 from .sets import of_set
 from .unknown import Over, of_unknown
 
-NOT_PROVED = "Proved are the verdict, and what jepmon was asked. The other sentences are not."
+NOT_PROVED = "The verdict and jepmon's answers are proved. The other sentences are not."
 BY_MODEL: Dict[str, Callable[[Case], Found]] = {
     "register": of_register,
     "cas-register": of_register,
