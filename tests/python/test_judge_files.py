@@ -102,7 +102,7 @@ class Outputs(InAFolder):
 
     def test_pages_that_are_refused(self) -> None:
         self.make({"history.edn": EVENT, "folder/x": ""})
-        self.assertIn("is no page", self.refused_page(self.top / "history.edn"))
+        self.assertIn("is not a page", self.refused_page(self.top / "history.edn"))
         self.assertIn("this is a folder", self.refused_page(self.top / "folder"))
         self.assertIn("No such file or directory", self.refused_page(self.top / "nowhere" / "page.html"))
         self.assertIn("Not a directory", self.refused_page(self.top / "history.edn" / "page.html"))
