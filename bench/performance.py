@@ -99,7 +99,7 @@ def version_of(file: pathlib.Path) -> str:
         raise Fault(f"{file} can't be run: {fault.strerror}") from None
     found = re.match(r"jepmon (\S+)", ran.stdout)
     if ran.returncode or not found:
-        raise Fault(f"{file} is no jepmon: its --version prints {ran.stdout.strip()[:60]!r}")
+        raise Fault(f"{file} is not jepmon: its --version prints {ran.stdout.strip()[:60]!r}")
     return found[1]
 
 
@@ -163,7 +163,7 @@ def words() -> argparse.Namespace:
     parser.add_argument("--commit", metavar="NAME", help="the commit at which PROGRAM was proved")
     parser.add_argument("--plain", metavar="COMMAND", help="another checker that computes the same")
     parser.add_argument("--without-ends", metavar="COMMAND", help="another checker that counts no ends")
-    parser.add_argument("--runs", type=positive_number, default=3, metavar="N", help="of processor times the least of so many, 3 unless given")
+    parser.add_argument("--runs", type=positive_number, default=3, metavar="N", help="processor times are the least of N runs, 3 unless given")
     parser.add_argument("--share", type=part_of_one, default=1.0, metavar="PART", help="of the events, to try the script")
     parser.add_argument("--only", action="append", metavar="TABLE", help="this table; may be given more than once")
     parser.add_argument("--into", type=pathlib.Path, metavar="FILE", help="put the tables into this document")
@@ -179,7 +179,7 @@ def run(asked: argparse.Namespace) -> None:
     if not given.program.is_file():
         raise Fault(f"there is no program {given.program}")
     if asked.into is not None and given.share != 1:
-        raise Fault("what is measured on a share of the events is no number for a document: leave out --share, or --into")
+        raise Fault("a document has no numbers of a share of the events: leave out --share, or --into")
     text = asked.into.read_text(encoding="utf-8") if asked.into is not None else ""
     version = version_of(given.program)
     tables = {"program": [heading(given, version, commit_of(given.program, asked.commit))]}

@@ -1,8 +1,8 @@
 #!/usr/bin/env python3
 """Runs examples/explain on histories, with the built program. Ends with 'N passed, M failed'.
 
-A case is a folder of tests/explain: history.edn, or instead history.py, which prints it; args, the options of the check, one word a line;
-and stdout, stderr and status (0 where left out). These must agree to the byte. stdout is the last line, and the whole output and the status
+A case is a folder of tests/explain. It has history.edn, or history.py, which prints it; and args, the options of the check, one word a line.
+Its stdout, stderr and status (0 where left out) must agree to the byte. stdout is the last line, and the whole output and the status
 must be those of jepmon check itself. With words, it runs the cases of these names alone.
 """
 import functools

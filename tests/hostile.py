@@ -2,10 +2,10 @@
 """Tells the built program what no client would write, and compares what it says with the grammar (tests/grammar.py).
 
   lines     random bytes, bytes that texts are made of, and commands in which some bytes were changed, each as a line of `script`:
-            a line that is no text is refused with its place, one of several elements by 5, a gap alone gets no reply
+            the program refuses an invalid line with its place, several elements by 5, and does not answer a gap alone
   files     the same with line feeds in them, each as a file of `check`
   long      a line of many bytes, and one that is read after it; the memory that it took
-  keys      events on so many keys that there are none of: each is refused, and the memory stays
+  keys      events on keys without a number: the program refuses each, and the memory stays
 
 usage: hostile.py [--lines N] [--commands N] [--files N] [--megabytes N] [--keys N] [--seed N]. Prints each part with its time, and
 the peak of memory of the last two; the last line is how many passed and failed.

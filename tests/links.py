@@ -1,6 +1,6 @@
 #!/usr/bin/env python3
-"""Checks the documents without running anything: each link to a file or a heading of this repository leads there. docs/DECISIONS.md is as
-its first lines say: its index has each heading once and in order. An entry has at most 120 words, link targets left out, and says why not
+"""Checks the documents without running anything. Each link to a file or a heading of this repository leads there. docs/DECISIONS.md is as
+its first lines say. Its index has each heading once and in order. An entry has at most 120 words, link targets left out, and says why not
 another way and what would change it (tables after an entry do not count).
 
     tests/links.py             prints what is wrong, and 'N passed, M failed': one for each document, one for the decisions, one for the layers

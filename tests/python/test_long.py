@@ -103,7 +103,7 @@ class Long(Monitored):
         self.assertEqual(self.verdict_by(monitor.folder), monitor.close().split("\n")[0])
 
     def test_two_programs_that_are_illegal(self) -> None:
-        """The first finding has the verdict, also if the parts are judged again; the other one is named with it."""
+        """The first finding has the verdict, also if the parts are judged again; the second finding is named with it."""
         monitor = LongMonitor(self.program, concurrency=1, out=self.room)
         register = monitor.fresh()
         reads = [register.read().__enter__() for _ in range(2)]  # on an object each, of a program each

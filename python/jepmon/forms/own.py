@@ -1,7 +1,7 @@
 """jepmon's own form, an event a line: a fast reader of its lines. The program accepts everything that this reader accepts.
 
-Between the events there may be comments, notes of faults (#_{..}), and the commands of a log of `jepmon script`. [:model k m] and [:budget
-k n] say what a key is, and [:rewind n] removes events.
+Between the events there may be comments, notes of faults (#_{..}), and the commands of a log of `jepmon script`. There [:model k m] and
+[:budget k n] say what a key is, and [:rewind n] removes events.
 """
 from __future__ import annotations
 

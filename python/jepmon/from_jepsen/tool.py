@@ -18,7 +18,7 @@ Standard error says what was left out, how the operations ended, and the least -
 rest. Standard error, and comments at the end of the output, list the numbers of keys and values that are not integers within jepmon's
 limits. Each line of the output keeps Jepsen's own index as :jepsen-index, which jepmon drops: event I of a verdict is line I + 1.
 
-If jepmon can't judge the history (transactions, unknown operations, a file that was cut off), the tool refuses it by name, with status 3.
+The tool refuses by name, with status 3, a history that jepmon can't judge: transactions, unknown operations, or a file that was cut off.
 Then the output is one line that is not an event, so a check refuses it too, also behind a pipe.
 """
 from __future__ import annotations

@@ -26,7 +26,7 @@ EVENT_TYPES: Tuple[str, ...] = ("invoke", "ok", "fail", "info")
 
 NOT_JUDGED = {  # other operations that tests have, and what they are
     "txn": "is a transaction over several keys, which jepmon does not judge (Elle does)",
-    "transfer": "moves an amount between the accounts of a bank, which jepmon does not judge: such a test looks at the sum of all "
+    "transfer": "moves an amount between the accounts of a bank, which jepmon does not judge: such a test adds up all "
                 "accounts in each read (Jepsen's own jepsen.tests.bank does)",
 }
 
