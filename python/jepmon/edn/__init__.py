@@ -1,8 +1,9 @@
-"""Reads EDN, element by element, from a text or from a file in pieces: the one reader of all tools.
+"""Reads EDN, element by element, from a text or from a file in pieces: the reader of all tools.
 
 It reads the whole of EDN as Jepsen writes it: tags and metadata are passed over, so that an element counts without them. With
 `profile=True` it reads what the program `jepmon` reads and nothing else (docs/FORMATS.md, Text), and says what is outside of that. An atom
-is its own spelling, a collection is a Many. Text that can't be read raises Unreadable, with its line and the reason.
+is its own spelling, a collection is a Many. Text that can't be read raises Unreadable, with its line and the reason. Shards read bytes by a
+reader of their own for speed (shards/reading.py), which test_edn_readers.py compares with this one.
 """
 from __future__ import annotations
 
