@@ -1,6 +1,6 @@
 #!/usr/bin/env python3
-"""Counts the instructions of the program by valgrind's callgrind, which do not depend on what else the machine does:
-`counted.py beside` or `counted.py orders`, with `--share PART` on histories of so much of the events, to try the script.
+"""Counts the instructions of the program by valgrind's callgrind, which do not depend on other work of the machine: `counted.py beside` or
+`counted.py orders`. `--share PART` takes a part of the events, to try the script.
 
 beside: of `check` and of `script`, one worker, on histories of each kind. With `--plain COMMAND` also of another checker that computes
 the same, and with `--without-ends COMMAND` of one that counts no ends and has no budget. A COMMAND is called with the words
@@ -27,7 +27,7 @@ from workload import lines, part_of_one
 
 
 class Fault(Exception):
-    """What the user did wrong, in a sentence."""
+    """The user's mistake, in a sentence."""
 
 
 class History(NamedTuple):

@@ -1,8 +1,8 @@
 #!/usr/bin/env python3
 """Times a glance and a call from inside, by the program `bench`: on a board, and under a plain lock.
 
-Prints the median of several runs for each number of threads that glance, and for what another thread calls meanwhile; then
-that of a call alone, which asks for the verdict, on boards of so many seats.
+Prints the median of several runs for each number of threads that glance, and for each call of another thread meanwhile. Then it prints that
+of a call alone, which asks for the verdict, on boards of several numbers of seats.
 """
 import pathlib
 import statistics

@@ -1,8 +1,8 @@
 #!/usr/bin/env python3
 """Times the program on histories of registers with 1, 1,000 and 65,536 keys: `keys.py [EVENTS]`, 2^20 unless given.
 
-Prints processor time, the least of three runs, and peak memory of a whole script; the time from a line to its reply through two pipes,
-for the last 2,000 events; and that of a rewind that takes the last event away, and of a model set for one key.
+Prints processor time, the least of three runs, and peak memory of a whole script. It prints the time from a line to its reply through two
+pipes, for the last 2,000 events. It does so too for a rewind that removes the last event, and for a model set for one key.
 """
 import argparse
 import os

@@ -1,9 +1,9 @@
 #!/usr/bin/env python3
 """Operations a second that a live test in Python does: `live.py [SECONDS] [ROUNDS]`, 2 seconds and 5 rounds unless given.
 
-Clients, each a thread, read and write 500 registers that lie in a dict of this process, so that nothing but the Monitor takes time: half
-of the operations are writes. For 1, 5 and 50 threads it prints the median of the rounds and the least and the most of them, and, of
-the median round, the processor time of an operation in this process and in jepmon. The rounds of the numbers of threads take turns. With
+Clients, each a thread, read and write 500 registers that lie in a dict of this process, so that nothing but the Monitor takes time: half of
+the operations are writes. For 1, 5 and 50 threads it prints the median of the rounds and the least and the most of them. For the median
+round it prints the processor time of an operation in this process and in jepmon. The rounds of the numbers of threads take turns. With
 `--package DIR` it measures the package `jepmon` that lies in that folder, as one of an earlier commit.
 """
 import argparse

@@ -2,8 +2,8 @@
 """Times the program on histories of one key with many operations open at once: `loads.py [RUNS] [--share PART]`, 3 runs unless
 given. A share of 0.1 makes histories of a tenth of the events, to try the script.
 
-Prints processor time of `script` and of `check`, the least of several runs, the peak memory of `script`, and of its replies
-through two pipes the median and the slowest; beside them the median that the two pipes take by themselves, which is that of `cat`.
+Prints processor time of `script` and of `check`, the least of several runs, and the peak memory of `script`. Then the median and the
+slowest of its replies through two pipes, and the median that the two pipes take by themselves, which is that of `cat`.
 """
 import argparse
 import os

@@ -1,11 +1,10 @@
 #!/usr/bin/env python3
-"""A live test that goes on for so many events, with a fault among the last: `long_run.py [EVENTS] [--threads N]`, 20,000,000 and 5 unless
-given.
+"""A live test of this many events, with a fault among the last: `long_run.py [EVENTS] [--threads N]`, 20,000,000 and 5 unless given.
 
 Clients read and write 60 registers of a LongMonitor, that lie in a dict of this process; one write of two thousand times out, and is put
-all the same, or not. When all but the last thousand events were told, one read is answered by the first value of its register. Each time
-that another twentieth was told it prints the seconds, the events, the programs so far, and the resident memory of this process and of the
-programs that run; at the end whether the fault was found, after how many events, and the processor time. Status: 0 where it was found.
+all the same, or not. When the last thousand events begin, one read answers the first value of its register. After each further twentieth it
+prints the seconds, the events, the programs so far, and the resident memory of this process and of the programs that run. At the end it
+prints whether the fault was found, after how many events, and the processor time. Status: 0 where it was found.
 """
 import argparse
 import os

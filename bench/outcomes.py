@@ -1,11 +1,10 @@
 #!/usr/bin/env python3
 """Times the program where reads are lost and where operations have several outcomes: `outcomes.py [RUNS] [--share PART]`, as loads.py.
 
-Histories of one key: a register of five clients of which one in twenty reads is never answered, and unordered queues of five
-clients and twenty values. Prints processor time of `script`, the least of several runs, its peak memory, and the most ends that
-an ok meets: the least budget with which no ok is over it. Then queues that different values are put in, one after the other,
-before one dequeue, which may find each of them: the dequeue's ok is over the budget, or there is no memory for its outcomes
-within 4 GiB.
+Histories of one key: a register of five clients of which one in twenty reads is never answered, and unordered queues of five clients and
+twenty values. Prints processor time of `script`, the least of several runs, its peak memory, and the most ends that an ok meets: the least
+budget with which no ok is over it. Then come queues that get different values, one after the other, before one dequeue, which may find each
+of them. The dequeue's ok is over the budget, or there is no memory for its outcomes within 4 GiB.
 """
 import pathlib
 import resource

@@ -1,10 +1,10 @@
 #!/usr/bin/env python3
 """Prints the tables of docs/PERFORMANCE.md, all of one program: `performance.py [PROGRAM]`, by default the one that was built here, else
-the released one. It runs the scripts that measure, one after the other, and prints their tables as Markdown, each below the marker that it
-has in the document, and first which program that is, of which commit and day. With `--into docs/PERFORMANCE.md` it puts each table, and
-that line, in the place of those that stand there.
+the released one. It runs the measuring scripts, one after the other, and prints their tables as Markdown, each below the marker that it has
+in the document. It prints first the program, with its commit and day. With `--into docs/PERFORMANCE.md` it puts each table, and that line,
+in the place of those that stand there.
 
-The program must be a proved one: `dist/jepmon`, or what `./jepmon build` has made here. Of any other one say by `--commit NAME` at which
+The program must be a proved one: `dist/jepmon`, or what `./jepmon build` has made here. For another program say by `--commit NAME` at which
 commit it was proved.
 
 Tables, and the script that makes each: loads (bench/loads.py), beside (bench/counted.py beside), outcomes (bench/outcomes.py), orders
@@ -32,7 +32,7 @@ GROWN = re.compile(r"(.*): (?:ok|FAILED), ([0-9.]+) s, ([0-9.]+) us an event, ([
 
 
 class Fault(Exception):
-    """What the user did wrong, or what could not be measured, in a sentence."""
+    """The user's mistake, or the failure of a measurement, in a sentence."""
 
 
 class Given(NamedTuple):
@@ -61,7 +61,7 @@ def commands(given: Given) -> Dict[str, List[str]]:
     }
 
 
-# --- Which program, of which commit ---
+# --- The program and its commit ---
 
 def git(*words: str) -> str:
     ran = subprocess.run(["git", *words], cwd=TOP, stdout=subprocess.PIPE, stderr=subprocess.DEVNULL, universal_newlines=True)
@@ -99,7 +99,7 @@ def version_of(file: pathlib.Path) -> str:
         raise Fault(f"{file} can't be run: {fault.strerror}") from None
     found = re.match(r"jepmon (\S+)", ran.stdout)
     if ran.returncode or not found:
-        raise Fault(f"{file} is no jepmon: its --version prints {ran.stdout.strip()[:60]!r}")
+        raise Fault(f"{file} is not jepmon: its --version prints {ran.stdout.strip()[:60]!r}")
     return found[1]
 
 
@@ -112,7 +112,7 @@ def heading(given: Given, version: str, commit: str) -> str:
 # --- The tables ---
 
 def as_table(lines: List[str]) -> List[str]:
-    """What tests/growth.py prints, as a table."""
+    """The output of tests/growth.py, as a table."""
     rows = ["| Load | Seconds | An event | Peak memory | Ends with |", "|---|---|---|---|---|"]
     found = [match for match in map(GROWN.fullmatch, lines) if match]
     # An event's share says something only where there are many events.
@@ -138,7 +138,7 @@ def measured(name: str, words: List[str], file: pathlib.Path) -> List[str]:
 # --- The document ---
 
 def with_tables(text: str, tables: Dict[str, List[str]]) -> str:
-    """The document with these in place of what stands below their markers: of a table its lines, of another text one line."""
+    """The document with these instead of the lines below their markers: a table's lines, or one line of another text."""
     kept: List[str] = []
     left = dict(tables)
     lines = text.splitlines()
@@ -163,7 +163,7 @@ def words() -> argparse.Namespace:
     parser.add_argument("--commit", metavar="NAME", help="the commit at which PROGRAM was proved")
     parser.add_argument("--plain", metavar="COMMAND", help="another checker that computes the same")
     parser.add_argument("--without-ends", metavar="COMMAND", help="another checker that counts no ends")
-    parser.add_argument("--runs", type=positive_number, default=3, metavar="N", help="of processor times the least of so many, 3 unless given")
+    parser.add_argument("--runs", type=positive_number, default=3, metavar="N", help="processor times are the least of N runs, 3 unless given")
     parser.add_argument("--share", type=part_of_one, default=1.0, metavar="PART", help="of the events, to try the script")
     parser.add_argument("--only", action="append", metavar="TABLE", help="this table; may be given more than once")
     parser.add_argument("--into", type=pathlib.Path, metavar="FILE", help="put the tables into this document")
@@ -179,7 +179,7 @@ def run(asked: argparse.Namespace) -> None:
     if not given.program.is_file():
         raise Fault(f"there is no program {given.program}")
     if asked.into is not None and given.share != 1:
-        raise Fault("what is measured on a share of the events is no number for a document: leave out --share, or --into")
+        raise Fault("a document has no numbers of a share of the events: leave out --share, or --into")
     text = asked.into.read_text(encoding="utf-8") if asked.into is not None else ""
     version = version_of(given.program)
     tables = {"program": [heading(given, version, commit_of(given.program, asked.commit))]}

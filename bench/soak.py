@@ -1,11 +1,11 @@
 #!/usr/bin/env python3
 """Whether a long session stays as small as it was: `soak.py [MINUTES] [--rate EVENTS]`, an hour unless said.
 
-One `script` is told, line by line and each time after its reply, histories of five clients on eight keys, of every kind of object
-in turn, all linearizable. Every so often the history is rewound, by some events or to its beginning, and told on from there. Each
-verdict must be legal. Every minute it prints the lines so far and the memory that is resident, which goes up and down with the length
-and the kind of the history; at the end the most of the first five minutes beside the most of the last five, and ends with 1 where a
-reply was another or the memory grew by more than a twentieth.
+One `script` gets, line by line and each time after its reply, histories of five clients on eight keys, of every kind of object in turn, all
+linearizable. Every so often the history is rewound, by some events or to its beginning, and told on from there. Each verdict must be legal.
+Every minute it prints the lines so far and the resident memory, which goes up and down with the length and the kind of the history. At the
+end it prints the most of the first five minutes and the most of the last five. It ends with 1 if a reply was another or the memory grew by
+more than a twentieth.
 """
 import argparse
 import pathlib
@@ -23,7 +23,7 @@ AT_ONCE = 200  # so many lines are written before their replies are read
 
 
 class Session:
-    """One script, and how many lines it was told."""
+    """One script, and the number of lines that it got."""
 
     def __init__(self):
         words = [str(PROGRAM), "script", "--concurrency", str(CLIENTS)]
@@ -45,7 +45,7 @@ class Session:
 
 
 def commands(draw):
-    """An endless history: lists of lines, each a front of what is told next."""
+    """An endless history: lists of lines, each a prefix of the next."""
     seed = 0
     while True:
         for model in MODELS:

@@ -1,10 +1,10 @@
 #!/usr/bin/env python3
 """How many keys with many clients are decided, and how fast: `wide.py KEYS OPERATIONS [DIR]`; JEPMON names the program.
 
-For each kind, number of clients, unique and repeated values, without and with timeouts, so many keys are made, each a history of clients
-that are always busy; one in four has an answer that is wrong, near its end. Of each row it prints how many keys `jepmon check` decides at
-the greatest budget, how many jepmon.wide decides in ten processor seconds a key, and the seconds of the slowest. The histories are left
-in DIR, where one is named.
+It makes keys for each kind, number of clients, unique and repeated values, without and with timeouts. Each is a history of clients that are
+always busy; one in four has a wrong answer near its end. A row has the number of keys that `jepmon check` decides at the greatest budget,
+the number that jepmon.wide decides in ten processor seconds a key, and the seconds of the slowest. The histories are left in DIR, where one
+is named.
 """
 import collections
 import heapq
@@ -63,7 +63,7 @@ def rows() -> Iterator[Row]:
 
 
 def history_of(row: Row, count: int, seed: int) -> str:
-    """A history of one key, of so many operations."""
+    """A history of one key, with this number of operations."""
     chance = random.Random(f"{row.name} {seed}")
     ops = drawn(row, count, chance)
     take_place(row, ops, chance)
@@ -130,7 +130,7 @@ def text_of(told: List[Tuple[Op, str]], clients: int) -> str:
 
 
 def judged(row: Row, text: str) -> Tuple[str, str, float]:
-    """What check says, what is found, and in how many seconds."""
+    """The status by check, the status by the search, and the seconds."""
     options = Options(row.clients, row.model, 65536)
     said = check(text.encode(), options).keys[0].status
     events: List[Event] = read_history(text)

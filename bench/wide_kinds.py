@@ -2,10 +2,11 @@
 """Measures the wide kinds beside the plain ones, on keys that many clients share: `wide_kinds.py [--seeds N] [--ops N] [--seconds N]
 [--kind NAME] [--clients N,..]`; JEPMON names the program.
 
-A load is one key of a correct object, whose clients never rest. At each step one client, drawn at random, invokes an operation, or its operation
-takes place, or it returns or times out. All values differ. A row has a load, and for each of both kinds the number of seeds that `jepmon check`
-decides at the budgets 4,096 and 65,536. If it decides all at 65,536, the row also has the least power of two that decides all of them, and the
-microseconds of the processor for an event. A key that takes more seconds of the processor than the limit is late.
+A load is one key of a correct object, whose clients never rest. At each step one client, drawn at random, invokes an operation, or its
+operation takes place, or it returns or times out. All values differ. A row has a load, and for each of both kinds the number of seeds that
+`jepmon check` decides at the budgets 4,096 and 65,536. If it decides all at 65,536, the row also has the least power of two that decides
+all of them. The last cell has the microseconds of the processor for an event. A key that takes more seconds of the processor than the limit
+is late.
 """
 import argparse
 import pathlib

@@ -1,12 +1,12 @@
 #!/usr/bin/env python3
 """Times what workers do: `workers.py [RUNS [ROUNDS [EVENTS]]]`, 5 runs of 2,000 rounds and 2^20 events unless given.
 
-By the program `bench`, the time of a load of a history of ten keys, on each of which six clients write at once, by 1, 2 and 4
-workers. By the program `jepmon`, the time, the processor time and the peak memory of a `check --workers N` of recorded files: of
-ten keys with six clients each, whose ends are many and which has a quarter of the events; of 1,000 keys and of 65,536 keys with
-two clients in all, of which most is reading; and of the reading alone, which is a check behind a first element that is no event.
-The least of all runs, and how many times as fast as by one worker. What is printed has to be the same by any number of workers,
-also of 400,000 events over 2,000 keys, which are not timed.
+By the program `bench`, the time of a load of a history of ten keys, on each of which six clients write at once, by 1, 2 and 4 workers. By
+the program `jepmon`, the time, the processor time and the peak memory of a `check --workers N` of recorded files. The files are ten keys
+with six clients each, whose ends are many, with a quarter of the events; and 1,000 keys and 65,536 keys with two clients in all, which take
+mostly reading. The last is the reading alone, which is a check behind a first element that is not an event. The least of all runs, and how
+many times as fast as by one worker. The output has to be the same by any number of workers, also of 400,000 events over 2,000 keys, which
+are not timed.
 """
 import os
 import pathlib
@@ -31,7 +31,7 @@ def loads(rounds):
 
 
 def crowded(events, keys, clients):
-    """A legal history in which the threads go by keys: each key has so many clients, who write and read at once."""
+    """A legal history in which the threads go by keys: the clients of each key write and read at once."""
     per_key = [lines(events // keys, clients, seed, "register") for seed in range(keys)]
     for at, line in enumerate(line for row in zip(*per_key) for line in row):
         key = at % keys

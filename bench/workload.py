@@ -1,15 +1,15 @@
 #!/usr/bin/env python3
 """Prints a legal history: `workload.py EVENTS CLIENTS SEED [MODEL [KEYS [LOST [ORDER]]]]`, of one key unless a number of keys is given.
 
-Operations take place at random moments, on keys drawn at random. Of the reads the part LOST, 0 unless it is given, is never
-answered: the client notes `:info`, and its thread goes on with its next process. The order in which the operations took place is
-written to the file ORDER, as `jepmon confirm` reads it.
+Operations take place at random moments, on keys drawn at random. The part LOST of the reads, 0 unless it is given, is never answered: the
+client notes `:info`, and its thread goes on with its next process. The order in which the operations took place is written to the file
+ORDER, as `jepmon confirm` reads it.
 """
 import argparse
 import random
 import signal
 
-# What the operations of each kind do: the state after one and the part of its ok, or None where it can't take place.
+# The effect of the operations of each kind: the state after one and the part of its ok, or None if it can't take place.
 
 
 def register(state, name, part):
@@ -47,7 +47,7 @@ def members(state, name, part):
     return state | {part}, part
 
 
-# What a client does next, where `waiting` names the operations that have not taken place and `last` is the client's own.
+# A client's next step; `waiting` names the operations that have not taken place, and `last` is the client's own.
 
 
 def of_register(draw, state, waiting, last):
@@ -72,7 +72,7 @@ def of_queue(draw, state, waiting, most, values):
 
 
 def of_fifo_queue(draw, state, waiting, last):
-    # A short queue: the order of enqueues that were open at once is told only by the dequeues of their values.
+    # A short queue: only the dequeues of their values show the order of enqueues that were open at once.
     return of_queue(draw, state, waiting, 3, 5)
 
 

@@ -64,7 +64,7 @@ def no_overlap(browser: Browser, name: str) -> List[str]:
 
 
 def contrast(browser: Browser, name: str) -> List[str]:
-    """Texts are told from their ground in light and in dark, and the two differ."""
+    """Texts differ from their ground in light and in dark, and the two differ."""
     faults: List[str] = []
     grounds = []
     for dark in (False, True):
@@ -96,7 +96,7 @@ def click_keeps(browser: Browser) -> List[str]:
 
 
 def details_of_a_timeout(browser: Browser) -> List[str]:
-    """What stands beside an event: the time, the error, that it may take place later."""
+    """The notes of an event: the time, the error, that it may take place later."""
     opened(browser, "faults")
     browser.ask("document.getElementById('chart').scrollLeft = 0")
     browser.settle()
@@ -143,8 +143,7 @@ def keyboard(browser: Browser) -> List[str]:
 
 
 def orders(browser: Browser) -> List[str]:
-    """The first end's order is drawn at once, another's on a click or by keys; dots stand on the bars, in order, from left to
-    right."""
+    """The first end's order is drawn at once, another's on a click or by keys; the bars have dots, in order, from left to right."""
     opened(browser, "register")
     faults = differing("the end that is chosen", browser.texts("tr.chosen .choose"), ["1"])
     first = dots(browser)
@@ -184,7 +183,7 @@ def wrong_dots(browser: Browser) -> List[str]:
 
 
 def sentences(browser: Browser) -> List[str]:
-    """An event that a sentence names leads to its operation, also to one that is no part of the smallest one."""
+    """An event in a sentence leads to its operation, also to one outside of the smallest part."""
     opened(browser, "register")
     browser.click("#only")
     browser.click('.sentences .seek[data-event="51"]')
@@ -211,7 +210,7 @@ def smallest(browser: Browser) -> List[str]:
 
 
 def growth(browser: Browser) -> List[str]:
-    """Of an unknown key: a column for each ok, the higher the more ends there were, and a line at the budget."""
+    """The chart of an unknown key: a column for each ok, the higher the more ends there were, and a line at the budget."""
     opened(browser, "unknown")
     columns = browser.ask(COLUMNS)
     heights = [high for _, high in sorted(columns)]
@@ -275,7 +274,7 @@ def hostile(browser: Browser) -> List[str]:
 
 
 def large(browser: Browser) -> List[str]:
-    """5,000 operations: open soon, no more elements than others, drawn anew soon after each scroll."""
+    """5,000 operations: open soon, no more elements than others, drawn again soon after each scroll."""
     text = rendered("big")
     browser.worked()
     begin, before = time.monotonic(), browser.worked()
@@ -341,7 +340,7 @@ def alone(browser: Browser) -> List[str]:
 
 
 def finds_overlap(browser: Browser) -> List[str]:
-    """That the search for texts over one another finds some, where there are."""
+    """The search for texts over one another finds some, if there are any."""
     opened(browser, "register")
     browser.ask("document.querySelector('.tick').style.left = document.querySelectorAll('.tick')[1].style.left;"
                 "document.querySelectorAll('.dot').forEach((dot) => { dot.style.marginTop = '-20px' })")

@@ -1,4 +1,4 @@
-"""What tests/browser.py drives: one headless Chromium for all cases, and what is asked of a page that is open in it."""
+"""The driver of tests/browser.py: one headless Chromium for all cases, and the questions about an open page."""
 from __future__ import annotations
 
 import json
@@ -26,14 +26,14 @@ def have_selenium() -> bool:
 
 
 def missing() -> str:
-    """What is missing to run a browser; empty where nothing is."""
+    """The missing parts for a browser; empty if there is none."""
     if not have_selenium():
         return "python3-selenium"
     return next((name for name in ("chromium", "chromedriver") if shutil.which(name) is None), "")
 
 
 class Browser:
-    """A headless Chromium, of which each case opens its page."""
+    """A headless Chromium; each case opens its page in it."""
 
     def __init__(self, folder: pathlib.Path) -> None:
         from selenium import webdriver
@@ -135,7 +135,7 @@ class Browser:
             self.settle()
 
     def said(self) -> List[str]:
-        """What stands in the console since the page was opened."""
+        """The console's messages since the page was opened."""
         return [f"{line['level']}: {line['message']}" for line in self.driver.get_log("browser")]
 
     def overlaps(self) -> List[str]:
@@ -143,11 +143,11 @@ class Browser:
         return list(self.ask(OVERLAPS))
 
     def contrasts(self) -> Dict[str, float]:
-        """Of each sort of text the contrast to what is behind it, as WCAG counts it."""
+        """The contrast of each sort of text to its background, as WCAG counts it."""
         return dict(json.loads(self.ask(CONTRASTS)))
 
 
-# What is asked of a page: of what has the focus, of its chart, of its columns.
+# Questions about a page: its focus, its chart, its columns.
 WORDS = "return document.activeElement.querySelector('.words').textContent"
 TOP_OF = "return document.activeElement.getBoundingClientRect().top"
 SCROLL = """const chart = document.getElementById('chart');
@@ -161,7 +161,7 @@ MIDDLE = "const chart = document.getElementById('chart'); return (chart.scrollLe
 WIDER = "const all = document.documentElement; return all.scrollWidth > all.clientWidth"
 OPERATION = "document.activeElement.dataset.id"
 
-# What is to be seen of each text: within its ruler, or between the rulers and behind the names.
+# The visible part of each text: within its ruler, or between the rulers and behind the names.
 OVERLAPS = r"""
 const chart = document.querySelector('.chart').getBoundingClientRect();
 const part = (selector) => {

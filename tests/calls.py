@@ -1,8 +1,8 @@
 #!/usr/bin/env python3
-"""Compares the tables of public calls in docs/CALLS.md with the sources: each call that gives back a Result must be in them once, and
-a row must not name a call that is not there. A row says `only memory` if and only if the error of its calls is AllocError, and
-`none` if they give back no Result. A row of calls that may run out of memory must name tests in which they succeed, and these tests must
-be there. Prints what differs, and ends with 'N passed, M failed', one for each crate.
+"""Compares the tables of public calls in docs/CALLS.md with the sources. Each call that returns a Result must be in them once, and a row
+must not name a call that is not there. A row says `only memory` if and only if the error of its calls is AllocError, and `none` if they
+give back no Result. A row of calls that may run out of memory must name tests in which they succeed, and these tests must be there. Prints
+what differs, and ends with 'N passed, M failed', one for each crate.
 
     tests/calls.py --rows      prints a row for each call that is missing, to be completed by hand
 
@@ -22,7 +22,7 @@ WORD = re.compile(r"[A-Za-z_][A-Za-z0-9_]*")
 
 
 def given(root):
-    """What a crate's root gives: the modules that are public, and the items that are brought out of the others."""
+    """The names in a crate's root: the public modules, and the items that `pub use` exports from others."""
     modules = set(re.findall(r"(?m)^pub mod (\w+);", root))
     items = set()
     for module, names in re.findall(r"pub use (\w+)::(\{[^}]*\}|\w+)", root):
@@ -94,7 +94,7 @@ def rows_of_tables():
 
 
 def told():
-    """What the tables say of each crate: each call with the begin of its third cell."""
+    """The rows of each crate in the tables: each call with the begin of its third cell."""
     found = {}
     for crate, (calls, refusals, *_) in rows_of_tables():
         found.setdefault(crate, []).extend((call, kind_told(refusals)) for call in spelled(calls))
@@ -102,12 +102,12 @@ def told():
 
 
 def kind_told(refusals):
-    """What a cell says of refusals: `none`, `only memory`, or names of refusals."""
+    """The refusals in a cell: `none`, `only memory`, or names of refusals."""
     return next((kind for kind in ("none", "only memory") if refusals.startswith(kind)), "names of refusals")
 
 
 def kind_of(error):
-    """What a cell has to say of a call with this error."""
+    """The right cell of a call with this error."""
     return "none" if error is None else "only memory" if error == "AllocError" else "names of refusals"
 
 
@@ -120,7 +120,7 @@ def spelled(cell):
 
 
 def rows_of_memory():
-    """Of each row its crate, its calls, whether they may want memory, and where they are seen to succeed."""
+    """The crate of each row, its calls, whether they may run out of memory, and the tests in which they succeed."""
     return [(crate, calls, memory, seen) for crate, (calls, _, memory, _, seen) in rows_of_tables()]
 
 
@@ -131,8 +131,8 @@ def tests_of(crate):
 
 
 def unseen(rows):
-    """What is wrong with where the calls of each row are seen to succeed, by crate. A cell is like this: `crate`: `test`, `test`; cases
-    `name`, `name`; table `name`. Cases are those of tests/run.py, tables those of tests/measures.py."""
+    """The faults in the tests that the rows name, by crate. A cell is like this: `crate`: `test`, `test`; cases `name`, `name`; table
+    `name`. Cases are those of tests/run.py, tables those of tests/measures.py."""
     others, faults = {"case": {name for name, _ in all_cases()}, "table": measures.TABLES}, {}
     for holder, calls, memory, seen in rows:
         if memory.startswith("none") != (not seen):
@@ -145,7 +145,7 @@ def unseen(rows):
 
 
 def faults_of(crate, named):
-    """What is wrong with the rows of a crate, which name these calls."""
+    """The faults in the rows of a crate, which name these calls."""
     calls = public_calls(crate)
     names = [name for name, _ in named]
     faults = [f"does not have {name}" for name, error in calls.items() if error and name not in names]

@@ -1,4 +1,4 @@
-"""What scripts of cases share: the files of a case, and the loop over cases."""
+"""The common parts of scripts of cases: the files of a case, and the loop over cases."""
 import contextlib
 import io
 import pathlib
@@ -19,7 +19,7 @@ def words(path: pathlib.Path) -> List[str]:
 
 
 def given(case: pathlib.Path, name: str) -> bytes:
-    """What a case is given by this name: its file NAME.edn, or what its script NAME.py prints."""
+    """The input of a case by this name: its file NAME.edn, or the output of its script NAME.py."""
     script = case / f"{name}.py"
     if not script.exists():
         return read(case / f"{name}.edn")

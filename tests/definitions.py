@@ -3,12 +3,11 @@
 must be named there, in backticks. And each wrong body that docs/WRONG_BODIES.md names, as `crate`: `name`, must be there. Prints what
 is left out, and ends with 'N passed, M failed', one for each crate that is compared and one for the wrong bodies.
 
-A call is public where its crate's root gives it: an item of a `pub mod`, or one that `pub use` names. What a clause cites
-is found by the file's `ghost use` lines; generated modules (`specs.declared`) are types of the code and no definitions.
+A call is public where its crate's root gives it: an item of a `pub mod`, or one that `pub use` names. The file's `ghost use` lines resolve
+the names in a clause; generated modules (`specs.declared`) are types of the code and not definitions.
 
-The crates of INNER are not compared: only `frontier` calls them, or another one of them, and its public clauses cite no
-definition of theirs. So nobody has to believe one to believe a promise. Where a public clause of another crate cites one all
-the same, that is told.
+The crates of INNER are not compared: only `frontier` calls them, or another one of them, and its public clauses cite no definition of
+theirs. So nobody has to believe one to believe a promise. If a public clause of another crate cites one all the same, the output says so.
 """
 import pathlib
 import re
@@ -30,7 +29,7 @@ def named():
 
 
 def given(root):
-    """What a crate's root gives: the modules that are public, and the items that are brought out of the others."""
+    """The names in a crate's root: the public modules, and the items that `pub use` exports from others."""
     modules = set(re.findall(r"(?m)^pub mod (\w+);", root))
     items = set()
     for module, names in re.findall(r"pub use (\w+)::(\{[^}]*\}|\w+)", root):

@@ -1,12 +1,12 @@
 #!/usr/bin/env python3
 """Runs the commands that the documents show, and compares what comes with what they show.
 
-A fenced block `console` is a session: a line that begins with `$ ` is a command, lines after it that begin with `> ` continue it,
-and what follows is what it prints, on standard output and standard error together, where a line `...` stands for any lines.
-The commands of a block run one after the other in one shell, in a folder of their own in which the repository's files and
-folders stand, with `jepmon` and the tools' commands on the path, as if they were installed. A block `python` must be Python; where it begins with a
-comment `# NAME.py`, it is a file of that name for the sessions after it, and else listed as not run. So is each other block, and
-each command within a line that no session has. A command in an indented block is a fault.
+A fenced block `console` is a session. A line that begins with `$ ` is a command, and lines after it that begin with `> ` continue it. The
+lines that follow are its output, on standard output and standard error together, where a line `...` stands for any lines. The commands of a
+block run one after the other in one shell, in a folder of their own with the repository's files and folders. `jepmon` and the tools'
+commands are on the path, as if they were installed. A block `python` must be Python; where it begins with a comment `# NAME.py`, it is a
+file of that name for the sessions after it, and else listed as not run. So is each other block, and each command within a line that no
+session has. A command in an indented block is a fault.
 """
 import difflib
 import os
@@ -98,7 +98,7 @@ def by_model(lines):
 
 
 def faults_of(lines, files):
-    """What is wrong with a session, if anything."""
+    """The faults in a session, if any."""
     commands = session(lines)
     told = run([command for command, _ in commands], files)
     faults = []

@@ -1,9 +1,9 @@
 #!/usr/bin/env python3
 """Runs examples/explain on histories, with the built program. Ends with 'N passed, M failed'.
 
-A case is a folder of tests/explain: history.edn, or in its place history.py, which prints it; args, the options of the check,
-one word a line; and stdout, stderr and status (0 where left out), which must come to the byte: stdout is the last line, and all
-that is printed, and the status, must be those of jepmon check itself. With words, it runs the cases of these names alone.
+A case is a folder of tests/explain. It has history.edn, or history.py, which prints it; and args, the options of the check, one word a line.
+Its stdout, stderr and status (0 where left out) must agree to the byte. stdout is the last line, and the whole output and the status
+must be those of jepmon check itself. With words, it runs the cases of these names alone.
 """
 import functools
 import os
@@ -62,16 +62,16 @@ def run_closed_input() -> List[str]:
 
 
 def run_faults_of_words() -> List[str]:
-    """What jepmon check says of an option comes through, with its status."""
+    """jepmon check's message about an option comes through, with its status."""
     ran = explained(["-", "--concurrency", "65"])
     other = explained(["-", "--seed", "1"])
-    want = b"refused 10 BadConcurrency\nexplain: 64 is the limit; examples/from-jepsen numbers the processes anew, so that 64 "
+    want = b"refused 10 BadConcurrency\nexplain: 64 is the limit; examples/from-jepsen numbers the processes again, so that 64 "
     return (differing("what came", (ran.stdout, ran.stderr[:len(want)], ran.returncode), (b"", want, 3))
             + differing("what came of a word of no option", (other.stdout, other.returncode), (b"", 3)))
 
 
 def run_no_verdict() -> List[str]:
-    """What is no verdict of jepmon ends with 3, and says why."""
+    """Anything but a verdict of jepmon ends with 3, and says why."""
     case = CASES / "stale_read" / "history.edn"
     faults = []
     for program, why in (("/nowhere/jepmon", b"explain: /nowhere/jepmon can't be run: No such file or directory"),

@@ -1,5 +1,5 @@
-"""Python's command line in a child of this process, which has imported the tools once: a run costs a fork in place of a start of Python.
-What a run does to its folder, its environment and its streams is its own."""
+"""Python's command line in a child of this process, which has imported the tools once: a run costs a fork in place of a start of Python. A
+run's changes to its folder, its environment and its streams are its own."""
 from __future__ import annotations
 
 import io
@@ -28,7 +28,7 @@ Ran = "subprocess.CompletedProcess[bytes]"
 
 def ran(words: Sequence[str], text: bytes = b"", folder: Optional[str] = None, environment: Optional[Mapping[str, str]] = None,
         limit: float = LIMIT) -> "subprocess.CompletedProcess[bytes]":
-    """What comes of `python3 WORD..`, a script or `-m` and a module, with the text on standard input."""
+    """The result of `python3 WORD..`, a script or `-m` and a module, with the text on standard input."""
     read, write = os.pipe()
     with tempfile.TemporaryFile() as out, tempfile.TemporaryFile() as error:
         sys.stdout.flush()

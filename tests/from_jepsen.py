@@ -1,10 +1,10 @@
 #!/usr/bin/env python3
-"""Runs examples/from-jepsen on recorded histories, and the built program on what it writes. Ends with 'N passed, M failed'.
+"""Runs examples/from-jepsen on recorded histories, and the built program on its output. Ends with 'N passed, M failed'.
 
-A case is a folder of tests/from-jepsen: input.edn, or in its place input.py, which prints it; args, one word a line; stdout,
-stderr and status (0 where left out), which must come to the byte; and verdict, the last line of the program on that output,
-judged as the output's own advice says. What is refused is given to jepmon check too, which must refuse it.
-With words, it runs the cases of these names alone.
+A case is a folder of tests/from-jepsen: input.edn, or instead input.py, which prints it; args, one word a line; stdout, stderr and status
+(0 where left out), which must agree to the byte. The file verdict has the last line of the program on that output, judged as the output's
+own advice says. The script gives refused outputs to jepmon check too, which must refuse them. With words, it runs the cases of these names
+alone.
 """
 import functools
 import pathlib

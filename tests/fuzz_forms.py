@@ -1,8 +1,8 @@
 #!/usr/bin/env python3
 """Prints random histories of known verdict in every form that jepmon-judge takes, with variations as tests in the field have them, and
-compares the verdicts. A verdict that is not the right one is SILENT if no line warns of it; SETTLED if a line names an option and the verdict
-is right with it; CLOCKS if it is right by times of clocks that differ, and a line says so; else NOTED. The smallest case of each class is
-shown. A refusal is no verdict. Some cases are judged by --jobs too, which must say the same. Ends with 'N passed, M failed'.
+compares the verdicts. A wrong verdict is SILENT if no line warns of it, and SETTLED if a line names an option and the verdict is right with
+it. It is CLOCKS if it is right by times of clocks that differ, and a line says so; else NOTED. The smallest case of each class is shown. A
+refusal is not a verdict. Some cases are judged by --jobs too, which must say the same. Ends with 'N passed, M failed'.
 
 usage: tests/fuzz_forms.py [--count N] [--seconds S] [--seed S] [--form FORM] [--jobs-of N] [--out DIR] [--shares]     JEPMON names the program
 
@@ -32,7 +32,7 @@ SHOWN, SHOWN_PAIRS = 40, 8  # classes, and pairs of verdicts
 
 
 class Tally:
-    """What came of the cases."""
+    """The results of the cases."""
 
     def __init__(self) -> None:
         self.by_form: "Counter[str]" = collections.Counter()

@@ -1,6 +1,6 @@
 #!/usr/bin/env python3
-"""Random live tests of many threads: that what a run says is what its folder and its log say when they are judged again; and that it is the
-right verdict, where that is known.
+"""Random live tests of many threads. A run's verdict is that of its folder and its log when they are judged again; and it is the right
+verdict, if that is known.
 
 usage: tests/fuzz_live.py SECONDS [FIRST]     JEPMON names the program
 """

@@ -1,6 +1,6 @@
 #!/usr/bin/env python3
 """Compares two programs on random scripts, byte for byte: events of all kinds, rewinds, changes of models and budgets, and lines that are
-refused; some with long queues and large sets. What a new program says must be what the one before it said.
+refused; some with long queues and large sets. A new program must say the same as the one before it.
 
 usage: tests/fuzz_programs.py OTHER COUNT [FIRST]     OTHER is the program before, JEPMON names the new one
 """
@@ -24,7 +24,7 @@ ODD = ("[:verdict]", "[:rewind -1]", "[:budget 0 0]", "[:model 0 list]", "; noth
 
 
 class Moment(NamedTuple):
-    """What stands after some events: the clients' processes, what they have open, and the objects."""
+    """The state after some events: the clients' processes, their open operations, and the objects."""
 
     processes: Tuple[int, ...]
     running: Dict[int, Tuple[str, int, Any]]

@@ -1,6 +1,6 @@
 #!/usr/bin/env python3
-"""Compares what the program says of random histories whose events are spelled plainly with what it says of the same events in other
-spellings: the replies of `script`, and the report of `check` and its status, byte for byte.
+"""Compares the program's answers for random histories whose events are spelled plainly with those for the same events in other spellings.
+It compares the replies of `script`, and the report of `check` and its status, byte for byte.
 
 usage: tests/fuzz_spellings.py COUNT [FIRST]     JEPMON names the program
 """

@@ -1,9 +1,9 @@
-"""The grammar of texts, as docs/FORMATS.md has it under 'Text', in a few lines and for no speed: what elements some bytes are, and
-where they are no text the length of their longest front that is one."""
+"""The grammar of texts, from docs/FORMATS.md, 'Text', in a few lines and slow: the elements of some bytes, or the length of their longest
+prefix that is a text."""
 import re
 
 SPACE = b" \t\n\r,"
-# What may stand behind an atom, where the text does not end there.
+# The characters that may follow an atom inside a text.
 BEHIND_AN_ATOM = SPACE + b';"[]{}'
 ATOM = re.compile(rb"nil|true|false|[+-]?(?:0|[1-9][0-9]*)|:[A-Za-z][-A-Za-z0-9_?!*.]*")
 ESCAPES = {b"t": b"\t", b"r": b"\r", b"n": b"\n", b"\\": b"\\", b'"': b'"'}
@@ -11,11 +11,11 @@ MOST_OPEN = 32
 
 
 class NoText(Exception):
-    """The bytes are no text."""
+    """The bytes are not a text."""
 
 
 class Reader:
-    """Reads from a place of some bytes on, with so many collections open."""
+    """Reads from a place of some bytes on, with this number of open collections."""
 
     def __init__(self, data):
         self.data, self.at, self.open = data, 0, 0
@@ -38,7 +38,7 @@ class Reader:
                 return
 
     def inside(self, closing):
-        """The elements up to what closes them, which is passed over: the end of the bytes, where that is nothing."""
+        """The elements up to the closing bracket, which is passed over, or up to the end of the bytes."""
         elements = []
         self.gap()
         while self.next() != closing:
@@ -120,5 +120,5 @@ def elements_of(data):
 
 
 def longest_front(data):
-    """The length of the longest front that is a text."""
+    """The length of the longest prefix that is a text."""
     return next(end for end in range(len(data), -1, -1) if elements_of(data[:end]) is not None)

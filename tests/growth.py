@@ -1,10 +1,10 @@
 #!/usr/bin/env python3
-"""What is long costs the same an event as what is short: histories of one client that keep so many messages or members, all open
-enqueues of values that somebody has chosen, and a text with many collections in one map.
+"""Long histories cost the same an event as short ones. The histories of one client keep many messages or members, or have open enqueues of
+values that somebody has chosen; a text has many collections in one map.
 
-usage: growth.py [--size N] [--seconds S] [--mebibytes M] [--only WORD]. JEPMON names the program. Prints for each load the processor
-time, the time an event, the peak of memory and the verdict; each must take at most S seconds and M MiB; the last line is how many
-passed and failed.
+usage: growth.py [--size N] [--seconds S] [--mebibytes M] [--only WORD]. JEPMON names the program. Prints for each load the processor time,
+the time an event, the peak of memory and the verdict. Each must take at most S seconds and M MiB; the last line is how many passed and
+failed.
 """
 from __future__ import annotations
 
@@ -72,7 +72,7 @@ def pairs(values: list[int]) -> Iterator[str]:
 
 
 def collections(count: int) -> Iterator[str]:
-    """One event whose further key has a map of so many collections."""
+    """One event whose further key has a map of `count` collections."""
     inside = " ".join(f"[{at}] #{{{at} -1}}" for at in range(count))
     yield f"{{:type :invoke, :process 0, :f :read, :value [0 nil], :seen {{{inside}}}}}\n" + event("ok", "read", "nil")
 
@@ -100,7 +100,7 @@ class Cost(NamedTuple):
 
 
 def cost(load: Load) -> tuple[Cost, int]:
-    """What the program takes for a load, and how many events it has."""
+    """The program's cost for a load, and the number of its events."""
     with tempfile.NamedTemporaryFile("w", suffix=".edn") as given, tempfile.TemporaryFile() as said:
         events = 0
         for line in load.lines:

@@ -2,10 +2,10 @@
 """Tells the built program what no client would write, and compares what it says with the grammar (tests/grammar.py).
 
   lines     random bytes, bytes that texts are made of, and commands in which some bytes were changed, each as a line of `script`:
-            a line that is no text is refused with its place, one of several elements by 5, a gap alone gets no reply
+            the program refuses an invalid line with its place, several elements by 5, and does not answer a gap alone
   files     the same with line feeds in them, each as a file of `check`
   long      a line of many bytes, and one that is read after it; the memory that it took
-  keys      events on so many keys that there are none of: each is refused, and the memory stays
+  keys      events on keys without a number: the program refuses each, and the memory stays
 
 usage: hostile.py [--lines N] [--commands N] [--files N] [--megabytes N] [--keys N] [--seed N]. Prints each part with its time, and
 the peak of memory of the last two; the last line is how many passed and failed.
@@ -51,7 +51,7 @@ def changed(draw):
 
 
 def reply_to(line):
-    """What the reply to a line must begin with: None where there is none."""
+    """The begin of the reply to a line: None if there is none."""
     elements = grammar.elements_of(line)
     if elements is None:
         return b"refused 11 Unreadable %d\n" % grammar.longest_front(line)
@@ -61,7 +61,7 @@ def reply_to(line):
 
 
 def asked(pieces, replies):
-    """The replies of one script to what these pieces say, so many, and its peak of memory in MiB while it waits for more."""
+    """The replies of one script to these pieces, and its peak of memory in MiB while it waits for more."""
     program = subprocess.Popen([str(PROGRAM), "script"], stdin=subprocess.PIPE, stdout=subprocess.PIPE, stderr=subprocess.DEVNULL)
 
     def write():
@@ -129,7 +129,7 @@ def random_files(count, draw):
 
 
 def long_line(megabytes):
-    """A line of so many bytes: it is refused as too long, and the next one is answered."""
+    """A line of this many bytes: the program refuses it as too long, and answers the next one."""
     replies, peak = asked([b"[" * (1 << 20)] * megabytes + [b"\n[:verdict]\n"], 2)
     wanted = [b"refused 22 TooLong\n", b"legal\n"]
     return ([] if replies == wanted else [f"it was answered by {replies!r}"]), peak

@@ -1,10 +1,9 @@
 #!/usr/bin/env python3
 """Runs jepmon-judge and jepmon-from-json on recorded histories, with the built program. Ends with 'N passed, M failed'.
 
-A case is a folder of tests/judge: args, the words, one a line; and stdout, stderr and status (0 where left out), which must come to
-the byte, but for a line `...` of stderr, which stands for any lines. What else is in the folder is given: it is run in a copy, in
-which make.py, where there is one, makes more; the file stdin comes on standard input. With words, it runs the cases of these names
-alone.
+A case is a folder of tests/judge: args, the words, one a line; and stdout, stderr and status (0 where left out). They must agree to the
+byte, except for a line `...` of stderr, which stands for any lines. The other files of the folder are input. The case runs in a copy, in
+which make.py, if there is one, makes more; the file stdin comes on standard input. With words, it runs the cases of these names alone.
 """
 import functools
 import os
@@ -75,7 +74,7 @@ def fits(shown: bytes, got: bytes) -> bool:
 
 
 def run_cases_of_check() -> List[str]:
-    """What jepmon check says of a history with some options is what comes of it here, with the same options."""
+    """The result is that of jepmon check of the same history with the same options."""
     faults, count = [], 0
     for case in sorted((TOP / "tests" / "cases").iterdir()) + sorted((TOP / "tests" / "explain").iterdir()):
         given = words(case / "args")
@@ -96,14 +95,14 @@ def run_cases_of_check() -> List[str]:
 
 
 def with_defaults(options: List[str]) -> List[str]:
-    """The options of a check with what jepmon takes where they say nothing. What is over its budget stays so."""
+    """The options of a check with what jepmon takes where they say nothing. A key over its budget stays so."""
     return (options + ["--decide-seconds", "0", "--min-ok", "0", "--nil-is-unknown", "--by-ends"]
             + ([] if "--model" in options else ["--model", "register"])
             + ([] if "--concurrency" in options else ["--concurrency", "2"]))
 
 
 def run_own_form() -> List[str]:
-    """What is taken for jepmon's own form is taken by the program, whatever was changed in it."""
+    """The program accepts each text that counts as jepmon's own form, after any change."""
     draw, faults, count = random.Random(1), [], 0
     texts = [read(path).decode() for path in sorted((TOP / "examples").glob("*.edn")) if path.name != "jepsen-register.edn"]
     for _ in range(60):
@@ -141,7 +140,7 @@ def last_lines(got: "subprocess.CompletedProcess[bytes]") -> "tuple[int, bytes, 
 
 
 def run_no_program() -> List[str]:
-    """What is no program, and what gives no verdict, is said in one line."""
+    """A missing program and a missing verdict are reported in one line."""
     faults = []
     for other, why in (("/nowhere/jepmon", b"judge: /nowhere/jepmon can't be run: "),
                          (str(TOP), b"judge: "),
@@ -222,7 +221,7 @@ def run_page() -> List[str]:
         faults += differing("how one that can't be written is named", last_lines(got),
                             (3, b"", b"judge: nowhere/page.html: it can't be written: No such file or directory\n"))
         for name, why in (("nowhere/page.html", "No such file or directory"), (".", "this is a folder; name a file"),
-                          ("history.edn", "this file is there, and is no page: it is not overwritten")):
+                          ("history.edn", "this file is there, and is not a page: it is not overwritten")):
             pathlib.Path(folder, "history.edn").write_text("{}")
             status, output, last = last_lines(ran([STALE, "--html", os.path.join(folder, name)]))
             faults += differing(f"what came of {name}", (status, output, why in last.decode()), (3, b"", True))

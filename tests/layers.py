@@ -37,7 +37,7 @@ def layers() -> List[Layer]:
 
 
 def drawing() -> Iterator[str]:
-    """The program stands on what lies below it."""
+    """The program depends on the crates below it."""
     edge = f"+{'-' * (WIDTH + 2)}+--------+--------+--------+"
     yield edge
     yield f"| {'highest first':{WIDTH}} |   code | defin. | proofs |"
@@ -56,7 +56,7 @@ def numbers(line: str) -> List[int]:
 
 
 def faults() -> List[str]:
-    """What is wrong with the drawing in the document."""
+    """The faults of the drawing in the document."""
     block = re.search(r"```text\n(\+-.*?)\n```", DOCUMENT.read_text(encoding="utf-8"), re.S)
     shown, wanted = (block[1].splitlines() if block else []), list(drawing())
     if [ROW.sub(r"\1", line) for line in shown] != [ROW.sub(r"\1", line) for line in wanted]:

@@ -1,7 +1,7 @@
 #!/usr/bin/env python3
-"""Checks the documents without running anything: each link to a file or a heading of this repository leads there; and docs/DECISIONS.md
-is as its first lines say: its index has each heading once and in order, and an entry has at most 120 words, link targets left out, and
-says why not another way and what would change it (tables after an entry do not count).
+"""Checks the documents without running anything. Each link to a file or a heading of this repository leads there. docs/DECISIONS.md is as
+its first lines say. Its index has each heading once and in order. An entry has at most 120 words, link targets left out, and says why not
+another way and what would change it (tables after an entry do not count).
 
     tests/links.py             prints what is wrong, and 'N passed, M failed': one for each document, one for the decisions, one for the layers
     tests/links.py --index     writes the index of docs/DECISIONS.md from its headings
@@ -102,7 +102,7 @@ def write_index() -> None:
 
 
 def of_decisions() -> List[str]:
-    """What is wrong with the decisions."""
+    """The faults of the decisions."""
     faults = []
     every = headings()
     index = INDEX.search(DECISIONS.read_text(encoding="utf-8").split("\n## ", 1)[0])

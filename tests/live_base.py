@@ -1,5 +1,5 @@
-"""What the live tests share: stores in this process, some with a fault, and the program that is tested. It puts the package on
-the path, so it is imported first."""
+"""The common parts of the live tests: stores in this process, some with a fault, and the program under test. It puts the package on the
+path, so it is imported first."""
 import contextlib
 import io
 import pathlib
@@ -22,8 +22,8 @@ KEYS = 3
 
 
 class Store:
-    """Two copies of the same keys: writes go to one and reads to the other, to which each write is carried over at once, until
-    the copies are cut after so many writes."""
+    """Two copies of the same keys: writes go to one and reads to the other. Each write is carried over at once, until the copies are cut
+    after a number of writes."""
 
     def __init__(self, writes_until_cut: float = float("inf")) -> None:
         self.lock = threading.Lock()
@@ -106,7 +106,7 @@ def another_program(script: str) -> Iterator[str]:
 
 
 def refused_at_once(script: str, timeout: float = 60.0) -> str:
-    """What a monitor of this shell script says as it is made."""
+    """The message of a monitor of this shell script as it is made."""
     with another_program(script) as program:
         return str(raised(Refused, lambda: Monitor(program, timeout=timeout))).replace(program, "PROGRAM", 1)
 

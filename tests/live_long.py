@@ -8,7 +8,7 @@ from jepmon import Failed, Illegal, LongMonitor, Monitor
 
 
 class Objects:
-    """Registers, locks, sets and queues by name, all right but for what is said of them."""
+    """Registers, locks, sets and queues by name, all right except for the named ones."""
 
     def __init__(self) -> None:
         self.lock = threading.Lock()
@@ -65,7 +65,7 @@ class Objects:
 
 
 def fifty_threads_of_one_program() -> None:
-    """What each was told is judged in the order in which it was told: 50 registers, each of one writer and of readers."""
+    """Each program judges its events in the order in which they were sent: 50 registers, each of one writer and of readers."""
     store = Objects()
 
     def client(number: int) -> None:

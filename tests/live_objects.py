@@ -1,4 +1,4 @@
-"""What the Monitor says of stores of each kind, right ones and wrong ones."""
+"""The Monitor's verdicts on stores of each kind, right ones and wrong ones."""
 import io
 import subprocess
 from typing import Callable, List, Set, Tuple
@@ -71,7 +71,7 @@ def a_missing_key_is_legal() -> None:
 
 
 def where_an_answer_comes_from() -> None:
-    """A value that nobody is told to have brought in, or only by an operation that failed, is named with what may be done."""
+    """A value that no operation wrote, or only a failed one, is named with advice."""
     def hint(model: str, work: Callable[[Monitor], object]) -> str:
         def acts() -> None:
             with Monitor(PROGRAM, model=model) as monitor:
@@ -174,7 +174,7 @@ def queues_and_sets() -> None:
 
 
 def what_is_no_integer() -> None:
-    """Keys and values that jepmon does not take are faults of the test, before anything is told; answers too."""
+    """Keys and values that jepmon does not take are faults of the test, before any line is sent; answers too."""
     log = io.StringIO()
     with Monitor(PROGRAM, log=log) as monitor:
         for key in (-1, 65536, "x", True, None):

@@ -59,7 +59,7 @@ def what_failed_did_not_take_place() -> None:
 
 
 def counts_of_outcomes() -> None:
-    """What was judged can be counted: a lock that is never granted is legal."""
+    """The number of judged operations shows it: a lock that is never granted is legal."""
     with Monitor(PROGRAM, model="mutex", expected=(TimeoutError,)) as monitor:
         assert monitor.counts == {}
         for key in range(3):
@@ -144,7 +144,7 @@ def what_timed_out_is_counted() -> None:
 
 
 def a_client_that_raises() -> None:
-    """It ends the others at their next operation; what it raised is raised; and the monitor may be used again."""
+    """It ends the others at their next operation; its exception is raised; and the monitor may be used again."""
     ended: List[str] = []
 
     def client(number: int) -> None:

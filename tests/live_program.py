@@ -22,7 +22,7 @@ def what_is_refused() -> None:
 
 
 def options_out_of_their_limits() -> None:
-    """An option that jepmon does not take is told where the monitor is made, with its own words, and the limits."""
+    """The monitor's constructor reports an option that jepmon does not take, with its own words and the limits."""
     error = str(raised(Refused, lambda: Monitor(PROGRAM, model="stack")))
     assert f"{PROGRAM} script --concurrency 64 --model stack --budget 4096 has ended, with status 3: error: --model" in error, error
     for concurrency in (0, 65):
@@ -34,7 +34,7 @@ def options_out_of_their_limits() -> None:
 
 
 def programs_that_are_no_jepmon() -> None:
-    """Each way in which the first reply does not come, or is none, is told at once."""
+    """Each way in which the first reply does not come, or is invalid, raises at once."""
     words = "PROGRAM script --concurrency 64 --model register --budget 4096"
     for script, error in (
         ("exit 0", f"{words} has ended, with status 0"),
@@ -63,7 +63,7 @@ def the_program_ends() -> None:
 
 
 def the_program_wants_memory() -> None:
-    """It ends within the test, and what it says then is told, with what may be done."""
+    """It ends within the test, and the exception has its last words, with advice."""
     with another_program("ulimit -v 10000; exec $jepmon \"$@\"") as program:
         monitor = Monitor(program)
 
@@ -115,7 +115,7 @@ def a_line_longer_than_a_pipe() -> None:
 
 
 def an_exchange_that_is_broken_off() -> None:
-    """As by Ctrl-C while a reply is awaited: no later reply can be told from the one that may come yet."""
+    """As by Ctrl-C while a reply is awaited: a later reply can't be distinguished from the one that may come yet."""
     class Broken(io.StringIO):
         def write(self, text: str) -> int:
             raise KeyboardInterrupt

@@ -1,6 +1,6 @@
 #!/usr/bin/env python3
-"""Runs the program that measures, each of its tables for as short as it can be: every row must be there, with a number in each place
-that can have one, and the status be 0. What the numbers are is for docs/PERFORMANCE.md."""
+"""Runs the measuring program, each of its tables for as short as it can be. Every row must be there, with a number in each place that can
+have one, and the status must be 0. The numbers themselves are for docs/PERFORMANCE.md."""
 import os
 import pathlib
 import re

@@ -183,7 +183,7 @@ def backend(copy: pathlib.Path, call: str) -> "subprocess.CompletedProcess[str]"
 
 @contextlib.contextmanager
 def spoiled() -> Iterator[pathlib.Path]:
-    """A copy of its own, to be spoiled."""
+    """A copy of its own, to be damaged."""
     with tempfile.TemporaryDirectory() as folder:
         shutil.copytree(room() / "copy", pathlib.Path(folder, "copy"))
         yield pathlib.Path(folder, "copy")

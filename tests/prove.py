@@ -1,5 +1,5 @@
 #!/usr/bin/env python3
-"""Runs `rt ci` as the gate does, passes its output on, and says how much was proved anew, where the processor time went, and how much
+"""Runs `rt ci` as the gate does, passes its output on, and says how much was proved again, where the processor time went, and how much
 memory the checks took.
 
 It reads the time and the memory of the checks that `rt ci` starts once a second from /proc: those of proofs, and those of tests. The time
@@ -47,7 +47,7 @@ def descendants(root):
 
 
 def kind_of(number):
-    """What a check is for, and of which crate; None for what is no check."""
+    """The purpose of a check, and its crate; None for anything else."""
     try:
         words = pathlib.Path("/proc", str(number), "cmdline").read_bytes().decode(errors="replace").split("\0")
     except OSError:
@@ -115,7 +115,7 @@ def share(line):
 
 def settings():
     """How `rt ci` shares the processors. Left to itself it gives a check several processors if no other check is ready, but it plans with
-    twice the memory that a check takes. If that plan leaves one of two processors idle, it is told how many checks to run at once."""
+    twice the memory that a check takes. If that plan leaves one of two processors idle, an option limits how many checks run at once."""
     with open("/proc/meminfo", encoding="ascii") as meminfo:
         free = int(re.search(r"MemAvailable:\s+(\d+)", meminfo.read())[1]) * 1024
     processors = len(os.sched_getaffinity(0))

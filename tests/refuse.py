@@ -30,7 +30,7 @@ class CannotTrace(Exception):
 
 @dataclass
 class Run:
-    """How a run ended: its exit status, what it wrote to standard output, and how many allocations it asked for."""
+    """How a run ended: its exit status, its standard output, and the number of its allocations."""
     status: int
     written: bytes
     allocations: int
@@ -106,7 +106,7 @@ def set_breakpoints(process, places):
 
 
 class Growths:
-    """What is done at each stop of a thread: the growths are counted, and the nth is refused."""
+    """Runs at each stop of a thread: counts the growths, and refuses the nth."""
 
     def __init__(self, process, program, nth):
         base, table = base_of(process, program), symbols(program)

@@ -1,12 +1,12 @@
 #!/usr/bin/env python3
 """Refuses each allocation of the program in turn, and looks at what is left of the run.
 
-For each n from 1 to the last allocation a run is made again in which the nth one is refused (tests/refuse.py). `script` has then
-written a beginning of the replies and ended with status 3; `check`, `confirm` and `run` the line of want of memory, or nothing where
-even that line found none. Or the run was as with memory, where the program can do without.
+For each n from 1 to the last allocation a run is made again in which the nth one is refused (tests/refuse.py). `script` has then written a
+beginning of the replies and ended with status 3. `check`, `confirm` and `run` have written the line of out of memory, or nothing if even
+that line had none. Or the run was as with memory, where the program can do without.
 
-Calls that the program does not make one by one are made by the program `refusals`: it makes each call once more that wanted
-memory, says whether all was seen as before, and then goes on; so it writes what it writes with memory, and one line more.
+The program `refusals` makes the calls that the program does not make one by one. After a refused allocation it makes the call once more,
+compares the visible state, and goes on. So it writes the same as with memory, and one line more.
 
 No run ends otherwise, and where fewer were refused than is known of the case it has failed. The last line is how many passed and
 failed.
@@ -31,7 +31,7 @@ CHECKS = {"check_finds_a_stale_read": 50, "check_of_failed_and_crashed": 50, "co
 # Words of runs of one client, whose report the seed tells; more clients come in any order.
 RUNS = {"run --ops 4 --concurrency 1": 50, "run --ops 10 --concurrency 1 --faults on --model set": 50}
 
-# What the program of single calls is told to call.
+# The arguments of the program of single calls.
 CALLS_PROGRAM = pathlib.Path(os.environ.get("REFUSALS", cases.TOP / "crates/refusals/out/refusals"))
 CALLS = {"texts": 100, "events": 80, "models": 60, "budgets": 80, "rewinds": 80, "board": 80, "load": 50, "trial": 60}
 

@@ -79,7 +79,7 @@ class Tree:
         (self.top / "crates" / "low" / "src" / "lib.rt").write_text("//! low, changed\n")
 
     def run(self, *words: str, **environment: str) -> Tuple[str, str, int]:
-        """What a command writes, its standard error line by line without the clock, and its status."""
+        """The output of a command, its standard error line by line without the clock, and its status."""
         ran = subprocess.run([str(self.top / "jepmon"), *words], stdin=subprocess.DEVNULL, capture_output=True, text=True, timeout=LIMIT,
                              cwd=self.top, env={"PATH": str(self.bin), "TMPDIR": str(self.temporary), "HOME": str(self.top), **environment})
         return ran.stdout, ran.stderr, ran.returncode
@@ -97,7 +97,7 @@ def tree(is_released: bool = True, has_toolchain: bool = False) -> Iterator[Tree
 
 
 def came(got: Tuple[str, str, int], output: str, error: str, status: int) -> List[str]:
-    """What differs, where standard error must have these words, or be empty."""
+    """The differences, if standard error must have these words, or be empty."""
     faults = differing("standard output", got[0], output) + differing("status", got[2], status)
     fits = error in got[1] if error else not got[1]
     return faults + ([] if fits else differing("standard error", got[1], error))
@@ -124,7 +124,7 @@ def run_read_only() -> List[str]:
 
 
 def run_older() -> List[str]:
-    """Of changed sources the released program runs where there is no toolchain, and that is said; else they are built."""
+    """With changed sources the released program runs if there is no toolchain, and says so; else they are built."""
     with tree() as made:
         made.change_sources()
         faults = came(made.run("a"), "released a\n", "the released program runs, which is of older sources than those that are here", 0)
@@ -134,7 +134,7 @@ def run_older() -> List[str]:
 
 
 def run_damaged() -> List[str]:
-    """What is damaged is refused with the cure, and nothing runs or is built in its place."""
+    """A damaged program is refused with the cure, and nothing runs or is built instead."""
     damages: Dict[str, Tuple[str, str]] = {
         "dist/jepmon": ("#!/bin/sh\necho other\n", "dist/jepmon is damaged: its checksum is not the one in dist/jepmon.from"),
         "dist/jepmon.from": ("", "dist/jepmon is damaged: its checksum is not the one in dist/jepmon.from"),
@@ -155,7 +155,7 @@ def run_damaged() -> List[str]:
 
 
 def run_elsewhere() -> List[str]:
-    """Another architecture, and a machine on which it does not start, are told, with status 3."""
+    """The tool reports another architecture, and a machine on which it does not start, with status 3."""
     with tree() as made:
         (made.bin / "uname").unlink()
         (made.bin / "uname").write_text("#!/bin/sh\n[ $1 = -s ] && echo Linux || echo aarch64\n")
@@ -210,7 +210,7 @@ def run_kept_work() -> List[str]:
 
 
 def run_install() -> List[str]:
-    """Whichever program runs is installed, and a folder that can't be made is refused."""
+    """`install` copies the program that runs, and refuses a folder that it can't make."""
     with tree() as made:
         faults = came(made.run("install", "to/bin"), "", "installed to/bin/jepmon", 0)
         faults += differing("what was installed", (made.top / "to" / "bin" / "jepmon").read_text(), RELEASED)

@@ -43,7 +43,7 @@ def stream(case, name):
 
 
 def limited(kibibytes):
-    """What limits a program's memory, as it starts, to so much."""
+    """A limit on a program's memory, set as it starts."""
     return lambda: resource.setrlimit(resource.RLIMIT_AS, (kibibytes << 10, kibibytes << 10))
 
 
@@ -95,7 +95,7 @@ def run_case(case):
 
 
 def ask(process, line, limit=10.0):
-    """Sends a line, and waits for what comes back within the limit."""
+    """Sends a line, and waits for the reply within the limit."""
     process.stdin.write(line)
     process.stdin.flush()
     ready, _, _ = select.select([process.stdout], [], [], limit)
@@ -153,7 +153,7 @@ def on_terminals(words):
 
 
 def run_typed():
-    """Who has to type the events is told so; a check of a file tells nobody."""
+    """A user who types the events gets a hint; a check of a file gives none."""
     status, said, shown = on_terminals(["script"])
     faults = [] if (status, said) == (0, b"legal\n") and b"reading events from the terminal" in shown else [f"script: {(status, said, shown)!r}"]
     status, said, shown = on_terminals(["check", str(TOP / "examples" / "recorded-stale-read.edn")])
@@ -211,7 +211,7 @@ def run_script_without_memory():
 
 
 def run_full_check():
-    """What is not written is said, whatever the verdict: refused 21, status 3."""
+    """A failed write is reported, whatever the verdict: refused 21, status 3."""
     faults = []
     for words in (["check", str(TOP / "examples" / "recorded-stale-read.edn")], ["check", "/dev/null"], ["run"], ["--help"], ["--version"],
                   ["script", "--help"]):
@@ -236,7 +236,7 @@ def many_keys():
 
 
 def run_workers():
-    """What a check prints is the same by any number of workers."""
+    """The report of a check is the same by any number of workers."""
     stands = [f"key {key} model register budget 4096 events 20 status {'dead 193' if key == 3 else 'alive'}\n" for key in range(10)]
     want = ("".join(stands) + "illegal key 3 index 193\n").encode()
     faults = []
@@ -250,7 +250,7 @@ def run_workers():
 
 
 def run_by_workers():
-    """A check has so many threads as it has workers."""
+    """A check has as many threads as it has workers."""
     faults = []
     with tempfile.TemporaryDirectory() as folder:
         history = pathlib.Path(folder) / "history.edn"
@@ -284,8 +284,8 @@ def run_slow_check(terminal, pause):
 
 
 def run_progress():
-    """A check of more than a second says on a terminal how far it has come, from then on: as it reads, and as it judges. A shorter
-    one says nothing, nor does one whose standard error is no terminal. Standard output has the report alone."""
+    """A check of more than a second says on a terminal how far it has come, from then on: as it reads, and as it judges. A shorter one says
+    nothing, nor does one whose standard error is not a terminal. Standard output has the report alone."""
     report = b"key 7 model register budget 4096 events 6 status dead 5\nillegal key 7 index 5\n"
     faults = []
     shown = b"\r511 bytes were read\rjudging 6 events by 1 worker\r\n"
@@ -321,8 +321,8 @@ def run_stopped(terminal, pause, tries=20):
 
 
 def run_run_progress():
-    """A run of more than a second says on a terminal how many events it has and how they stand, from then on; where standard
-    error is no terminal it says nothing."""
+    """A run of more than a second says on a terminal how many events it has and the verdict so far, from then on. If standard error is not
+    a terminal it says nothing."""
     seen, last = run_stopped(True, 1.2)
     counts = [int(count) for count in re.findall(rb"\r(\d+) events, legal so far    ", seen)]
     faults = []
@@ -365,7 +365,7 @@ def run_broken_reader():
 
 
 def by_bytes(command, given):
-    """Runs it with its input one byte a read: a pipe made so hands over one write at a time. The status, what was written."""
+    """Runs it with its input one byte a read: a pipe made so hands over one write at a time. Gives the status and the output."""
     out, into = os.pipe2(os.O_DIRECT)
     with tempfile.TemporaryFile() as written:
         process = subprocess.Popen(command, stdin=out, stdout=written, stderr=subprocess.DEVNULL, cwd=TOP)
@@ -516,9 +516,9 @@ def run_under_faults():
 
 
 def run_is_struck():
-    """With a budget of 2 a run of one client on a queue in order is legal, as one operation is open at a time, and unknown once a
-    reply was lost: so the fault of 60 struck. How many operations that takes the threads decide, and on a busy machine all may be
-    over before: so one of twenty runs must be struck, and none without faults."""
+    """With a budget of 2 a run of one client on a queue in order is legal, as one operation is open at a time. After a lost reply it is
+    unknown: so the fault of 60 struck. How many operations that takes the threads decide, and on a busy machine all may be over before: so
+    one of twenty runs must be struck, and none without faults."""
     words = "--replicas 1 --concurrency 1 --budget 2 --ops 3000 --model fifo-queue --faults"
     faults, struck = [], False
     for has_faults in ("off", *["on"] * 20):
@@ -533,8 +533,8 @@ def run_is_struck():
 
 
 def told_of_run(lines, kind, events):
-    """What is wrong with the lines of a run that drew keys of this kind: each line but the last is of a key, each once, and
-    together they have so many events."""
+    """The faults in the lines of a run that drew keys of this kind: each line but the last is of a key, each once, and together they have
+    this number of events."""
     rows = [ROW.fullmatch(line) for line in lines[:-1]]
     if None in rows:
         return [f"a line is none of a key: {lines!r}"]
@@ -603,8 +603,8 @@ def run_of_one_client_follows_the_seed():
 
 
 def run_sloppy_is_caught():
-    """Of the seeds 0 to 99 some sloppy runs under faults show what is not linearizable. How many, and which, follows from the
-    order in which the threads ran: one alone would be legal."""
+    """Some sloppy runs under faults, among the seeds 0 to 99, have histories that are not linearizable. How many, and which, follows from
+    the order in which the threads ran: one alone would be legal."""
     words = "--mode sloppy --faults on --model fifo-queue --keys 3 --ops 5000 --concurrency 3"
     ended = [run_of(f"{words} --seed {seed}") for seed in range(100)]
     odd = [got for got in ended if got[1] not in (0, 1) or got[2]]
@@ -622,7 +622,7 @@ def run_without_memory():
 
 
 def run_no_text():
-    """A word that is no UTF-8 is a usage fault: status 3, and nothing on standard output."""
+    """A word that is not UTF-8 is a usage fault: status 3, and nothing on standard output."""
     ran = subprocess.run([str(PROGRAM), b"script", b"\xff"], stdin=subprocess.DEVNULL, stdout=subprocess.PIPE,
                          stderr=subprocess.PIPE, timeout=60)
     got = (ran.returncode, ran.stdout, ran.stderr.split(b"\n")[0])

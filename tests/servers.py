@@ -1,7 +1,7 @@
 #!/usr/bin/env python3
-"""Runs jepmon-test on real servers: each under faults for 20 seconds, which must be legal; each under strikes on its clocks, where they can
-be set, and under those of its own; each planted fault until it is found; and each looser durability until a loss of power shows it. It
-ends with 'N passed, M failed', or 'N passed, M failed, K skipped' where a server is not installed (tests/setup installs them). With
+"""Runs jepmon-test on real servers. Each runs under faults for 20 seconds, which must be legal; each under strikes on its clocks, if they
+can be set, and under its own strikes. Each planted fault runs until it is found, and each looser durability until a loss of power shows it.
+It ends with 'N passed, M failed', or 'N passed, M failed, K skipped' where a server is not installed (tests/setup installs them). With
 words, it runs the tests of these servers alone, as redis; a word like redis/lease runs one of them.
 """
 from __future__ import annotations
@@ -68,7 +68,7 @@ def tests(server: str) -> List[Test]:
 
 
 def seconds(server: str, plant: str) -> int:
-    """What is lost is found by counting, at the end: such a run ends by itself."""
+    """Counting at the end finds losses: such a run ends by itself."""
     return 2 * SECONDS if (server, plant) in COUNTED or server == "beanstalkd" else UNTIL_FOUND
 
 
@@ -86,8 +86,8 @@ def missing(server: str) -> Optional[str]:
 
 
 def passes(test: Test) -> bool:
-    """Whether it is as it should be. What came to no verdict, as where a server did not start in time, and a fault that was not met are
-    tried once more, and that is said; a verdict that is wrong is not."""
+    """Whether it is as it should be. A run without a verdict, as of a server that did not start in time, and a fault that was not met are
+    tried once more, and the output says so. A wrong verdict is not."""
     good, status, text = run(test)
     if status not in test.statuses and status != 1:
         print(f"{test.name}: once more, after\n{text}", flush=True)

@@ -1,4 +1,4 @@
-"""Shards that are judged elsewhere: by GNU parallel, and on a Dask cluster, of which something is killed."""
+"""Shards that are judged elsewhere: by GNU parallel, and on a Dask cluster whose parts are killed."""
 import contextlib
 import json
 import os
@@ -105,7 +105,7 @@ def stuck(folder: pathlib.Path) -> str:
 
 
 def run_a_worker_killed() -> List[str]:
-    """Two workers, of which one is killed in the middle: the other does its tasks, and the report is the same."""
+    """Two workers; one is killed in the middle, the other does its tasks, and the report is the same."""
     with room() as folder:
         path = several(folder / "history.edn")
         status, output, error = run_on_cluster(folder, path, lambda folder: [stuck(folder), str(PROGRAM)])

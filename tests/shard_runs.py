@@ -1,4 +1,4 @@
-"""What the tests of shards share: histories, the tools as users run them, and programs in the place of jepmon."""
+"""The common parts of the tests of shards: histories, the tools as users run them, and programs instead of jepmon."""
 import contextlib
 import os
 import pathlib

@@ -6,7 +6,7 @@ import time
 
 
 def crowded_keys(keys: int, rounds: int) -> bytes:
-    """Writes of six clients at once to each of so many keys, so many times."""
+    """Writes of six clients at once to each key, several times."""
     lines = []
     for key in range(keys):
         for turn in range(rounds):

@@ -28,7 +28,7 @@ KEYS = 1000  # numbers for the queues of each pair
 
 
 class Queue:
-    """The queue under test. It loses each message whose number is the last of so many, or none where that is 0."""
+    """The queue under test. It loses each message whose number is the last of `lose`, or none if that is 0."""
 
     def __init__(self, lose: int) -> None:
         self.lock = threading.Lock()
@@ -47,7 +47,7 @@ class Queue:
 
 
 def receive(monitor: Monitor, queue: Queue, key: int, received: Set[int]) -> bool:
-    """Receives a message, where there is one. No message is a :fail, of which nothing is judged."""
+    """Receives a message, where there is one. Without a message it is a :fail, and nothing is judged."""
     with monitor.dequeue(key) as op:
         op.value = queue.receive(key)
     if op.outcome == "ok":
@@ -74,7 +74,7 @@ def client(monitor: Monitor, queue: Queue, keys: Keys, number: int, sent: Set[in
 
 def words() -> argparse.Namespace:
     parser = argparse.ArgumentParser(description=__doc__, formatter_class=argparse.RawDescriptionHelpFormatter)
-    parser.add_argument("--lose", type=int, default=50, help="one message of so many; 0 for none")
+    parser.add_argument("--lose", type=int, default=50, help="one message of this number; 0 for none")
     parser.add_argument("--jepmon", metavar="PROGRAM", help="its path, where it is not that of this repository")
     return parser.parse_args()
 
@@ -94,7 +94,7 @@ def main() -> int:
     except JepmonError as found:
         print(found)
         return found.status
-    # what timed out may have been put in, or taken out, so that so many are no loss
+    # timed-out messages may have been put in, or taken out, so these are not losses
     timed_out = sum(monitor.timeouts(key) for key in used)
     lost = sent - received
     print(f"sent {len(sent)}, received {len(received)}, timed out {timed_out}: legal, and {len(lost)} messages are lost")

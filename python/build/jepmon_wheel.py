@@ -48,7 +48,7 @@ def program() -> bytes:
 
 
 def modules() -> Files:
-    """What lies in python/jepmon, pages too."""
+    """The files in python/jepmon, pages too."""
     for file in sorted((TOP / "python" / "jepmon").rglob("*")):
         if file.is_file() and "__pycache__" not in file.parts:
             yield file.relative_to(TOP / "python").as_posix(), file.read_bytes(), 0o644
@@ -124,7 +124,7 @@ def build_editable(wheel_directory: str, config_settings: Optional[Any] = None, 
 
 
 def build_sdist(sdist_directory: str, config_settings: Optional[Any] = None) -> str:
-    """What a wheel is built from, the program with it."""
+    """The files of a wheel, including the program."""
     program()
     name = f"{name_and_version()}.tar.gz"
     with tarfile.open(pathlib.Path(sdist_directory, name), "w:gz", format=tarfile.PAX_FORMAT) as archive:

@@ -1,6 +1,6 @@
 """jepmon: judges histories of clients of a database, a lock, a queue or a set, and says why one is not linearizable.
 
-The verdict is always that of the program `jepmon`, which is proved. What this package adds around it (other forms of histories,
+The verdict is always that of the program `jepmon`, which is proved. Everything that this package adds around it (other forms of histories,
 the live Monitor, causes in words, pages) is tested, and not proved.
 """
 import os

@@ -3,10 +3,10 @@
     {tool} history.jsonl > history.edn
     jepmon check history.edn --concurrency 10 --model register
 
-A row is an event (process, type, f, key, value), or an operation with the times of its call and return, from one clock. Standard
-error says how the operations ended, what keys and values that are no integers are numbered as, and the options of the check.
-What can't be turned is refused with its line, with status 3; then the output is one line that is no event. `jepmon-judge` takes
-such a history as it is.
+A row is an event (process, type, f, key, value), or an operation with the times of its call and return, from one clock. Standard error says
+how the operations ended, which numbers stand for keys and values that are not integers, and the options of the check. The tool refuses a
+history that can't be turned with its line, with status 3; then the output is one line that is not an event. `jepmon-judge` takes such a
+history as it is.
 """
 from __future__ import annotations
 
@@ -85,7 +85,7 @@ def _found(given: argparse.Namespace) -> Recorded:
 
 
 def _told(found: Recorded) -> Iterator[str]:
-    """What standard error says of what was turned."""
+    """The notes on standard error about the turned history."""
     yield f"{found.form}: {found.facts.events} events"
     yield from found.notes
     yield from found.account.told()

@@ -3,9 +3,9 @@
     part = smallest(events, report, options)
     part.text    # a history, which `jepmon check` with the key's model and budget calls illegal at its last event
 
-Only what can't make a legal history illegal is taken out (docs/guide/SHRINKING.md says what that is, and why), and the program judges
-each try. So the part is illegal by itself, and what is illegal in it is so in the whole history. It is smallest in that nothing
-more of it may go out; there may be smaller ones.
+The tool removes only operations whose absence can't make a legal history illegal (docs/guide/SHRINKING.md has the rules and reasons), and
+the program judges each try. So the part is illegal by itself, and what is illegal in it is so in the whole history. It is smallest in that
+no more of it may be removed; there may be smaller ones.
 """
 from __future__ import annotations
 
@@ -30,15 +30,15 @@ class Part(NamedTuple):
     operations: int  # how many of them are left
     values: FrozenSet[int]  # of a set: what was taken out of each answer
     checks: int  # how often the program was asked
-    finished: bool  # False: the limit of work was met, and more might go out
+    finished: bool  # False: the limit of work was met, and more might be removed
 
 
 def smallest(events: Sequence[Event], report: Report, options: Options, program: Optional[str] = None, effort: Optional[Effort] = None,
              hints: Collection[int] = ()) -> Optional[Part]:
     """The smallest illegal part that is found with so much effort. The events are those of the whole history, and the report is the
-    program's on them, with these options. Hints are indices of events that may be to blame: whether their operations are illegal alone is
-    tried first. None where the verdict is not illegal, or the effort did not suffice to take anything out. A ProgramError comes where the
-    program can't be asked."""
+    program's on them, with these options. Hints are indices of events that may be the cause: the tool first tries whether their operations
+    are illegal alone. None where the verdict is not illegal, or the effort did not suffice to take anything out. A ProgramError comes where
+    the program can't be asked."""
     line = next((line for line in report.keys if report.word == "illegal" and line.key == report.key), None)
     if line is None or line.index is None:
         return None
@@ -55,7 +55,7 @@ def smallest(events: Sequence[Event], report: Report, options: Options, program:
 
 
 class Left(NamedTuple):
-    """What is left of a history."""
+    """The rest of a history."""
 
     operations: List[Operation]
     values: FrozenSet[int]  # that went out of answers
@@ -70,7 +70,7 @@ class Search:
         self.is_spent = False  # whether there was no effort left for a check
 
     def run(self, whole: List[Operation]) -> Optional[Left]:
-        """What is left of the operations when nothing more may go out, or no effort is left."""
+        """The rest of the operations when no more may be removed, or no effort is left."""
         some = self.without_idle(whole)
         left = self.hinted_alone(some) or next((Left(each, frozenset()) for each in (some, whole) if self.is_illegal(each)), None)
         if left is None:
@@ -84,7 +84,7 @@ class Search:
         return left
 
     def hinted_alone(self, whole: List[Operation]) -> Optional[Left]:
-        """What is left where all goes out that may, but for the hints: None where that is not illegal, or there are none."""
+        """The rest if everything except the hints is removed: None if that is not illegal, or there are no hints."""
         if not self.hints:
             return None
         for units in ways(self.options.model, whole):
@@ -96,28 +96,28 @@ class Search:
         return None
 
     def without_idle(self, whole: List[Operation]) -> List[Operation]:
-        """Without what decides nothing: what failed, and reads that have not answered; but for what is to be seen."""
+        """Removes operations that decide nothing (failed ones, and reads without an answer), except for those that readers must see."""
         staying = self.staying(whole)
         return [operation for place, operation in enumerate(whole) if place in staying or operation.outcome == "ok"
                 or operation.outcome in ("info", "open") and operation.invocation.name != "read"]
 
     def staying(self, whole: List[Operation]) -> Set[int]:
-        """The places of what does not go out: the fatal operation, what must be seen beside it, and hints that failed."""
+        """The places that stay: the fatal operation, the operations that readers must see with it, and hints that failed."""
         fatal = next(place for place, operation in enumerate(whole)
                      if operation.completion is not None and operation.completion.index == self.fatal)
         failed = [place for place, operation in enumerate(whole) if operation.outcome == "fail" and self.is_hinted(operation)]
         return {*kept(self.options.model, whole, fatal), *failed}
 
     def free(self, whole: List[Operation], units: List[Unit]) -> List[int]:
-        """The units that may go out, in the order in which they are tried: values of sets first, since a set of few is judged fast,
-        and else the oldest."""
+        """The units that may be removed, in the order of the tries: values of sets first, since a set of few is judged fast, and else the
+        oldest."""
         staying = self.staying(whole)
         blocked = dragging(units, [number for number, unit in enumerate(units) if staying & set(unit.operations)])
         return sorted((number for number in range(len(units)) if number not in blocked),
                       key=lambda number: (not units[number].values, max(units[number].operations, default=-1)))
 
     def round(self, whole: List[Operation], units: List[Unit]) -> Left:
-        """Takes out as many units as may go out: tries all, then halves, and ever smaller pieces, down to one by one."""
+        """Removes as many units as it may: tries all, then halves, and ever smaller pieces, down to one by one."""
         free = self.free(whole, units)
         best, out = Left(whole, frozenset()), set()  # type: Left, Set[int]
         size = len(free)

@@ -52,7 +52,7 @@ class Wrong(NamedTuple):
         return "SETTLED" if self.is_settled else "CLOCKS" if "skew" in self.case.ways else "NOTED"
 
     def signature(self) -> str:
-        """The class of the fault, by which cases are counted."""
+        """The class of the fault, for the counts."""
         ways = " ".join(f"{name}={self.case.ways[name]}" for name in self.case.variations())
         return f"{self.word} {self.case.right}->{self.judged.word} {self.case.form}: {ways}"
 
@@ -112,8 +112,8 @@ class Examiner:
         return self.room.judged(case.printed(), "--no-cause")
 
     def wrong(self, case: Case, judged: Judged) -> Optional[Wrong]:
-        """What is wrong with the verdict; None if it is right, or if there is none. A wrong one is asked for again as a user would, with
-        all that is said beside it."""
+        """The fault in the verdict; None if it is right, or if there is none. A wrong one is asked for again as a user would, with all that
+        is said beside it."""
         if judged.word not in ("legal", "illegal") or judged.word == case.right or self.is_within_errors(case):
             return None
         again = self.room.judged(case.printed())
@@ -129,8 +129,8 @@ class Examiner:
         return self.judged(case._replace(ways={**case.ways, "said": 1})).word == case.right
 
     def is_within_errors(self, case: Case) -> bool:
-        """Whether an illegal history may have been legal by the times that were printed: the errors of clocks that were stated, or
-        times so coarse that a call and a return have the same one."""
+        """Whether an illegal history may have been legal by the printed times: by the stated errors of clocks, or by times so coarse that a
+        call and a return have the same one."""
         ways = settled(case.ways)
         if case.right == "legal" or not ("error" in ways or ways.get("times") == "coarse"):
             return False

@@ -173,7 +173,7 @@ def missing_fields(op: Op, name: str, ways: Variations) -> Dict[str, Any]:
 
 
 def options_of(ways: Variations) -> List[str]:
-    """What a user says of values, if the variation has it said: what a missing key answers, and that a number and its text are one."""
+    """The user's words about values, if the variation has them: the answer of a missing key, and that a number and its text are one."""
     words: List[str] = []
     absent = "" if ways.get("gozero") else {"empty": "", "zero": "0", "None": "None"}.get(ways.get("missing", ""))
     if absent is not None and not (absent == "0" and ways.get("values") == "zero"):

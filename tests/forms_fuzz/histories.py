@@ -1,5 +1,5 @@
 """Random histories of an atomic object. Each operation takes place at a random moment between its call and its return, so the history is
-legal; `changed` gives the same history with one answer changed, which may be illegal (truth.py asks the proved program)."""
+legal. `changed` gives the same history with one answer changed, which may be illegal (truth.py asks the proved program)."""
 from __future__ import annotations
 
 import random

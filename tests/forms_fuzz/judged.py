@@ -45,7 +45,7 @@ class Room:
         self._folder.cleanup()
 
     def judged(self, given: Printed, *more: str) -> Judged:
-        """What the tool says of these files with these words."""
+        """The tool's output for these files with these words."""
         for name, raw in given.files.items():
             pathlib.Path(name).write_bytes(raw)
         out, error = io.StringIO(), io.StringIO()

@@ -69,7 +69,7 @@ FORMS = OFTEN + [form for form in PRINTERS if form not in OFTEN]
 
 
 def drawn(chance: random.Random, form: str, nokeys: bool) -> Variations:
-    """One to four variations of the form; `seed` is of what the printer draws."""
+    """One to four variations of the form; `seed` determines the printer's choices."""
     ways: Variations = {"form": form, "seed": chance.randrange(1 << 30)}
     for _ in range(chance.choice((1, 1, 2, 2, 3, 4))):
         name = chance.choice(USED[form])

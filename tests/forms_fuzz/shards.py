@@ -16,7 +16,7 @@ class Pair(NamedTuple):
 
     @property
     def word(self) -> str:
-        """What came of both: "same", "refused by one", "another verdict", or "another report" where keys or faults are told otherwise."""
+        """The comparison: "same", "refused by one", "another verdict", or "another report" if the reports differ in keys or faults."""
         words = {self.plain.word, self.shards.word}
         if len(words) == 1:
             return "same" if self.plain.output == self.shards.output else "another report"

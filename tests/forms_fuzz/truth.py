@@ -1,4 +1,4 @@
-"""The verdict that is right: what the proved program says of a history in its own form, with the largest budget. No translator takes part."""
+"""The right verdict: that of the proved program for a history in its own form, with the largest budget. No translator takes part."""
 from __future__ import annotations
 
 import random

@@ -1,4 +1,4 @@
-"""What is hard to read in a sentence, by the rules of docs/STYLE.md."""
+"""The patterns of hard sentences, by the rules of docs/STYLE.md."""
 import pathlib
 import re
 from typing import Iterator, NamedTuple
@@ -60,7 +60,7 @@ def of_start(one: Sentence, words: int) -> Iterator[str]:
 
 
 def of_words(one: Sentence, words: int) -> Iterator[Warned]:
-    """What is wrong within the sentence."""
+    """The faults within the sentence."""
     def warned(found: str, advice: str) -> Warned:
         return Warned(one.path, one.line, found, advice)
 

@@ -45,7 +45,7 @@ def plain(text: str) -> str:
 
 
 class Paragraphs:
-    """The paragraphs of Markdown-like lines, taken one line after the other."""
+    """The paragraphs of Markdown-like lines, taken one line after the other. An entry of a list of names, `NAME  TEXT`, is an item."""
 
     def __init__(self) -> None:
         self.found: List[Paragraph] = []
@@ -65,7 +65,7 @@ class Paragraphs:
 
     def take(self, number: int, line: str) -> None:
         bare = line.strip()
-        item = re.match(r"(?:[-*+]|\d+\.) +(.*)", bare)
+        item = re.match(r"(?:[-*+]|\d+\.) +(.*)", bare) or re.match(r"[\w./<>-]+(?: [A-Z]+)? {2,}(\S.*)", bare)
         if re.match(r"\s*(```|~~~)", line):
             self.end()
             self.is_fenced = not self.is_fenced

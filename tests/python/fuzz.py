@@ -24,7 +24,7 @@ def batches(model: str, seed: int, ways: List[Way], each: int = EACH) -> Iterato
 
 
 def checked(histories: Dict[int, List[Event]], options: program.Options) -> Dict[int, program.KeyLine]:
-    """What the program says of each."""
+    """The program's verdict on each."""
     return lines_of(text_of([event for events in histories.values() for event in events]), options)
 
 

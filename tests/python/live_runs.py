@@ -17,7 +17,7 @@ Begin = Callable[..., Any]  # an operation, of a name, the number of an object, 
 
 
 class Case(NamedTuple):
-    """What is drawn for one run."""
+    """The choices for one run."""
 
     seed: int
     threads: int
@@ -52,7 +52,7 @@ class Objects:
 
 
 def name_of(op: Any) -> object:
-    """What the store knows the object by: LongMonitor gives a name, Monitor has a key."""
+    """The store's name of the object: LongMonitor gives a name, Monitor has a key."""
     return getattr(op, "name", None) or op.key
 
 
@@ -129,7 +129,7 @@ def run_long(case: Case, monitor: LongMonitor) -> None:
         monitor.run(clients(case, lambda name, place, *values: getattr(handles[place], name)(*values)), case.threads)
 
 
-# --- What a run says, beside what is said when it is judged again ---
+# --- The verdict of a run, and of its history when judged again ---
 
 
 def last_line(words: List[str], text: str = "") -> str:
@@ -138,7 +138,7 @@ def last_line(words: List[str], text: str = "") -> str:
 
 
 def fault_of(case: Case, is_dropped: bool) -> Optional[str]:
-    """What differs, if anything, of a Monitor."""
+    """The differences, if any, for a Monitor."""
     log = io.StringIO()
     with tempfile.TemporaryDirectory() as out:
         monitor = Monitor(model=case.model, budget=case.budget, unknown="drop" if is_dropped else "raise", expected=(TimeoutError,),

@@ -13,7 +13,7 @@ INVENTED = 10 ** 9  # values from here on nobody writes
 
 
 class Live(NamedTuple):
-    """What came of one run."""
+    """The result of one run."""
 
     right: str  # "legal" or "illegal"
     got: str  # a verdict; "dropped" or the name of an exception where some of the run was not judged

@@ -67,8 +67,9 @@ class Store:
 
 def made(model: str, clients: int, count: int, seed: int = 1, wrong_from: Optional[int] = None, timeouts: float = 0.0,
          values: int = 0, key: int = 7, pause: float = 0.3, times: bool = False) -> str:
-    """A history of `count` operations of one key. From operation `wrong_from` on the object is wrong. So many of the changes
-    time out. Values are 1, 2, ..; or drawn from so many. An idle client waits with the probability `pause`."""
+    """A history of `count` operations of one key. From operation `wrong_from` on the object is wrong. `timeouts` is the part of the
+    changes that time out.
+    Values are 1, 2, ..; or drawn from `values` of them. An idle client waits with the probability `pause`."""
     draw = random.Random(seed)
     store = Store(model)
     process = list(range(clients))

@@ -1,4 +1,4 @@
-"""What pages are tried with: for each a name and what the page is given. Made by seeds, so always the same."""
+"""Pages for the tests: for each a name and its data. Made by seeds, so always the same."""
 from __future__ import annotations
 
 import functools
@@ -13,7 +13,7 @@ HOSTILE = "</script><b onclick=alert(1)>&amp;\u2028<!-- \u0000\u001b[31m \ud83d\
 
 
 def given(text: str, model: str, concurrency: int, budget: int = 4096, **more: Any) -> page.PageInput:
-    """What a page is given of the history's first key, with the verdict that the walk comes to."""
+    """The data of a page of the history's first key, with the verdict that the walk comes to."""
     events = history.read_history(text)
     key = events[0].key
     mine = history.of_key(events, key)
@@ -27,7 +27,7 @@ def given(text: str, model: str, concurrency: int, budget: int = 4096, **more: A
 
 
 def smaller(of: page.PageInput) -> List[int]:
-    """The indices of the events that are left where operations go out one by one as long as the walk ends at the same event."""
+    """The indices of the events that are left if operations are removed one by one as long as the walk ends at the same event."""
     at = of.walked.at if of.walked is not None else None
     left = [each for each in history.operations([event for event in of.events if event.index <= (at or 0)], of.concurrency)]
     for each in reversed(list(left)):
@@ -98,7 +98,7 @@ def legal() -> page.PageInput:
 
 
 def failed() -> page.PageInput:
-    """The fatal event is a :fail: what a read has answered was recorded as failed."""
+    """The fatal event is a :fail: the write of a value that a read answered was recorded as failed."""
     return given("""{:type :invoke, :process 0, :f :write, :value [7 2]}
 {:type :invoke, :process 1, :f :read, :value [7 nil]}
 {:type :ok, :process 1, :f :read, :value [7 2]}
@@ -117,7 +117,7 @@ def hostile() -> page.PageInput:
 
 
 def many_clients() -> page.PageInput:
-    """64 clients, of which few are busy at once, and more timed out than a lane has rows for."""
+    """64 clients: few are busy at once, and more timed out than a lane has rows for."""
     quiet = given(made("cas-register", 64, 400, seed=12, timeouts=0.0, values=3, pause=0.97), "cas-register", 64)
     return quiet
 
@@ -143,7 +143,7 @@ def disagrees() -> page.PageInput:
 
 
 def big(count: int = 5000) -> page.PageInput:
-    """As many operations as are asked for, of which the last fifth is behind the fatal event."""
+    """A number of operations; the last fifth is behind the fatal event."""
     return given(made("register", 3, count, seed=10, wrong_from=count * 4 // 5), "register", 3)
 
 

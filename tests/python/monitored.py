@@ -1,4 +1,4 @@
-"""What the tests of the Monitor share: the program, stores in this process, and a folder for runs."""
+"""The common parts of the Monitor's tests: the program, stores in this process, and a folder for runs."""
 from __future__ import annotations
 
 import os
@@ -26,12 +26,12 @@ class Monitored(unittest.TestCase):
         self.room = pathlib.Path(room.name)
 
     def verdict_of(self, history: pathlib.Path, options: Options = Options(64)) -> str:
-        """What `jepmon check` says of a history."""
+        """The output of `jepmon check` for a history."""
         ran = subprocess.run([self.program, "check", str(history), *options.words()], stdout=subprocess.PIPE)
         return ran.stdout.decode().splitlines()[-1]
 
     def verdict_by(self, folder: pathlib.Path) -> str:
-        """What the script says that stands in the folder of a run."""
+        """The output of the script in the folder of a run."""
         ran = subprocess.run([folder / "judge-again"], stdout=subprocess.PIPE, env={**os.environ, "JEPMON": self.program})
         return ran.stdout.decode().splitlines()[-1]
 

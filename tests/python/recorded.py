@@ -1,5 +1,5 @@
-"""The repository's own histories, with what the program replied to each: those of tests/cases, tests/explain and
-tests/from-jepsen, and the examples."""
+"""The repository's own histories, with the program's reply to each: those of tests/cases, tests/explain and tests/from-jepsen, and the
+examples."""
 from __future__ import annotations
 
 import re
@@ -84,8 +84,8 @@ COMMAND = re.compile(r"\[:(rewind|model|budget|verdict)(?: (\d+))?(?: :?([\w-]+)
 
 
 def scripts() -> Iterator[Judged]:
-    """After replies that a case of `jepmon script` expects, the events that were taken so far: after each reply of a short case, and
-    after the last one, and those before a command that changes what came before."""
+    """The accepted events after replies that a case of `jepmon script` expects. They are taken after each reply of a short case, after the
+    last one, and before a command that changes earlier events."""
     for case in sorted((TOP / "tests" / "cases").iterdir()):
         words = (case / "args").read_text().split("\n") if (case / "args").exists() else []
         given = printed(f"tests/cases/{case.name}", "stdin")

@@ -1,5 +1,5 @@
-"""Random histories within the limits of one check, for the tests of jepmon.shards: of a store that errs now and then, with crashes and
-fails, spelled in many ways, and some with something that is refused."""
+"""Random histories within the limits of one check, for the tests of jepmon.shards. They are of a store that errs now and then, with crashes
+and fails, spelled in many ways, and some with a refused element."""
 from __future__ import annotations
 
 import random
@@ -57,7 +57,7 @@ class Store:
 
 
 def events_of(model: str, chance: random.Random, threads: int, count: int, keys: List[int], values: int) -> List[Told]:
-    """What the clients of a store tell."""
+    """The events of a store's clients."""
     store, told = Store(model, chance), []
     processes = list(range(threads))
     running: Dict[int, Tuple[str, int, Part]] = {}

@@ -1,5 +1,5 @@
-"""Spellings of one event: its keys in any order, further keys with values of every kind, and any gaps between; and spellings that are no
-text. What the program says of an event must be what it says of the event spelled plainly."""
+"""Spellings of one event: its keys in any order, further keys with values of every kind, and any gaps between; and spellings that are not a
+text. The program must answer each as it answers the plain spelling."""
 from __future__ import annotations
 
 import random
@@ -61,7 +61,7 @@ def other(event: Told, place: int, chance: random.Random) -> str:
 
 
 def no_text(event: Told, place: int, chance: random.Random) -> str:
-    """A line that is no text, much like the event's: of no front of it anything is a text but a gap, which has no byte."""
+    """A line that is not a text, much like the event's. Its only prefixes that are texts are gaps, which have no byte."""
     pairs = pairs_of(event, place, chance)
     pairs.append(f":bad {chance.choice(BAD)}" if chance.random() < 0.5 else chance.choice(pairs))
     chance.shuffle(pairs)

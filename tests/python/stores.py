@@ -22,7 +22,7 @@ class History(NamedTuple):
 
 
 class Store:
-    """A store: what a call does when it takes effect, at a moment of simulated time."""
+    """A store: the effect of a call, at a moment of simulated time."""
 
     def __init__(self, draw: random.Random) -> None:
         self.draw = draw
@@ -40,8 +40,8 @@ class Simulation:
         self.process = list(range(clients))
 
     def run(self, calls: Callable[[int, int], Optional[Call]], until: int) -> str:
-        """Runs until there are so many events. `calls` says what a client calls next, by its number and how many it has made; None
-        ends the client."""
+        """Runs until there are this many events. `calls` says what a client calls next, by its number and how many it has made; None ends
+        the client."""
         turn = itertools.count()
         queue: List[Tuple[float, int, int, str, Any]] = [(self.draw.random(), next(turn), client, "think", None)
                                                          for client in range(self.clients)]
@@ -116,7 +116,7 @@ def lost_write(seed: int = 1, events: int = 300) -> History:
 
 
 class Cas(Store):
-    """A register with cas, which compares with what a cache held a while ago."""
+    """A register with cas, which compares with an old value of a cache."""
 
     def __init__(self, draw: random.Random, lag: float) -> None:
         super().__init__(draw)
@@ -240,7 +240,7 @@ def lost_member(seed: int = 1, events: int = 200) -> History:
 
 
 def many_timeouts(seed: int = 1, events: int = 300) -> History:
-    """A right store, of which more and more writes time out."""
+    """A right store; more and more of its writes time out."""
     draw = random.Random(seed)
     return History(Simulation(Replicated(draw, 0.0, 0.0), 5, 0, draw, 0.12).run(numbers(draw, 0.4), events), "register", 5)
 

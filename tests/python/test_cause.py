@@ -1,4 +1,4 @@
-"""Causes in words: what they say of wrong histories whose fault is known, and that what they say is so."""
+"""Causes in words: their sentences about wrong histories whose fault is known, and that these sentences are true."""
 from __future__ import annotations
 
 import random
@@ -124,7 +124,7 @@ In the next test let fewer clients use one key at once.""")
         self.assertIsNone(found.part)
 
     def test_an_acquire_that_failed(self) -> None:
-        """A lock that nobody had acquired but one who was told that it failed."""
+        """A lock that nobody had acquired except a client whose acquire failed."""
         text = (TOP / "tests" / "cases" / "failed_acquire_is_not_released" / "stdin").read_text()
         found = explained(text, program.Options(2, "mutex"))
         self.assertEqual(found.sentences[0], "Nobody had acquired it before: client 0's acquire had failed (event 1).")
@@ -136,7 +136,7 @@ In the next test let fewer clients use one key at once.""")
         self.assertEqual(found.headline[:47], "At event 1 more than 1 outcome was possible for")
 
     def test_the_greatest_budget(self) -> None:
-        """What a history comes to with it: the program is asked."""
+        """The program's result for the history with this answer."""
         text = (TOP / "tests" / "cases" / "check_of_a_blown_and_a_dead_key" / "history.edn").read_text()
         options = program.Options(2, "fifo-queue", 4)
         blown = "".join(text.splitlines(True)[:3])
@@ -155,7 +155,7 @@ In the next test let fewer clients use one key at once.""")
             "    event 3, line 5: {:type :ok, :process 0, :f :write, :value [7 2]}    <-- from here on 1 is impossible",
             "    event 4, line 6: {:type :invoke, :process 1, :f :read, :value [7 nil]}",
             "    event 5, line 7: {:type :ok, :process 1, :f :read, :value [7 1]}",
-            "Proved are the verdict, and what jepmon was asked. The other sentences are not."])
+            "The verdict and jepmon's answers are proved. The other sentences are not."])
 
     def test_names(self) -> None:
         """Values and keys as they were before they were numbered."""
@@ -182,7 +182,7 @@ In the next test let fewer clients use one key at once.""")
         self.assertGreater(count, 15)
 
     def test_where_the_walk_gives_up(self) -> None:
-        """What is said is true of the smallest part; without one nothing but what the program said."""
+        """The sentences are true of the smallest part; without one they have only the program's replies."""
         made = stores.WRONG["stale_replica"]()
         for shrink, want in ((True, """\
 Client 3 read 200 from key 3, which could not hold 200 any more.
@@ -191,13 +191,13 @@ While it was open (events 39 to 47), key 3 can have held 203, never 200. Asked o
 200 was last possible just before event 38, the :ok of client 0's read of 203.
 200 was brought in by client 1's write of 200 (events 4 to 14)."""), (False, """\
 Client 3's read of 200 on key 3 fits no order of the operations.
-There were too many orders to try within the limit of work: which it might have fitted can't be told.""")):
+There were too many orders to try within the limit of work: nobody knows which one it might have fitted.""")):
             with self.subTest(shrink=shrink):
                 options = program.Options(made.concurrency, made.model)
                 self.assertEqual(said_of(explained(made.text, options, shrink=shrink, work=100)), want)
 
     def test_without_effort(self) -> None:
-        """What is left out is said, and the same at each try, however busy the machine is."""
+        """The sentences name omitted parts, and the same at each try, however busy the machine is."""
         made = stores.WRONG["stale_replica"]()
         options = program.Options(made.concurrency, made.model)
         events, report = history.read_history(made.text), program.check(made.text.encode(), options)
@@ -209,7 +209,7 @@ There were too many orders to try within the limit of work: which it might have 
             self.assertEqual(found.part.finished if found.part is not None else None, finished, effort)
             self.assertEqual([sentence for sentence in found.sentences if "limit of work" in sentence],
                              [f"Left out, since the limit of work was met: {'; '.join(left_out)}."] if left_out else [])
-            met = "the limit of the search was met, and more might go out"
+            met = "the limit of the search was met, and more might be removed"
             self.assertEqual(any(met in line for line in cause.lines(found)), finished is False)
 
     def test_legal(self) -> None:
@@ -238,7 +238,7 @@ def is_legal(model: str, events: List[history.Event]) -> bool:
 
 
 class Facts(unittest.TestCase):
-    """What the sentences are made of, held against what comes of other events in place of those that there are."""
+    """The facts behind the sentences, compared with histories that have other events instead."""
 
     EACH = max(30, fuzz.EACH)
 
@@ -254,7 +254,7 @@ class Facts(unittest.TestCase):
                     self.assertEqual(legal, sorted((found for found in case.findings() if found is not None), key=answers[model].index))
 
     def test_held(self) -> None:
-        """What a register held while it was open is what a read in its place may answer."""
+        """The values that a register held while the operation was open are those that a read in its place may answer."""
         for case in illegal_cases("cas-register", self.EACH):
             at = case.front.index(case.fatal.invocation)
             read = case.front[at]._replace(name="read", value=None)

@@ -1,4 +1,4 @@
-"""What the commands share: how they end, what they write."""
+"""The common parts of the commands: exit statuses and outputs."""
 import os
 import pathlib
 import subprocess
@@ -22,7 +22,7 @@ def ended(code: str, shell: str = '"$@"') -> "subprocess.CompletedProcess[str]":
 
 class Called(unittest.TestCase):
     def test_by_a_script_of_the_repository(self) -> None:
-        """What is said to call a tool again is how it was called."""
+        """The printed command that calls a tool again is the one that called it."""
         with mock.patch.object(sys, "argv", ["/somewhere/jepmon/__main__.py"]), mock.patch.dict(os.environ, JEPMON_CALLED="./jepmon-judge"):
             self.assertEqual((command.tool("judge"), command.tool("explain")), ("./jepmon-judge", "python3 -m jepmon explain"))
 

@@ -43,7 +43,7 @@ class Calls(unittest.TestCase):
         for given, want in (
             (b"", "there is no event in it: the file is empty"),
             (b"\xff\xfe{", "it is UTF-16: iconv -f UTF-16 -t UTF-8 FILE | jepmon-judge"),
-            (REGISTER.encode() + b"\xe9", f"it is no text: byte {len(REGISTER)} is no UTF-8"),
+            (REGISTER.encode() + b"\xe9", f"it is not text: byte {len(REGISTER)} is not UTF-8"),
             (gzip.compress(REGISTER.encode())[:-9], "it is compressed by gzip, and cut off"),
             (EVENT.format("invoke", 0, "txn", "[]").encode(),
              "line 1: :txn is a transaction over several keys, which jepmon does not judge (Elle does)"),
@@ -53,7 +53,7 @@ class Calls(unittest.TestCase):
             self.assertEqual(str(caught.exception), want)
 
     def test_memory(self) -> None:
-        """Of a long file no more is held than its events: what else stands in them is let go as it is read."""
+        """For a long file only its events are held; the rest is let go as it is read."""
         line = "{:type :invoke, :process %d, :f :write, :value [0 1], :error \"" + "x" * 4000 + "\"}\n"
         text = b"".join((line % process).encode() for process in range(3000))
         tracemalloc.start()
@@ -70,8 +70,8 @@ Interval = Tuple[float, float, str, int]  # of an operation: when it was invoked
 
 
 def is_linearizable(operations: Sequence[Interval]) -> bool:
-    """Whether some order of the operations, in which each comes before those that were invoked after it completed, is one of a queue
-    without an order: each dequeue finds its value in the queue."""
+    """Whether some order of the operations is one of a queue without an order: each dequeue finds its value in the queue. In the order each
+    operation comes before those that were invoked after it completed."""
     seen = set()
 
     def goes_on(left: frozenset, queue: Tuple[int, ...]) -> bool:

@@ -19,7 +19,7 @@ TOP = pathlib.Path(__file__).resolve().parents[2]
 
 class Spools(unittest.TestCase):
     def test_a_long_one(self) -> None:
-        """What goes to the file comes again, as often as one likes, and to several at once."""
+        """The rows of the file can be read again, as often as one likes, and by several readers at once."""
         part = edn.Many("#{", ("1", edn.Many("[", ("2",))))
         events = [Event(":ok", number, ":read", "7", part if number % 3 == 0 else "nil", number, number + 1) for number in range(95)]
         kept: List[object] = [*events, Fault(":f :heal, :value nil", 95)]

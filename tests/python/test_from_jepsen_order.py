@@ -1,4 +1,4 @@
-"""The order of events in EDN, clients with names, and an :ok that says of itself that it is none. What is right is said by hand."""
+"""The order of events in EDN, clients with names, and an :ok that says of itself that it is none. The right results are written by hand."""
 from __future__ import annotations
 
 import re
@@ -136,7 +136,7 @@ class Order(Turned):
         self.assertEqual(self.turned(text("0 invoke read nil nil", "0 ok read 1 nil")), ["0 invoke read", "0 ok read"])
 
     def test_clients_one_behind_the_other_without_times(self) -> None:
-        """What came first is not known."""
+        """The first event is not known."""
         first = [f"0 {kind} write {value}" for value in (1, 2) for kind in ("invoke", "ok")]
         for process in ("1", ":c1"):
             second = [f"{process} {kind} read {part}" for _ in range(2) for kind, part in (("invoke", "nil"), ("ok", "1"))]

@@ -1,4 +1,4 @@
-"""What most lines of a history are is read by one expression: with the same result as field by field, also where something is wrong."""
+"""One expression reads most lines of a history: with the same result as field by field, also if something is wrong."""
 from __future__ import annotations
 
 import random

@@ -80,7 +80,7 @@ class Found(InAFolder):
         self.make({"cut.gz": whole[:-20], "damaged.gz": damaged, "bz2": bz2.compress(b"x"), "latin1": b"a\xe9b", "zeros": b"ab\0",
                    "utf16": EVENT.encode("utf-16"), "zip": b"PK\x03\x04"})
         for name, reason in (("missing", "No such file or directory"), ("cut.gz", "compressed by gzip, and cut off"),
-                             ("damaged.gz", "compressed by gzip, and damaged"), ("bz2", "bzcat FILE"), ("latin1", "byte 1 is no UTF-8"),
+                             ("damaged.gz", "compressed by gzip, and damaged"), ("bz2", "bzcat FILE"), ("latin1", "byte 1 is not UTF-8"),
                              ("zeros", "a byte of it is 0, the first at place 2"), ("utf16", "iconv -f UTF-16"), ("zip", "a zip archive")):
             with self.subTest(name=name):
                 self.assertIn(reason, self.refused(name))
@@ -102,7 +102,7 @@ class Outputs(InAFolder):
 
     def test_pages_that_are_refused(self) -> None:
         self.make({"history.edn": EVENT, "folder/x": ""})
-        self.assertIn("is no page", self.refused_page(self.top / "history.edn"))
+        self.assertIn("is not a page", self.refused_page(self.top / "history.edn"))
         self.assertIn("this is a folder", self.refused_page(self.top / "folder"))
         self.assertIn("No such file or directory", self.refused_page(self.top / "nowhere" / "page.html"))
         self.assertIn("Not a directory", self.refused_page(self.top / "history.edn" / "page.html"))

@@ -10,7 +10,7 @@ from jepmon.judge import models
 
 
 def facts(*lines: str) -> Facts:
-    """The facts of events that are told in short: type, process, name, value."""
+    """The facts of events in short: type, process, name, value."""
     text = "".join("{{:type :{}, :process {}, :f :{}, :value {}}}\n".format(*line.split(" ", 3)) for line in lines)
     own = read(text)
     assert own is not None, text

@@ -59,7 +59,7 @@ class Nils(Judged):
                 self.assertNotIn("guess of the absent value", ran.err)
 
     def test_a_guess_that_changes_nothing(self) -> None:
-        """A key that a write of unknown end may have deleted is no register of jepmon; an illegal history stays so."""
+        """A key that a write of unknown end may have deleted is not a register of jepmon; an illegal history stays so."""
         illegal = [*LOST, ("invoke", 1, "read", "nil"), ("ok", 1, "read", "5")]
         for shards in JOBS:
             ran = self.judged(edn(illegal), "--initial", "9", *shards, name="history.edn")

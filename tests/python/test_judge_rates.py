@@ -90,6 +90,6 @@ class Pages(Monitored):
         (self.room / "page-rates.html").write_text("notes of the user")
         status, said = self.judged("own.edn", OWN.replace("ANSWER", "1"), "--html", self.html())
         self.assertEqual(status, 0)
-        self.assertIn(f"judge: the page of rates was not written: {self.room}/page-rates.html: this file is there, and is no page: it is not "
+        self.assertIn(f"judge: the page of rates was not written: {self.room}/page-rates.html: this file is there, and is not a page: it is not "
                       "overwritten", said)
         self.assertEqual(self.rates(), "notes of the user")

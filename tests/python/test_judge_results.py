@@ -1,4 +1,4 @@
-"""What jepmon-judge gives beside its report: every bad key with its cause, their pages, and all of it as one JSON object."""
+"""The further results of jepmon-judge: every bad key with its cause, their pages, and all of it as one JSON object."""
 from __future__ import annotations
 
 import contextlib
@@ -56,7 +56,7 @@ class Judged(unittest.TestCase):
 
 
 def rows(keys: Dict[str, bool]) -> str:
-    """Of each key two writes and a read, one after the other: of the first value, which is stale, or of the second."""
+    """For each key two writes and a read, one after the other: of the first value, which is stale, or of the second."""
     lines, time = [], 0
     for key, is_legal in keys.items():
         for row in ({"op": "write", "value": 1}, {"op": "write", "value": 2}, {"op": "read", "result": 2 if is_legal else 1}):

@@ -1,4 +1,4 @@
-"""Several files are one history: those of clients that did not know of each other. What is right is said by hand."""
+"""Several files are one history: those of clients that did not know of each other. The right results are written by hand."""
 from __future__ import annotations
 
 import gzip

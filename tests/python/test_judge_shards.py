@@ -1,4 +1,4 @@
-"""What jepmon-judge does of its own where a history is judged in shards: which way it goes, the model, the lines of the bad key."""
+"""The choices of jepmon-judge if a history is judged in shards: which way it goes, the model, the lines of the bad key."""
 from __future__ import annotations
 
 import gzip
@@ -97,7 +97,7 @@ class BadKeys(unittest.TestCase):
         self.assertEqual((told.line, dict(told.fields)), (4, {"time": 12}))
 
     def test_a_text_for_the_program(self) -> None:
-        """Of a history with more clients or keys than the program takes."""
+        """A history with more clients or keys than the program takes."""
         events = [Event(0, "invoke", 150, "write", 70000, 1, 0, "", {}), Event(1, "invoke", 90, "read", 70000, None, 0, "", {}),
                   Event(2, "info", 150, "write", 70000, 1, 0, "", {}), Event(3, "invoke", 20, "read", 70000, None, 0, "", {}),
                   Event(4, "ok", 90, "read", 70000, 1, 0, "", {})]

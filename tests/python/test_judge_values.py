@@ -1,4 +1,4 @@
-"""Which values are one, what a missing key answers, and what a key holds at first: as the user says, in every form that is read."""
+"""Which values are one, the answer of a missing key, and the first value of a key: as the user says, in every form."""
 from __future__ import annotations
 
 import json

@@ -17,7 +17,7 @@ from tests.python.monitored import Monitored
 
 
 class Store:
-    """Registers by name. From so many writes on, reads are answered by what the first write of each has left."""
+    """Registers by name. From a number of writes on, reads answer the first value of each."""
 
     def __init__(self, right_writes: float = float("inf")) -> None:
         self.lock = threading.Lock()
@@ -103,7 +103,7 @@ class Long(Monitored):
         self.assertEqual(self.verdict_by(monitor.folder), monitor.close().split("\n")[0])
 
     def test_two_programs_that_are_illegal(self) -> None:
-        """The first that is found has the verdict, also where the parts are judged again; the other is said beside it."""
+        """The first finding has the verdict, also if the parts are judged again; the second finding is named with it."""
         monitor = LongMonitor(self.program, concurrency=1, out=self.room)
         register = monitor.fresh()
         reads = [register.read().__enter__() for _ in range(2)]  # on an object each, of a program each
@@ -149,7 +149,7 @@ class Long(Monitored):
                     pass
 
     def test_an_object_whose_program_was_closed(self) -> None:
-        """What is done with it is not judged, and that is said."""
+        """Its further operations are not judged, and standard error says so."""
         monitor = LongMonitor(self.program, events=20, out=self.room)
         with self.assertRaises(Unknown) as caught, monitor:
             lock, register = monitor.fresh("mutex"), monitor.fresh()

@@ -1,4 +1,4 @@
-"""What a user says of rows: the options, the mapping file, and the table of names in docs/FORMATS.md."""
+"""The user's words about rows: the options, the mapping file, and the table of names in docs/FORMATS.md."""
 from __future__ import annotations
 
 import argparse

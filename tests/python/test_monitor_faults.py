@@ -1,4 +1,4 @@
-"""Notes of faults: what stands in the log and in the run's folder, and that they are judged nowhere."""
+"""Notes of faults: in the log and in the run's folder, and that they are judged nowhere."""
 from __future__ import annotations
 
 import contextlib
@@ -126,7 +126,7 @@ class Noted(Monitored):
 
 
 class Memory(Monitored):
-    """What is not needed any more goes at once, without the collector of cycles: a test may make many monitors."""
+    """Unused objects go at once, without the collector of cycles: a test may make many monitors."""
 
     def setUp(self) -> None:
         super().setUp()

@@ -1,4 +1,4 @@
-"""The folder of a run: what it has at each verdict, and that its history is judged the same again."""
+"""The folder of a run: its files at each verdict, and that its history is judged the same again."""
 from __future__ import annotations
 
 import os

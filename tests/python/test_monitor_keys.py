@@ -107,7 +107,7 @@ class Losses(Monitored):
         self.assertIn("ABSENT]", caught.exception.events[-1])
 
     def test_it_is_not_where_they_leave(self) -> None:
-        """What Keys is there for."""
+        """The purpose of Keys."""
         with Monitor(self.program, failed=(ConnectionRefusedError,), expected=(OSError,)) as monitor:
             self.kill(monitor, stay=False)
         self.assertEqual(monitor.close(), "legal")

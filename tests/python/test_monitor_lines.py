@@ -106,10 +106,10 @@ class Queue(unittest.TestCase):
 
 
 class Together(Monitored):
-    """Two exchanges: what is told while the first one waits goes with the second."""
+    """Two exchanges: lines that come while the first one waits go with the second."""
 
     def hold(self, monitor: Monitor, lines: int) -> None:
-        """Holds back the next exchange until so many lines wait behind it."""
+        """Holds back the next exchange until this number of lines wait behind it."""
         telling = monitor._telling
         replies = telling._exchange.replies
 
@@ -126,7 +126,7 @@ class Together(Monitored):
         return ran.stdout.decode().splitlines()
 
     def test_a_key_that_is_dropped_among_others(self) -> None:
-        """The ok that is too much is taken back with all behind it, and what is not of its key is told again as it was."""
+        """The ok over the budget is taken back with all lines behind it, and lines of other keys are sent again as they were."""
         log = io.StringIO()
         with Monitor(self.program, budget=3, by_ends=True, unknown="drop", log=log, out=self.room) as monitor:
             for key in (0, 1, 2):
@@ -158,7 +158,7 @@ class Together(Monitored):
         self.assertEqual(history.count("\n{"), monitor.length)
 
     def test_illegal_behind_unknown(self) -> None:
-        """What is sent together has one verdict, which is that of a check of all of it."""
+        """Lines that are sent together have one verdict, which is that of a check of all of them."""
         with self.assertRaises(Illegal) as caught:
             with Monitor(self.program, budget=3, by_ends=True, out=self.room) as monitor:
                 for key in (0, 1, 2):
@@ -188,7 +188,7 @@ class Together(Monitored):
         self.assertEqual(self.verdict_by(monitor.folder), caught.exception.reply)
 
     def test_many_threads(self) -> None:
-        """What the folder and the log say again is what the run has said; tests/fuzz_live.py does more of them."""
+        """The folder and the log give the verdict of the run when they are judged again; tests/fuzz_live.py does more of them."""
         for seed in range(12):
             self.assertIsNone(fault_of(case_of(seed), is_dropped=seed % 3 > 0), seed)
             self.assertIsNone(fault_of_long(case_of(seed)), seed)

@@ -1,4 +1,4 @@
-"""What a live test takes for a missing key, and what its keys hold at first."""
+"""The answer of a missing key in a live test, and the first values of its keys."""
 from __future__ import annotations
 
 import unittest

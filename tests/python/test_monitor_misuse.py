@@ -1,4 +1,4 @@
-"""What a client does wrong with a monitor: it is told so, in place of a verdict on the store."""
+"""A client's mistakes with a monitor: an exception names them, instead of a verdict on the store."""
 from __future__ import annotations
 
 import contextlib
@@ -54,7 +54,7 @@ class Attributes(Monitored):
                 op.__exit__(None, None, None)
 
     def test_a_client_that_catches_it_is_told_again(self) -> None:
-        """Else a cas that the store refused would be told as one that took place."""
+        """Else a cas that the store refused would count as one that took place."""
         for expected in ((), (Exception,)):
             with Monitor(self.program, model="cas-register", expected=expected) as monitor:
                 with monitor.write(0, 1):
@@ -81,7 +81,7 @@ class Attributes(Monitored):
 
 class Processes(Monitored):
     def in_a_fork(self, work: Callable[[], object]) -> str:
-        """What it raises in a process that was forked."""
+        """The exception in a process that was forked."""
         here, there = FORK.Pipe()
 
         def told(to: Connection) -> None:
@@ -169,7 +169,7 @@ class Processes(Monitored):
 
 class Nothing(Monitored):
     def said(self, monitor: "Monitor | LongMonitor", outcome: str) -> str:
-        """What stands on standard error where each operation ends so."""
+        """The text on standard error if each operation ends so."""
         with contextlib.redirect_stderr(io.StringIO()) as said, monitor:
             for _ in range(3):
                 with monitor.write(1, 1) if isinstance(monitor, Monitor) else monitor.fresh().write(1) as op:

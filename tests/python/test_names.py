@@ -1,4 +1,4 @@
-"""What numbers stand for, in the comments of a history and where a person reads them."""
+"""The meaning of numbers, in the comments of a history and in texts for people."""
 import unittest
 
 from jepmon.history import kinds

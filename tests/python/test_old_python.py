@@ -1,4 +1,4 @@
-"""What a Python meets that is too old, and a machine without one: one line, and a status that is no verdict."""
+"""A Python that is too old, and a machine without one: one line, and a status that is not a verdict."""
 from __future__ import annotations
 
 import ast

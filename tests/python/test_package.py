@@ -32,7 +32,7 @@ class Package(unittest.TestCase):
             self.assertTrue((folder / f"{module}.py").exists() or (folder / module / "__init__.py").exists(), name)
 
     def test_the_tools_begin_fast(self) -> None:
-        """What the tools need is loaded, and no more: the Monitor's modules, as those that run programs, are not."""
+        """Only the modules that the tools need are loaded: the Monitor's modules, as those that run programs, are not."""
         code = "import sys, jepmon.from_jepsen.tool; print(sorted({'subprocess', 'threading', 'tempfile', 'decimal'} & set(sys.modules)))"
         ran = subprocess.run([sys.executable, "-S", "-c", code], cwd=TOP / "python", stdout=subprocess.PIPE, universal_newlines=True)
         self.assertEqual(ran.stdout, "[]\n")

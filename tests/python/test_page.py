@@ -1,4 +1,4 @@
-"""The page as a text: well formed, escaped, complete, small. What it does in a browser is tests/browser.py's."""
+"""The page as a text: well formed, escaped, complete, small. tests/browser.py tests its work in a browser."""
 from __future__ import annotations
 
 import base64

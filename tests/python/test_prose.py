@@ -48,6 +48,10 @@ class Prose(unittest.TestCase):
         found = of_file("a.py", '"""Says it."""\n# A note.\nprint("this file has no line that can be read")\n')
         self.assertEqual([one.text for one in found], ["Says it.", "this file has no line that can be read", "A note."])
 
+    def test_an_entry_of_a_list_of_names_is_an_item(self) -> None:
+        found = of_file("a.py", '"""Has two.\n\none    the first,\n       with a line more\ntwo    the second\n"""\n')
+        self.assertEqual([one.text for one in found], ["Has two.", "the first, with a line more", "the second"])
+
     def test_a_line_may_be_left_out(self) -> None:
         self.assertEqual(of_file("a.md", "This is no word. <!-- prose: ok -->\n"), [])
 

@@ -1,4 +1,4 @@
-"""The page of rates: what is gathered of operations and faults, and what stands on the page."""
+"""The page of rates: the gathered operations and faults, and the texts of the page."""
 from __future__ import annotations
 
 import itertools

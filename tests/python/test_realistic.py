@@ -1,5 +1,5 @@
-"""How many of the histories that people have are judged: as Jepsen, Maelstrom, Porcupine, etcd's own tests and applications write
-them. What is not judged is refused by its name."""
+"""How many of the histories that people have are judged: as Jepsen, Maelstrom, Porcupine, etcd's own tests and applications write them. The
+tool refuses the others by name."""
 from __future__ import annotations
 
 import contextlib
@@ -14,7 +14,7 @@ from tests import case_loop
 
 from . import TOP, fuzz
 
-# Of the objects that jepmon has: the case, and the verdict, or what the refusal says.
+# Histories of jepmon's objects: the case, and the verdict, or the refusal.
 OBJECTS = {
     # Jepsen's history.edn, in the ways in which it was printed over the years
     "from-jepsen/etcd_tutorial": "legal", "from-jepsen/mutex": "legal", "from-jepsen/queue": "--order lines", "from-jepsen/drains": "legal",
@@ -41,7 +41,7 @@ VERDICTS = ("legal", "illegal", "unknown")
 
 
 def came(case: pathlib.Path) -> Tuple[int, str, str]:
-    """What comes of a case's history, some of which are of writes alone: the status, the verdict and what standard error says."""
+    """The result of a case's history, some of which are of writes alone: the status, the verdict and the text on standard error."""
     with tempfile.TemporaryDirectory() as folder:
         files = [file for file in sorted(case.iterdir()) if file.name not in ("args", "stdout", "stderr", "status", "verdict")]
         path = pathlib.Path(folder, files[0].name if case.parent.name == "judge" else "history.edn")

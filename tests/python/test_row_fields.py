@@ -103,8 +103,8 @@ class Outcomes(Case):
         self.assertEqual(self.outcome(operation(status="fail", err="not found")), "fail")
 
     def test_what_is_not_understood_is_never_ok(self) -> None:
-        self.refused(lines(operation(status="partially")), 'status is "partially", which is no outcome')
-        self.refused(lines(operation(code=7)), "code is 7, which is no outcome")
+        self.refused(lines(operation(status="partially")), 'status is "partially", which is not an outcome')
+        self.refused(lines(operation(code=7)), "code is 7, which is not an outcome")
         self.assertEqual(self.outcome(operation(status="partially"), **mapped(outcomes={"partially": "info"})), "info")
 
     def test_statuses_of_http(self) -> None:

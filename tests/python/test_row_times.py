@@ -133,7 +133,7 @@ class Times(Case):
         self.assertEqual([line[:4] for line in events(lines(*rows), mapping=SAYS._replace(order="times"))], ["invo", "invo", "ok 0", "ok 1"])
 
     def test_none_and_clients_that_stand_together(self) -> None:
-        """What came first is not known; of few events it is a guess."""
+        """The first event is not known; for few events it is a guess."""
         rows = [event(client, kind, None, op) for client in (0, 1) for op in ("acquire", "release") for kind in ("invoke", "ok")]
         self.refused(lines(*rows), "line 5: the events of each client stand together, as in files put one behind the other, and have no times: "
                      "which came first? say --order lines if they stand in their order")

@@ -146,7 +146,7 @@ class OfAFolder(Folders):
         (self.out / "index.html").write_text("a page of the user's own")
         for words, said in ((["nowhere"], "runs: nowhere: No such file or directory\n"),
                             ([str(self.room / "empty")], f"runs: {self.room}/empty: there is no run in this folder; see "),
-                            ([str(self.out)], f"runs: {self.out}/index.html: this file is there, and is no page of jepmon-runs\n"),
+                            ([str(self.out)], f"runs: {self.out}/index.html: this file is there, and is not a page of jepmon-runs\n"),
                             (["--strange"], "runs: unrecognized arguments: --strange; see ")):
             with self.subTest(words):
                 status, out, error = self.shown(*words)

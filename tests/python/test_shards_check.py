@@ -67,7 +67,7 @@ class SameAsCheck(unittest.TestCase):
             self.assertEqual((told.verdict.split(":")[0], told.status, told.text), (found.verdict, found.status, found.text))
 
     def test_places_of_unreadable_texts(self) -> None:
-        """The longest front that is a text ends before a discard whose element can't be read, or with an atom of it."""
+        """The longest prefix that is a text ends before a discard whose element can't be read, or with an atom of it."""
         for text in (b"#_ :", b"#_:", b"1 #_\n\n; c\n)", b"#_ #_ :", b"#_ [1 :", b"#_ 1.5", b"1 #_ ; c\n", b"; c\n:", b":", b"1.5", b"#_", b"]", b"[#_ :]"):
             self.assertEqual(shards.check(text, Options(), 1).text, program.check(text, Options()).text, text)
 
@@ -99,7 +99,7 @@ class BeyondLimits(unittest.TestCase):
         self.assertEqual(checked(written(0, 5), sizes=small).verdict, "legal")
 
     def test_what_is_behind_is_tested(self) -> None:
-        """What stands behind the events that are judged is refused as one check refuses it."""
+        """The part after the judged events is refused as one check refuses it."""
         text = written(0, 8) + line("invoke", 0, "write", 0, "1") + line("ok", 0, "write", 0, "2")
         self.assertEqual(checked(text, sizes=Sizes(events=10)).verdict, "refused 4 Mismatch event 17")
 
@@ -139,7 +139,7 @@ class Threads(unittest.TestCase):
 
     @unittest.skipUnless(has_program(), "there is no program")
     def test_clients_that_come_late(self) -> None:
-        """Where the front of a history has fewer clients than all of it, all of it is looked through."""
+        """If a prefix of a history has fewer clients than all of it, all of it is looked through."""
         text = written(0, 200_000) + written(1, 3, process=5)
         with opened(text.encode(), Options(1), 1, finds_threads=True) as session:
             self.assertEqual(session.options.concurrency, 1)

@@ -1,4 +1,4 @@
-"""Shards in a folder: written, judged one by one, and joined; what lacks, what is of another time, what is refused."""
+"""Shards in a folder: written, judged one by one, and joined; missing, old and refused ones."""
 from __future__ import annotations
 
 import io
@@ -130,7 +130,7 @@ class Folders(unittest.TestCase):
         for text in ("", "; a comment\n", written(0, 1)):
             path = self.top / "x.edn"
             path.write_text(text)
-            with self.assertRaisesRegex(shards.ShardsError, "this is no shard"):
+            with self.assertRaisesRegex(shards.ShardsError, "this is not a shard"):
                 judge(str(path), find_program())
         with self.assertRaisesRegex(shards.ShardsError, "No such file"):
             judge(str(self.top / "nothing.edn"), find_program())

@@ -1,4 +1,4 @@
-"""What shrink may take out of a history leaves a legal one legal; and what is left of an illegal one is illegal by itself."""
+"""The removals of shrink leave a legal history legal; and the rest of an illegal one is illegal by itself."""
 from __future__ import annotations
 
 import random
@@ -33,7 +33,7 @@ def ended(part: List[Event]) -> List[Event]:
 
 
 class Soundness(unittest.TestCase):
-    """No legal history becomes illegal, whatever is taken out. JEPMON_FUZZ=5000 in the environment for so many of each model and seed.
+    """No legal history becomes illegal, whatever is taken out. JEPMON_FUZZ=5000 in the environment sets the number for each model and seed.
     They are judged by the walk, which test_walk holds against the program, and some of them by the program."""
 
     def test_each_model(self) -> None:
@@ -74,14 +74,14 @@ def by_the_program(parts: Dict[int, List[Event]], clients: int, model: str) -> D
 
 
 def drawn(model: str, whole: List[Operation], draw: random.Random) -> List[Operation]:
-    """What is left where some units go out."""
+    """The rest after some units are removed."""
     units = draw.choice(ways(model, whole))
     share = draw.choice((0.1, 0.4, 1.0))
     return taken_out(whole, units, with_dragged(units, [number for number in range(len(units)) if draw.random() < share])).operations
 
 
 class Parts(unittest.TestCase):
-    """What is left of an illegal history is illegal at its last event, and small."""
+    """The rest of an illegal history is illegal at its last event, and small."""
 
     @unittest.skipUnless(fuzz.has_program(), "there is no program")
     def test_wrong_stores(self) -> None:

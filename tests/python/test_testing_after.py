@@ -88,12 +88,12 @@ class Verdicts(unittest.TestCase):
                          '1.90 s, 0.10 s before "n1 is down, by kill -9" began.')
         stale = "The read was STALE: the nodes hold 5, which had been acknowledged before the read began."
         self.assertEqual(self.on(4, n1=5, n2=5), stale)
-        self.assertEqual(self.on(4, n1=6, n2=6), "LOST or STALE, which can't be told: a write of 6, not acknowledged when the read began, took "
+        self.assertEqual(self.on(4, n1=6, n2=6), "LOST or STALE, nobody knows which: a write of 6, not acknowledged when the read began, took "
                          "place since.")
         self.assertEqual(self.on(4, n1=4, n2=4), "The wrong answer stays.")  # of a write that was recorded as failed
         self.assertEqual(self.on(4, n1=5, n2=4), "Nodes DIVERGED: they still hold different values.")
         self.assertEqual(self.on(4, n1=Reading(None, "no answer (TimeoutError)"), n2=5), stale)
-        self.assertIn("can't be told", self.on(4, n1=Reading(None, "no answer (TimeoutError)")))
+        self.assertIn("nobody knows", self.on(4, n1=Reading(None, "no answer (TimeoutError)")))
 
     def test_of_an_answer_that_is_the_last_write(self) -> None:
         """Two writes overlap, and the one that is acknowledged first is the last. A stale read between makes its value impossible."""
@@ -168,7 +168,7 @@ class Crashes(unittest.TestCase):
             LogWatch([node], []).look()
 
     def test_a_pattern_that_is_none(self) -> None:
-        with self.assertRaisesRegex(ServerError, r"'\(' is no regular expression"):
+        with self.assertRaisesRegex(ServerError, r"'\(' is not a regular expression"):
             LogWatch([], ["("])
 
     def test_whom_to_blame(self) -> None:

@@ -1,4 +1,4 @@
-"""A disk that can lose power: what was synced stays, and what was not is lost or torn. Skipped where nothing can be mounted by FUSE."""
+"""A disk that can lose power: synced data stays, and unsynced data is lost or torn. Skipped where nothing can be mounted by FUSE."""
 from __future__ import annotations
 
 import filecmp
@@ -172,7 +172,7 @@ class Disks(Rooms):
         self.assertEqual(sorted(os.listdir(self.point)), ["new", "other"])
 
     def test_it_is_a_file_system(self) -> None:
-        """A tree of files is copied, is the same, and is removed; links, modes and times are kept."""
+        """A copied tree of files is the same, keeps links, modes and times, and can be removed."""
         source = pathlib.Path(__file__).parent
         shutil.copytree(source, self.point / "tree")
         both = filecmp.dircmp(source, self.point / "tree")

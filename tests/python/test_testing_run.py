@@ -135,7 +135,7 @@ class TheTemplate(Runs):
         self.assertEqual(history.count('"n1 is down, by kill -9 [kill n1, process; while touch n1]"'), 2)
 
     def test_it_is_short(self) -> None:
-        """What a user writes: all but the server that stands for the user's own."""
+        """The user's files: all but the server that stands for the user's own."""
         self.assertLess(TEMPLATE.read_text().index("# --- The server"), len(TEMPLATE.read_text()))
         self.assertLess(len(TEMPLATE.read_text().splitlines()), 60)
 

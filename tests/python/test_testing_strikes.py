@@ -135,7 +135,7 @@ class Plans(unittest.TestCase):
 
 class Partitions(unittest.TestCase):
     def reached(self, pairs: "links.Pairs", nodes: int) -> Dict[str, List[str]]:
-        """Whom each of so many nodes reaches, itself among them, where the strike is on the first."""
+        """The nodes that each node reaches, itself among them, if the strike is on the first."""
         names = [f"n{number + 1}" for number in range(nodes)]
         cut = pairs(names[0], names[1:])
         return {one: [other for other in names if (one, other) not in cut] for one in names}
@@ -233,7 +233,7 @@ class Strikes(unittest.TestCase):
         self.assertEqual(self.noted, ["n3 is struck [one n3, process]"])
 
     def struck_nodes(self, text: str) -> "set[str]":
-        """Of two lanes of strikes on processes; no node is struck by both at once."""
+        """Two lanes of strikes on processes: no node is struck by both at once."""
         self.run_for(text, 2.0)
         going_on: List[str] = []
         for _, what in sorted(self.told):

@@ -57,7 +57,7 @@ class OfRedis(Scripted):
 
 
 class OfZooKeeper(Scripted):
-    """A frame is its length and what it holds; an answer begins with the number of what was asked, a transaction and an error."""
+    """A frame is its length and its content; an answer begins with the number of the request, a transaction and an error."""
 
     SESSION = b"\0\0\0\x25" + struct.pack(">iiq", 0, 60_000, 7) + b"\0\0\0\x10" + b"p" * 16 + b"\0"
     STAT = b"\0" * 32 + struct.pack(">i", 5) + b"\0" * 32  # four times and transactions, the version, and the rest
@@ -211,7 +211,7 @@ GREETING = (said(10, 10), said(10, 30), said(10, 41), said(20, 11), said(85, 11)
 
 
 class OfAmqp(Scripted):
-    """Each answer follows the whole of what was asked, so that what is asked at once has one answer."""
+    """Each answer follows the whole request, so requests that are sent at once have one answer."""
 
     def amqp(self, *answers: bytes) -> Amqp:
         listening = socket.create_server((ADDRESS, 0))

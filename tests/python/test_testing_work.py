@@ -1,5 +1,5 @@
-"""What clients of jepmon-test do to each kind of object, over several parts of a run, on servers in this process; and how it counts
-messages that are lost."""
+"""The operations of jepmon-test's clients on each kind of object, over several parts of a run, on servers in this process; and how it
+counts lost messages."""
 from __future__ import annotations
 
 import collections
@@ -20,7 +20,7 @@ SEED = 1
 
 
 class Held:
-    """What the clients of a run share."""
+    """The common parts of the clients of a run."""
 
     def __init__(self) -> None:
         self.lock = threading.Lock()
@@ -161,7 +161,7 @@ class WrongRegister(InThisProcess):
 class Works(Monitored):
     def ran(self, server: Type[Server], model: str, seconds: float = 1.0, keep: Optional[int] = None, clients: int = 5,
             parts: int = 1) -> Outcome:
-        """A run of so many seconds; of more, if the machine is so busy that it then has no verdict, or fewer parts than these."""
+        """A run of some seconds; of more, if the machine is so busy that it then has no verdict, or fewer parts than these."""
         for longer in (1, 4, 16):
             outcome = self.ran_once(server, model, longer * seconds, keep, clients)
             if outcome.verdict and outcome.parts >= parts:

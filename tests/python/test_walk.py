@@ -89,7 +89,7 @@ class Orders(unittest.TestCase):
         self.assertIn(end.state, self.states(model, order, end))
 
     def states(self, model: str, order: List[history.Operation], end: End) -> Set[State]:
-        """The states that the order may leave, with what each operation found."""
+        """The states that the order may leave, with the answer of each operation."""
         states: Set[State] = {START[model]}
         for operation in order:
             name, id = operation.invocation.name, operation.invocation.index
@@ -109,7 +109,7 @@ WAYS = [Way(), Way(wrong=0.05), Way(clients=4, wrong=0.1, crash=0.2), Way(values
 
 @unittest.skipUnless(fuzz.has_program(), "there is no program")
 class Fuzzed(unittest.TestCase):
-    """The walk says of random histories what the program says. JEPMON_FUZZ=1500 in the environment for so many of each model and
+    """The walk says of random histories what the program says. JEPMON_FUZZ=1500 in the environment sets the number for each model and
     budget."""
 
     def agree(self, model: str, budget: int, seed: int) -> collections.Counter[str]:

@@ -1,4 +1,4 @@
-"""Keys that are over their budget, decided afterwards: what is found, what the report says of it, and the words of the command line."""
+"""Keys that are over their budget, decided afterwards: the results, their lines in the report, and the words of the command line."""
 from __future__ import annotations
 
 import contextlib
@@ -72,7 +72,7 @@ class Words(unittest.TestCase):
 
 @unittest.skipUnless(has_program(), "there is no program")
 class Found(unittest.TestCase):
-    """What is found is what the program says, where it decides; and where it does not the tool says what was found."""
+    """The result is the program's verdict, if it decides; else the tool reports the result."""
 
     def test_random_histories(self) -> None:
         way = Way(events=30, clients=5, wrong=0.05)
@@ -95,7 +95,7 @@ class Found(unittest.TestCase):
         self.assertEqual(program.check(found.part.text.encode(), found.part.options).word, "illegal")
 
     def wide_history(self, wrong: bool = False) -> List[Event]:
-        """Of twenty clients; where it is wrong, a late read has an answer that was overwritten long ago."""
+        """A history of twenty clients; in a wrong one a late read has an answer that was overwritten long ago."""
         chance = random.Random(5)
         events = Clients(chance, 20).history("register", Way(events=600, clients=20, values=1 << 40, crash=0, patience=0), 0)
         if wrong:
@@ -127,14 +127,14 @@ class Found(unittest.TestCase):
             self.assertIn("which could not hold", err)
 
     def test_what_is_proved_is_said(self) -> None:
-        """Of a key that is illegal by a part no page and no line says that the verdict is proved."""
+        """If a key is illegal by a part, no page and no line says that the verdict is proved."""
         with tempfile.TemporaryDirectory() as folder:
             page = pathlib.Path(folder, "page.html")
             err = self.judged(self.wide_history(wrong=True), "--html", str(page))[2]
             for text in (err, page.read_text("utf-8")):
                 self.assertIn(causes.BY_PART, text)
                 self.assertNotIn("verdict is jepmon's, and proved", text)
-                self.assertNotIn("Proved are the verdict", text)
+                self.assertNotIn("The verdict and jepmon's answers are proved", text)
 
     def test_a_fault_of_the_search_leaves_the_verdict(self) -> None:
         for fault, said in ((ValueError("x"), "key 0 is not decided, by a fault of judge itself: ValueError('x')"),
@@ -160,7 +160,7 @@ class Found(unittest.TestCase):
 
 
 class Confirmed(unittest.TestCase):
-    """Who says that an order is one."""
+    """The program that confirms an order."""
 
     MADE = operations([Event(40, "invoke", 0, "write", 7, 1, 0, "", {}), Event(41, "invoke", 1, "read", 7, None, 0, "", {}),
                        Event(50, "ok", 1, "read", 7, 1, 0, "", {})], 2)

@@ -238,7 +238,7 @@ class Live(Monitored):
         with self.assertRaises(Unknown) as caught:
             two_orders()
         if program.has_wide_kinds(self.program):
-            self.assertIn("many writes were open or had timed out that answers need", str(caught.exception))
+            self.assertIn("answers need many open or timed-out writes", str(caught.exception))
         else:
             self.assertIn("does not have the kind wide-register", str(caught.exception))
 

@@ -74,7 +74,7 @@ class Random(unittest.TestCase):
 
 class Long(unittest.TestCase):
     def test_a_queue_that_holds_much(self) -> None:
-        """An order of many operations is tested in the time of what they change."""
+        """The test of an order of many operations costs O(their changes)."""
         count = 5000
         told: List[Tuple[str, int, str, object]] = [(kind, 0, "enqueue", value) for value in range(count) for kind in ("invoke", "ok")]
         told += [(kind, 0, "dequeue", None if kind == "invoke" else value) for value in range(count) for kind in ("invoke", "ok")]
@@ -124,8 +124,8 @@ def has_confirm() -> bool:
 
 
 def some_orders(made: Sequence[Operation], model: str, chance: random.Random) -> Iterator[List[int]]:
-    """An order, if one is found, else what has returned; and the same with one of them at another place. Of a queue without an order no
-    dequeue is in it that has not returned, of which a program may find another value than the other."""
+    """An order, if one is found, else what has returned; and the same with one of them at another place. In a queue without an order no
+    unreturned dequeue is in it, since two programs may find different values for it."""
     last = max((completion.index for _, completion, _ in made if completion is not None), default=-1)
     found = solve(model, front(made, last), Clock(60, time.process_time))
     returned = [operation.invocation.index for operation in made if operation.outcome == "ok"]

@@ -25,7 +25,7 @@ pub fn next(n: u32) -> u32 {
     n + 1
 }
 """
-# Answers as the prover does, by what the crate's text has in it.
+# Answers as the prover does, by the words in the crate's text.
 RATTLE = """#!/bin/sh
 only=false
 for word in "$@"; do [ "$word" = --only ] && only=true; done

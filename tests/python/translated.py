@@ -1,4 +1,4 @@
-"""What becomes of a history that is given as a text: its events in short, what is guessed, and the reason of a refusal."""
+"""The translation of a history that is given as a text: its events in short, the guesses, and the reason of a refusal."""
 from __future__ import annotations
 
 import json
@@ -39,14 +39,14 @@ def operation(**fields: Any) -> Dict[str, Any]:
 
 
 class Case(unittest.TestCase):
-    """A test of what becomes of a text."""
+    """A test of the translation of a text."""
 
     def guessed(self, text: str, **options: Any) -> List[str]:
         """The options that settle what is guessed."""
         return [guess.option for guess in made(text, **options).account.guesses]
 
     def assumed(self, text: str, **options: Any) -> List[str]:
-        """What is guessed of the order."""
+        """The guess about the order."""
         return [guess.assumed for guess in made(text, **options).account.guesses if guess.of == ORDER]
 
     def refused(self, text: str, reason: str, **options: Any) -> None:

@@ -5,9 +5,9 @@
     wrong_bodies.py --plan       which are due, and why; tries none
     wrong_bodies.py --release    all; writes dist/jepmon.refused if each is refused for its clause
 
-What was refused for its clause is kept on this machine, in ~/.cache/jepmon/refused, by the digest of all that its try read: a later run
-does not try the same again, unless --anew is given. So a run that was cut off goes on where it stopped. The last line is 'N passed, M
-failed'; the line before it says how many were due, tried, kept, and stand by the last release.
+This machine keeps the refused ones, in ~/.cache/jepmon/refused, by the digest of all that its try read. A later run does not try the same
+again, unless --anew is given. So a run that was cut off goes on where it stopped. The last line is 'N passed, M failed'; the line before it
+says how many were due, tried, kept, and stand by the last release.
 """
 from __future__ import annotations
 

@@ -1,7 +1,7 @@
 """A wrong body: the file wrong/CRATE/NAME.edit, the texts that it makes of the crate's files, and the functions that it changes.
 
 The file has a line `file: src/NAME.rt` and pairs of lines `old: TEXT` and `new: TEXT`. The old text stands in the file exactly once, and
-the new text replaces it. Each text is one line. Further pairs apply to what the earlier pairs have made.
+the new text replaces it. Each text is one line. Further pairs apply to the result of the earlier pairs.
 """
 from __future__ import annotations
 

@@ -15,7 +15,7 @@ from typing import Dict, List, NamedTuple, Optional, Sequence, Tuple
 
 from .edit import PARTS, Inapplicable, Wrong, planted
 
-# What the prover says of a place, as an error or as a goal that it does not prove.
+# The prover's message about a place, as an error or as a goal that it does not prove.
 TOLD = re.compile(r"(?:\./)?(\S+?:\d+):\d+: (error: .*)|note: (?:\./)?(\S+?:\d+):\d+: (it is not proved .*)")
 # A proof that names what the wrong body took away.
 GONE = re.compile(r"has no field|is not in scope|has no `|which was (?:not admitted|rejected), w")
@@ -130,7 +130,7 @@ class Prover:
         return words + [word for name in functions for word in ("--only", name)]
 
     def tried(self, wrong: Wrong, kept: str) -> Outcome:
-        """Tries a wrong body: the functions that it changes, and then, if these are proved or are no functions, the whole crate."""
+        """Tries a wrong body: the changed functions, and then, if these are proved or there are none, the whole crate."""
         try:
             bodies = planted(wrong, self.crates.folder(wrong.crate))
         except Inapplicable as why:

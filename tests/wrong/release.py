@@ -4,10 +4,10 @@
 
     refused 149 files DIGEST toolchain LINE
 
-The line says how many wrong bodies were refused, the digest of all files that the run read, and the toolchain. It names no commit: the
-base is the newest commit here whose files have this digest. So a line that nobody's files have, made by hand or left over, is seen.
-A wrong body is due if its text, or its crate's src/, specs/, proofs/ or line of crates.txt, differs from the base; and all are due if
-the toolchain or HANDLES differs, or if there is no line yet.
+The line says how many wrong bodies were refused, the digest of all files that the run read, and the toolchain. It names no commit: the base
+is the newest commit here whose files have this digest. So a line that nobody's files have, made by hand or left over, is seen. A wrong body
+is due if its text, or its crate's src/, specs/, proofs/ or line of crates.txt, differs from the base. All are due if the toolchain or
+HANDLES differs, or if there is no line yet.
 """
 from __future__ import annotations
 

@@ -1,1 +1,1 @@
-"""Causes in words, one module for each sort of object, and one for what is unknown."""
+"""Causes in words, one module for each sort of object, and one for unknown keys."""

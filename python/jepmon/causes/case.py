@@ -1,4 +1,4 @@
-"""What is found out about one illegal key: by the walk, and by questions to the program."""
+"""The facts about one illegal key: from the walk, and from questions to the program."""
 from __future__ import annotations
 
 from typing import Any, Callable, Iterable, List, Mapping, NamedTuple, Optional, Sequence, Tuple
@@ -24,7 +24,7 @@ class Mention(NamedTuple):
 
 
 class Found(NamedTuple):
-    """What a sort of object has to say."""
+    """The sentences that a sort of object contributes."""
 
     headline: str
     sentences: List[str]
@@ -60,7 +60,7 @@ class Case(NamedTuple):
 
     @property
     def answer(self) -> Any:
-        """What the fatal operation has answered."""
+        """The answer of the fatal operation."""
         return self.front[-1].value
 
     @property
@@ -73,21 +73,21 @@ class Case(NamedTuple):
                 if operation.invocation.name == name and operation is not self.fatal and test(operation)]
 
     def held(self) -> Optional[List[Any]]:
-        """The states that were possible while the fatal operation was open; None where they can't be told."""
+        """The states that were possible while the fatal operation was open; None if the walk cannot find them."""
         states = self.walked.while_open(self.fatal.invocation.index, self.effort.work)
         if states is None:
             self.effort.leave_out(f"what {self.object} can have held while the operation was open")
         return None if states is None else sorted(states, key=_by_size)
 
     def findings(self) -> List[Any]:
-        """What the fatal operation may have found, so far as it can have taken place."""
+        """The values that the fatal operation may have found, so far as it can have taken place."""
         found = {end.taken[self.fatal.invocation.index] for end in self.walked.ends()
                  if self.fatal.invocation.index in end.taken}
         return sorted(found, key=_by_size)
 
     def last_possible(self, test: Callable[[Any], bool]) -> Last:
-        """When the object can last have had a state that passes the test, as the fatal operation needs it, or that operation can have
-        taken place: looked for from behind, stop by stop."""
+        """When the object can last have had a state that passes the test, or the fatal operation can have taken place. The search goes back
+        from the end, stop by stop."""
         until, left = len(self.front) - 1, self.effort.work
         try:
             for stop in reversed(self.walked.stops):
@@ -113,7 +113,7 @@ class Case(NamedTuple):
         return last, walker.work
 
     def forced_by(self) -> Optional[Event]:
-        """The event from which on the fatal operation has taken place in each end. None where it can't be told."""
+        """The event from which on the fatal operation has taken place in each end. None if the walk cannot find it."""
         walker = Walker(self.model, UNBOUNDED, self.effort.work)
         try:
             for event in self.front[:-1]:
@@ -149,12 +149,12 @@ class Case(NamedTuple):
         return [event.value for event in self.legal_with(self.front[-1]._replace(kind="ok", value=answer) for answer in answers)]
 
     def as_a_failure(self) -> str:
-        """What the program says of a :fail in place of the :ok."""
+        """The program's reply to a :fail instead of the :ok."""
         failed = self.front[-1]._replace(kind="fail", value=self.fatal.invocation.value)
         return "Asked of jepmon: a :fail would have been legal." if self.legal_with([failed]) else ""
 
     def with_asked(self, said: str, answers: Sequence[Any]) -> str:
-        """The sentence about what was possible, with what the program says of these answers."""
+        """The sentence about the possible values, with the program's reply to these answers."""
         asked = answers[:ASKED]
         legal = self.with_answers(asked)
         if not legal:

@@ -3,9 +3,9 @@
     cause = explain(events, report, options)    # of what `program.check` said; None where that is no illegal and no unknown
     print("\n".join(lines(cause)))
 
-The verdict is the program's, and so is what is said of another answer: each is asked of it. What else the sentences say was found
-by the walk (objects/configurations.py), and is not proved. Where the walk gave up, or says another event than the program, only what the program
-said is told, or what is true of the smallest illegal part.
+The verdict is the program's, and so is what is said of another answer: each is asked of it. The walk (objects/configurations.py) finds
+everything else that the sentences say, and it is not proved. If the walk gave up, or says another event than the program, the sentences
+have only the program's replies, or facts about the smallest illegal part.
 """
 from __future__ import annotations
 
@@ -30,7 +30,7 @@ from .registers import of_register
 from .sets import of_set
 from .unknown import Over, of_unknown
 
-NOT_PROVED = "Proved are the verdict, and what jepmon was asked. The other sentences are not."
+NOT_PROVED = "The verdict and jepmon's answers are proved. The other sentences are not."
 BY_MODEL: Dict[str, Callable[[Case], Found]] = {
     "register": of_register,
     "cas-register": of_register,
@@ -56,7 +56,7 @@ class Cause(NamedTuple):
 
 
 class Named(Protocol):
-    """What numbered keys and values stand for, by number: as history.names.Names has it, or causes.names.Names."""
+    """The spellings of numbered keys and values, by number, from history.names.Names or causes.names.Names."""
 
     @property
     def keys(self) -> Mapping[int, str]: ...
@@ -68,10 +68,10 @@ class Named(Protocol):
 def explain(events: Sequence[Event], report: Report, options: Options, names: Named = Names(), program: Optional[str] = None,
             effort: Optional[Effort] = None, shrink: bool = True, known: Optional[Part] = None,
             faults: Sequence[Fault] = ()) -> Optional[Cause]:
-    """The cause of a verdict: the events are those of the whole history, report is what the program said of them with these
-    options. Most of the effort is for the smallest part; `shrink=False` leaves that out, and a part that is known to be illegal at the
-    same event takes its place. Of `faults` those are named that came before what it speaks of. None where the verdict is neither illegal nor unknown. A ProgramError comes where the program can't be
-    asked."""
+    """The cause of a verdict: the events are those of the whole history, report is what the program said of them with these options. Most
+    of the effort is for the smallest part; `shrink=False` leaves that out, and a part that is known to be illegal at the same event takes
+    its place. It names those `faults` that came before the operations in question. None where the verdict is neither illegal nor unknown. A
+    ProgramError comes where the program can't be asked."""
     line = next((line for line in report.keys if line.key == report.key), None)
     if line is None or line.index is None or report.word not in ("illegal", "unknown"):
         return None
@@ -100,7 +100,7 @@ def explain(events: Sequence[Event], report: Report, options: Options, names: Na
 
 def of_illegal(options: Options, front: List[Event], later: List[Event], names: Names, program: Optional[str],
                effort: Effort, faults: Sequence[Fault]) -> Optional[Found]:
-    """What there is to say of a key that is illegal at the last of these events; None where the walk does not come to that."""
+    """The sentences about a key that is illegal at the last of these events; None if the walk does not reach it."""
     made = operations(front, options.concurrency)
     fatal = next(operation for operation in made if operation.completion is front[-1])
     walked = follow(front, options, program, effort.work)
@@ -114,7 +114,7 @@ def of_illegal(options: Options, front: List[Event], later: List[Event], names: 
 
 
 def of_part_alone(found: Optional[Found]) -> Optional[Found]:
-    """What is said of the smallest part, where the whole has too many orders."""
+    """The sentences about the smallest part, if the whole has too many orders."""
     if found is None:
         return None
     proviso = "There were too many orders of the whole history to try within the limit of work: what follows is true of the part below by itself."
@@ -122,11 +122,11 @@ def of_part_alone(found: Optional[Found]) -> Optional[Found]:
 
 
 def untold(options: Options, front: List[Event], names: Names) -> Found:
-    """Where the walk gave up: what the program said, and no more."""
+    """The program's replies and no more, since the walk gave up."""
     fatal = next(operation for operation in operations(front, options.concurrency) if operation.completion is front[-1])
     where = names.object(options.model, front[-1].key)
     said = f"{capital(client(fatal))}'s {names.operation(fatal)} on {where} fits no order of the operations."
-    return Found(said, ["There were too many orders to try within the limit of work: which it might have fitted can't be told."], mentions([fatal]))
+    return Found(said, ["There were too many orders to try within the limit of work: nobody knows which one it might have fitted."], mentions([fatal]))
 
 
 # --- As text ---
@@ -151,7 +151,7 @@ def of_part(part: Part) -> List[str]:
         what = {1: "The only operation", 2: "Both operations"}.get(part.of, f"All {part.of} operations")
         return [f"{what} of the key up to there:"]
     which, verb = ("This one", "is") if part.operations == 1 else (f"These {part.operations}", "are")
-    asked = f"jepmon was asked {ordinal_times(part.checks)}{'' if part.finished else '; the limit of the search was met, and more might go out'}"
+    asked = f"jepmon was asked {ordinal_times(part.checks)}{'' if part.finished else '; the limit of the search was met, and more might be removed'}"
     said = [f"{which} of the key's {part.of} operations up to there {verb} illegal alone ({asked}):"]
     return said + ["    (of sets only the members that matter are shown)"] if part.values else said
 

@@ -1,5 +1,5 @@
-"""How much work the cause of a verdict may take. It is counted in steps and never by a clock, so that one history has one cause, on
-whatever machine and beside whatever else that does; and what was left out for it is said."""
+"""How much work the cause of a verdict may take. It counts steps and never a clock, so one history has one cause, on any machine under any
+load. A sentence names the parts that it left out."""
 from __future__ import annotations
 
 from typing import List
@@ -16,7 +16,7 @@ GAVE_UP = "Left out, since the limit of work was met: {}."
 
 
 class Effort:
-    """What is left of it for one key."""
+    """The rest of it for one key."""
 
     def __init__(self, whole: float = WHOLE, work: int = WORK) -> None:
         self.left = whole
@@ -31,7 +31,7 @@ class Effort:
         self._outcomes = min(max(1.0, walked.tried / max(1, len(walked.steps))), LEAN if is_wide else float("inf"))
 
     def may_ask(self, text: str, events: int) -> bool:
-        """Whether the program may be asked about this text, of so many events; that it is then asked is counted."""
+        """Whether the program may be asked about this text with its number of events; counts the question."""
         cost = ASKING + CHARACTER * len(text) + OUTCOME * self._outcomes * events
         if cost > self.left:
             return False
@@ -44,5 +44,5 @@ class Effort:
 
     @property
     def said(self) -> str:
-        """What was left out, as a sentence; nothing where nothing was."""
+        """The parts that were left out, as a sentence; nothing if there is none."""
         return GAVE_UP.format("; ".join(self.left_out)) if self.left_out else ""

@@ -1,4 +1,4 @@
-"""What needs no model: a :fail of what has certainly taken place, and an operation that the object does not have."""
+"""Failures that need no model: a :fail of an operation that has certainly taken place, and an operation that the object does not have."""
 from __future__ import annotations
 
 from typing import List
@@ -9,7 +9,7 @@ from .names import capital, client, listed
 
 
 def of_failure(case: Case) -> Found:
-    """Of an operation that was recorded as failed, though what others found shows that it took place."""
+    """Explains an operation that was recorded as failed, though other answers show that it took place."""
     forced = case.forced_by()
     told: List[Mention] = mentions([case.fatal])
     shown = case.names.operation(case.fatal)
@@ -28,7 +28,7 @@ def of_failure(case: Case) -> Found:
 
 
 def of_another_model(case: Case) -> Found:
-    """Of an operation that the object does not have."""
+    """Explains an operation that the object does not have."""
     names = {event.name for event in case.front}
     meant = [model for model, operations in MODELS.items() if names <= operations]
     name = case.fatal.invocation.name

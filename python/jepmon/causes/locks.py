@@ -12,7 +12,7 @@ from .names import capital, client, last_event, listed, span
 
 
 def of_mutex(case: Case) -> Found:
-    """Of an acquire while the lock was held, or a release while it was free."""
+    """Explains an acquire while the lock was held, or a release while it was free."""
     last = last_operations(case)
     told = mentions([case.fatal] + last)
     who = capital(client(case.fatal))
@@ -48,7 +48,7 @@ def of_free(case: Case, last: List[Operation]) -> str:
 
 
 def of_failed(case: Case) -> str:
-    """The acquires that failed, of which one may have taken place all the same."""
+    """The acquires that failed, though one may have taken place all the same."""
     failed = case.others("acquire", lambda operation: operation.outcome == "fail")
     if not failed:
         return ""
@@ -58,8 +58,8 @@ def of_failed(case: Case) -> str:
 
 
 def last_operations(case: Case) -> List[Operation]:
-    """Those of which one has taken place last, in each order that is possible just before the fatal event: acquires before an
-    acquire, releases before a release. None where none has taken place, or that can't be told."""
+    """Those of which one has taken place last, in each order that is possible just before the fatal event: acquires before an acquire,
+    releases before a release. None if none has taken place, or if the walk cannot find it."""
     events = [event._replace(value=event.index) for event in case.front[:-1]]
     walked = walk(events, BY_OPERATION, UNBOUNDED, case.effort.work)
     try:

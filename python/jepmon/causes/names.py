@@ -20,7 +20,7 @@ NOUNS = {
 
 
 class Names(NamedTuple):
-    """What numbered values and keys stand for: where a history was turned from another form, that form's own spelling, by number."""
+    """The spellings of numbered values and keys by number, if a history was turned from another form."""
 
     values: Mapping[int, str] = {}
     keys: Mapping[int, str] = {}
@@ -48,7 +48,7 @@ class Names(NamedTuple):
         return listed([self.value(value) for value in values], word)
 
     def operation(self, operation: Operation) -> str:
-        """What the operation was to do, or did, as "write of 3"."""
+        """The operation in words, as "write of 3"."""
         name, value = operation.invocation.name, operation.invocation.value
         if name == "cas" and isinstance(value, tuple):
             return f"cas from {self.value(value[0])} to {self.value(value[1])}"

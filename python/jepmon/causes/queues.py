@@ -1,4 +1,4 @@
-"""Queues: who had put a value in, who had taken it already, and what stood in front of it."""
+"""Queues: who had enqueued a value, who had taken it already, and which values were before it."""
 from __future__ import annotations
 
 from typing import List, Optional
@@ -12,7 +12,7 @@ FEW = 3  # operations that are listed
 
 
 def of_queue(case: Case) -> Found:
-    """Of a dequeue that answered what it can't have found."""
+    """Explains a dequeue that answered an impossible value."""
     value = case.answer
     enqueues = case.others("enqueue", lambda operation: bool(operation.invocation.value == value))
     real = [enqueue for enqueue in enqueues if enqueue.outcome != "fail"]
@@ -60,7 +60,7 @@ def taken_already(case: Case, real: List[Operation], taken: List[Operation]) -> 
 
 
 def out_of_order(case: Case, real: List[Operation]) -> Found:
-    """Of a queue in which it may have been, but not in front."""
+    """Explains a queue that may have held the value, but not as its first one."""
     shown, value = case.names.value(case.answer), case.answer
     first = passed_over(case, real)
     if first is not None:
@@ -80,8 +80,8 @@ def out_of_order(case: Case, real: List[Operation]) -> Found:
 
 
 def passed_over(case: Case, real: List[Operation]) -> Optional[Operation]:
-    """An enqueue of what can have been in front, which had returned before each enqueue of the value that was taken began, and which
-    no dequeue has answered. None where a dequeue without an answer may have taken it."""
+    """An enqueue of a possible first value. It had returned before each enqueue of the dequeued value began, and no dequeue has answered
+    its value. None where a dequeue without an answer may have taken it."""
     dequeues, fronts = case.others("dequeue", lambda operation: operation.outcome != "fail"), case.findings()
     if any(dequeue.outcome != "ok" for dequeue in dequeues):
         return None
@@ -91,7 +91,7 @@ def passed_over(case: Case, real: List[Operation]) -> Optional[Operation]:
 
 
 def other_answers(case: Case) -> List[str]:
-    """What the dequeue can have found, and what the program says of that."""
+    """The values that the dequeue can have found, and the program's reply to them."""
     found = case.findings()
     if not found:
         return [f"{capital(case.while_open)}, there was nothing that it can have found.", case.as_a_failure()]

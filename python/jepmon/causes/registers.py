@@ -1,4 +1,4 @@
-"""Registers: what the register held, who wrote the value that was found, and what ended it."""
+"""Registers: the value of the register, the writer of the value that was found, and the write that ended it."""
 from __future__ import annotations
 
 from typing import List, Optional
@@ -10,7 +10,7 @@ from .names import capital, client, last_event, span
 
 
 def of_register(case: Case) -> Found:
-    """Of a read that answered a value, or a cas that found it, where the register can't have held it."""
+    """Explains a read that answered a value, or a cas that found it, where the register can't have held it."""
     value = wanted(case.fatal)
     if value is None:
         return of_strange_answer(case)
@@ -57,19 +57,19 @@ def value_of(event: Event) -> Optional[int]:
 
 
 def of_failed(case: Case, value: int, failed: List[Operation]) -> Found:
-    """Of a value that only operations brought in which failed."""
+    """Explains a value that only failed operations wrote."""
     shown = case.names.value(value)
     if len(failed) == 1:
         head = f"{did(case, value)}, but {case.names.owned(failed[0])} had failed (event {last_event(failed[0])})."
     else:
         head = f"{did(case, value)}, but each write of {shown} had failed."
-    said = f"What failed did not take place, and {shown} can have come from nothing else then."
+    said = f"A failed operation did not take place, and {shown} can have come from nothing else then."
     told = mentions([case.fatal] + failed[-2:], {operation.invocation.index: "it did not take place" for operation in failed})
     return Found(head, [while_open(case, value), said], told)
 
 
 def while_open(case: Case, value: int) -> str:
-    """What the register held, and what the program says of that as an answer."""
+    """The value of the register, and the program's reply to that value as an answer."""
     held = case.held()
     if not held:
         return case.as_a_failure()

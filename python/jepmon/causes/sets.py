@@ -1,4 +1,4 @@
-"""Sets: what a read lacks, and what is strange in it."""
+"""Sets: the members that a read lacks, and the strange ones in it."""
 from __future__ import annotations
 
 from typing import AbstractSet, FrozenSet, List
@@ -10,13 +10,13 @@ from .names import capital, client, last_event, span
 
 
 def of_set(case: Case) -> Found:
-    """Of a read that answered what the set can't have been."""
+    """Explains a read with an impossible answer of the set."""
     answer = case.answer
     if not isinstance(answer, frozenset):
         shown = case.names.value(answer)
         counter = "Reads answered by integers are of a register, or of a counter, which jepmon does not judge."
         hint = [] if answer is None else [counter]
-        return Found(f"{capital(client(case.fatal))}'s read of {case.object} answered {shown}, which is no answer of a set.",
+        return Found(f"{capital(client(case.fatal))}'s read of {case.object} answered {shown}, which is not an answer of a set.",
                      hint, mentions([case.fatal]))
     found = [finding for finding in case.findings() if isinstance(finding, frozenset)]
     lacking = frozenset.intersection(*found) - answer if found else frozenset()
@@ -94,7 +94,7 @@ def adds_of(case: Case, value: int) -> List[Operation]:
 
 
 def other_answers(case: Case, answer: FrozenSet[int], found: List[FrozenSet[int]]) -> List[str]:
-    """What the program says of the answer that differs least from the one that was given."""
+    """The program's reply to the answer that differs least from the given one."""
     nearest = sorted(found, key=lambda finding: (len(finding ^ answer), len(finding), sorted(finding)))
     legal = case.with_answers(nearest[:1])
     return [f"Asked of jepmon: {difference(case, answer, legal[0])} it would have been legal."] if legal else []

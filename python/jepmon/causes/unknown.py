@@ -80,7 +80,7 @@ def note_of(operation: Operation, factors: Dict[int, float]) -> str:
 
 
 def may_still_take_place(operation: Operation, index: int) -> bool:
-    """Whether it is open, or has timed out and is no read, just before this event."""
+    """Whether it is open, or has timed out and is not a read, just before this event."""
     if operation.completion is None or operation.completion.index == index:
         return True
     return operation.outcome == "info" and operation.invocation.name != "read"
@@ -133,7 +133,7 @@ def shown_with(over: Over, operation: Operation, factors: Dict[int, float]) -> s
 
 
 def advice(over: Over, pending: List[Operation]) -> str:
-    """What may be done in the next test."""
+    """Advice for the next test."""
     noun, timed_out = NOUNS[over.model], sum(operation.outcome == "info" for operation in pending)
     hints: List[str] = []
     if over.is_wide:
@@ -158,7 +158,7 @@ def note_of_program(over: Over) -> str:
 
 
 def with_greatest_budget(over: Over) -> str:
-    """What the program says of the key with the greatest budget, if a walk comes to an end with it."""
+    """The program's reply for the key with the greatest budget, if a walk comes to an end with it."""
     if over.options.budget >= GREATEST:
         return ""
     walked = walk(over.whole, over.model, GREATEST, over.effort.work)

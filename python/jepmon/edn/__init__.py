@@ -1,8 +1,9 @@
-"""Reads EDN, element by element, from a text or from a file in pieces: the one reader of all tools.
+"""Reads EDN, element by element, from a text or from a file in pieces: the reader of all tools.
 
 It reads the whole of EDN as Jepsen writes it: tags and metadata are passed over, so that an element counts without them. With
-`profile=True` it reads what the program `jepmon` reads and nothing else (docs/FORMATS.md, Text), and says what is outside of that.
-An atom is its own spelling, a collection is a Many. What can't be read is Unreadable, with its line and the reason.
+`profile=True` it reads what the program `jepmon` reads and nothing else (docs/FORMATS.md, Text), and says what is outside of that. An atom
+is its own spelling, a collection is a Many. Text that can't be read raises Unreadable, with its line and the reason. Shards read bytes by a
+reader of their own for speed (shards/reading.py), which test_edn_readers.py compares with this one.
 """
 from __future__ import annotations
 
@@ -208,7 +209,7 @@ class Reader:
                 yield piece, begun, is_last
 
     def _all_pieces(self) -> Iterator[Tuple[str, bool]]:
-        """The pieces, and of each whether it is the last one. One begins with what was left of the one before it."""
+        """The pieces, and of each whether it is the last one. A piece begins with the rest of the piece before it."""
         self._piece = next(self._pieces, "")
         following = next(self._pieces, None)
         while following is not None:

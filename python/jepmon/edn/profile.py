@@ -1,4 +1,4 @@
-"""What the program `jepmon` reads of EDN (docs/FORMATS.md, Text), token by token, and in words what is outside of that."""
+"""The part of EDN that the program `jepmon` reads (docs/FORMATS.md, Text), token by token, and in words the tokens outside of that."""
 from __future__ import annotations
 
 import re
@@ -15,7 +15,7 @@ STRING = r'"(?:[^"\\]|\\[trn\\"])*"'
 SPELLED = r'\\.[^ \t\r\n,;"\[\]{}()]*|"|\(|\)|[^ \t\r\n,;"\[\]{}()]+'
 OTHER_SPACE = r"[^\S \t\r\n]"  # white space that is none to the program
 
-# What a token that is outside may be, by its spelling.
+# The kind of a token that is outside, by its spelling.
 OUTSIDE = (
     (r".*\ufffd.*", "bytes that are no UTF-8"),
     (r".*\s.*", "text with white space that is neither a space, a tab nor the end of a line"),
@@ -52,7 +52,7 @@ class Profile:
         return (text in MARKS or self._token.fullmatch(text) is not None) and not self._has_space
 
     def outside(self, token: Match[str], places: Iterable[int]) -> Optional[Tuple[int, str]]:
-        """What is outside of a token whose atoms begin at these places, and where; None where nothing is."""
+        """The part of a token that is outside the profile, and its place, if its atoms begin at these places; None if nothing is."""
         space = self._space.search(self._piece, token.start(), token.end() if places else token.start(1))
         for place in sorted([*places, space.start()] if space else places):
             reason = reason_of(self._piece, place)

@@ -30,7 +30,7 @@ def spelling(value: Value) -> str:
 
 
 def shown(value: Value, most: int = 160) -> str:
-    """The value's text, on one line, cut after so many characters."""
+    """The value's text, on one line, cut after `most` characters."""
     text = spelling(value).replace("\n", "\\n")
     return text if len(text) <= most else text[:most] + " .."
 
@@ -66,7 +66,7 @@ def comparable(value: Value) -> Value:
 
 
 def string(text: str) -> str:
-    """What a string of the profile says, which stands in quotes."""
+    """The content of a string of the profile, which is in quotes."""
     return re.sub(r"\\(.)", lambda escape: ESCAPES.get(escape[1], escape[1]), text[1:-1], flags=re.S)
 
 

@@ -18,7 +18,7 @@ class Options(NamedTuple):
 
 
 class Event:
-    """An element as an event: what it has none of is None."""
+    """An element as an event: its missing fields are None."""
 
     def __init__(self, index: int, element: Element) -> None:
         self.index, self.line, self.element = index, element.line, element
@@ -57,7 +57,7 @@ class Shower:
         return f"{mark:4}event {event.index}, line {event.line}{client}: {text[:LONGEST]}"
 
     def client(self, process: Optional[int]) -> str:
-        """Who a process is: after an operation that timed out its client goes on as another one."""
+        """The name of a process: after an operation that timed out its client goes on as another one."""
         if process is None or process < self.concurrency:
             return f"process {process}"
         return f"client {process % self.concurrency} (process {process})"

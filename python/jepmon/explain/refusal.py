@@ -1,4 +1,4 @@
-"""Why jepmon refuses an event: what the check answers by `refused N NAME event I`."""
+"""Why jepmon refuses an event: the reasons for `refused N NAME event I`."""
 from __future__ import annotations
 
 from typing import Iterator, Sequence
@@ -10,7 +10,7 @@ from ..tools.command import tool
 from .event import Event, Options, Shower, open_at
 
 def many_clients() -> str:
-    return f"{THREADS} is the limit; {tool('from-jepsen')} numbers the processes anew, so that {THREADS} operations may be open at once"
+    return f"{THREADS} is the limit; {tool('from-jepsen')} numbers the processes again, so that {THREADS} operations may be open at once"
 
 
 def of_refusal(number: int, events: Sequence[Event], index: int, options: Options, shower: Shower) -> Iterator[str]:
@@ -25,7 +25,7 @@ def of_refusal(number: int, events: Sequence[Event], index: int, options: Option
     elif number == 3:
         yield f"{who} has no operation open: was its invocation left out?"
     elif number == 4:
-        yield "a completion has the name, the key and the part of its invocation, but for the answer of a read or a dequeue:"
+        yield "a completion has the name, the key and the part of its invocation, except for the answer of a read or a dequeue:"
         yield from (shower.event(began) for began in open_at(events, index) if began.process == event.process)
     elif number == 5:
         yield fault_of(event.element.value)

@@ -1,4 +1,4 @@
-"""What is said beside the last line of a check."""
+"""The notes on the last line of a check."""
 from __future__ import annotations
 
 from typing import Iterator
@@ -11,7 +11,7 @@ from .verdict import of_legal, of_verdict
 
 
 def said(reply: str, raw: bytes, options: Options) -> Iterator[str]:
-    """What is said beside this last line of a check of these bytes."""
+    """The notes on this last line of a check of these bytes."""
     words = reply.split()
     if words[:1] == ["refused"] and words[2:3] == ["Unreadable"]:
         yield from of_unreadable(raw, int(words[3]))

@@ -2,10 +2,10 @@
 
     {tool} history.edn --concurrency 5 --model cas-register
 
-It runs the check with these options and prints what it prints, and on standard error what its last line speaks of in the file:
-the line, the event, what was open then, and what may have been meant. Nothing of what it says is proved; the verdict is
-jepmon's own, and so is the exit status; whatever else there is, as no program or no verdict, ends with 3. It takes the program
-that JEPMON names, else the one built or released in this repository, else jepmon on the PATH.
+It runs the check with these options and prints its output. On standard error it prints the context of the last line: the line in the file,
+the event, the open operations, and the event that may have been meant. Its notes are not proved; the verdict is jepmon's own, and so is the
+exit status. Everything else, as a missing program or no verdict, ends with 3. It takes the program that JEPMON names, else the one built or
+released in this repository, else jepmon on the PATH.
 """
 from __future__ import annotations
 

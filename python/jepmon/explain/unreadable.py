@@ -1,4 +1,4 @@
-"""Why jepmon can't read a file: what the check answers by `refused 11 Unreadable PLACE`."""
+"""Why jepmon can't read a file: the reasons for `refused 11 Unreadable PLACE`."""
 from __future__ import annotations
 
 import re
@@ -13,7 +13,7 @@ DELIMITER = r'[ \t\r\n,;"\[\]{}]'
 
 
 def of_unreadable(raw: bytes, place: int) -> Iterator[str]:
-    """Why the bytes are no text of the profile. The place is the length of the longest front that is one."""
+    """Why the bytes are not a text of the profile. The place is the length of the longest prefix that is one."""
     whole = of_encoding(raw)
     if whole is not None:
         yield whole

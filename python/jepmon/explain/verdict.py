@@ -1,4 +1,4 @@
-"""What a verdict speaks of: the last events of its key, the model that may have been meant, where an answer may come from."""
+"""The context of a verdict: the last events of its key, the model that may have been meant, and the possible origin of an answer."""
 from __future__ import annotations
 
 import collections
@@ -35,7 +35,7 @@ def of_verdict(word: str, events: Sequence[Event], key: int, index: int, options
 
 
 def of_sources(of_key: Sequence[Event], options: Options, shower: Shower) -> Iterator[str]:
-    """Where the answer of the key's last event may come from: from an operation that failed, or from none that was told."""
+    """The possible origin of the answer of the key's last event: an operation that failed, or none."""
     answer, source = of_key[-1], SOURCES.get(options.model)
     if answer.kind != "ok" or answer.name not in ("read", "dequeue") or source is None:
         return
@@ -85,7 +85,7 @@ def answered(event: Event) -> List[int]:
 
 
 def of_many_ends(of_key: Sequence[Event], options: Options) -> Iterator[str]:
-    """What may be done where the last of the key's events met more ends than the budget."""
+    """The options of the user if the last of the key's events met more ends than the budget."""
     if any(event.name == "enqueue" for event in of_key):
         completed = [event.name for event in of_key[:-1] if event.kind == "ok"]
         yield (f"{completed.count('enqueue')} enqueues and {completed.count('dequeue')} dequeues had completed; "
@@ -139,7 +139,7 @@ def of_model(of_key: Sequence[Event], whole: Sequence[Event], options: Options) 
 
 
 def of_answer(read: Event, options: Options) -> Iterator[str]:
-    """Where a read is answered by what is no state of the key's object, whatever it holds."""
+    """Finds a read whose answer is not a state of the key's object, whatever it holds."""
     answer = "an integer" if integer(read.part) is not None else "a set" if is_set(read.part) else "nil"
     if options.model == "set" and answer != "a set":
         yield f"key {read.key} is judged as a set, and this read answers {answer}"

@@ -3,7 +3,7 @@ from __future__ import annotations
 
 
 class Refused(Exception):
-    """A history can't be judged, for the reason that is told in one line."""
+    """A history can't be judged, for the reason in one line."""
 
 
 class Beyond(Refused):

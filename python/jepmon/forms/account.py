@@ -19,7 +19,7 @@ from typing import Counter, Iterator, List, NamedTuple
 
 from . import Refused
 
-# What a guess may be of.
+# The subjects of guesses.
 MODEL, KEY, CLIENT, UNIT, ORDER, TYPE, ABSENT, OUTCOME = (
     "the model", "the key", "the client", "the unit of time", "the order", "the type of values", "the absent value", "the outcome")
 
@@ -36,7 +36,7 @@ class Guess(NamedTuple):
 
 
 class Account:
-    """What became of the lines of an input, and what was assumed of it."""
+    """How many lines of an input were used or skipped, and the guesses about it."""
 
     def __init__(self) -> None:
         self.lines = 0  # of the input, once it is closed
@@ -63,7 +63,7 @@ class Account:
         self._latest = 0
 
     def took_none(self, reason: str, first: int, last: int) -> None:
-        """Records the lines of what is no event, with the reason; those that hold a part of one too are not counted again."""
+        """Records lines that are not events, with the reason. It does not count again those that hold a part of an event too."""
         if last > self._until:
             self.skip(reason, last - max(first - 1, self._until))
             self._until = last
@@ -85,7 +85,7 @@ class Account:
             self.fields.append(name)
 
     def skip_to(self, line: int, reason: str, comments: int = 0) -> None:
-        """Records the lines between the last one taken and this one, of which so many are comments."""
+        """Records the lines between the last one taken and this one, with the number of comments among them."""
         if line > self._until + 1:
             self.skip(reason, line - 1 - self._until - comments)
             self.skip("comment", comments)
@@ -109,7 +109,7 @@ class Account:
             self.field(name)
 
     def told(self) -> Iterator[str]:
-        """What is said of the lines, and of each guess."""
+        """The sentences about the lines, and about each guess."""
         if self.skipped:
             reasons = ", ".join(f"{count} {reason}" for reason, count in self.skipped.items())
             yield f"{self.lines} lines, {self.taken} of events; skipped: {reasons}"

@@ -1,4 +1,4 @@
-"""What the answer of an operation that has none says: whether it took place."""
+"""Whether an operation took place, if it has an answer of its own that denies it."""
 from __future__ import annotations
 
 from typing import Any, Counter, Optional
@@ -47,7 +47,7 @@ def completed(told: Told, kind: str, name: Optional[str], counts: Counter[str]) 
     if kind != "ok":
         return kind
     if told.outcome is not None and told.outcome != "ok":
-        counts[f"completions that say of themselves that they are no ok, as :{told.outcome}"] += 1
+        counts[f"completions that say of themselves that they are not ok, as :{told.outcome}"] += 1
         return told.outcome
     if name not in UNANSWERED:
         return kind
@@ -56,5 +56,5 @@ def completed(told: Told, kind: str, name: Optional[str], counts: Counter[str]) 
         said = told.value
     found = answered(told.line, name, said) if said is not MISSING and said is not None else None
     if found is not None:
-        counts[f"completions whose answer says that they are no ok, as :{found}"] += 1
+        counts[f"completions whose answer says that they are not ok, as :{found}"] += 1
     return found or kind

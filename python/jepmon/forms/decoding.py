@@ -36,16 +36,16 @@ def pieces_of(file: BinaryIO) -> Iterator[bytes]:
 
 
 def texts_of(pieces: Iterable[bytes]) -> Iterator[str]:
-    """The text of these bytes, in pieces of whole lines. Refuses what is no text."""
+    """The text of these bytes, in pieces of whole lines. Refuses bytes that are not text."""
     place = 0
     for raw in whole_lines(plain(pieces)):
         try:
             text = raw.decode("utf-8")
         except UnicodeDecodeError as fault:
-            raise Refused(f"it is no text: byte {place + fault.start} is no UTF-8") from fault
+            raise Refused(f"it is not text: byte {place + fault.start} is not UTF-8") from fault
         if "\0" in text:
             at = place + raw.index(0)
-            raise Refused(f"it is no text: a byte of it is 0, the first at place {at} (is it binary, or UTF-16?)")
+            raise Refused(f"it is not text: a byte of it is 0, the first at place {at} (is it binary, or UTF-16?)")
         place += len(raw)
         yield text
 
@@ -81,7 +81,7 @@ def joined(front: bytes, pieces: Iterator[bytes]) -> Iterator[bytes]:
 
 
 def unpacked(pieces: Iterator[bytes]) -> Iterator[bytes]:
-    """The bytes out of gzip, also of several parts. Of little that becomes much, some is made at a time."""
+    """The bytes out of gzip, also of several parts. If little becomes much, it makes some at a time."""
     inflate = zlib.decompressobj(wbits=31)
     for piece in pieces:
         try:

@@ -8,7 +8,7 @@ from . import Refused, log_rows, logs, rows, tables
 NOTHING, EDN, JSON, CSV, LOG, LOGFMT, LINES, TABLE = "nothing", "EDN", "JSON", "CSV", "log", "logfmt", "a log by a mapping", "a table"
 
 GAP = re.compile(r"(?:[\s,]+|;[^\n]*)*")
-# The front of a JSON text that has an object: a name in quotes, and a colon that begins no keyword of EDN.
+# The beginning of a JSON text that has an object: a name in quotes, and a colon that begins no keyword of EDN.
 OBJECT = re.compile(r'[\[{][\s\[{]*"(?:[^"\\]|\\.)*"\s*:[^A-Za-z]')
 EDN_BEHIND = re.compile(r"[\s,;]*[({\[#][\s{\[]*[:#;]")
 REPR = re.compile(r"[\[({][\s\[({]*'[^'\n]*'\s*:")
@@ -47,5 +47,5 @@ def form_of(text: str) -> str:
     if YAML.match(text, begin):
         raise Refused("this is YAML: let the test print JSON, or turn it into JSON")
     shown = text[begin:begin + 60].split("\n", 1)[0]
-    raise Refused(f"this is no form of a history that is known: it begins with {shown!r}; --mapping FILE reads the lines of a log by a "
+    raise Refused(f"this is not a form of a history that is known: it begins with {shown!r}; --mapping FILE reads the lines of a log by a "
                   "regular expression")

@@ -1,7 +1,7 @@
 """The one front door: which form a history has, and what is made of it, for each tool that takes one.
 
-A history in jepmon's own form is judged as it stands (own.py, or jepmon.shards). Any other one becomes a Translation, event by event,
-of which one check or shards are given what they take.
+A history in jepmon's own form is judged as it stands (own.py, or jepmon.shards). Any other history becomes a Translation, event by event.
+One check, or shards, get the part that they take.
 """
 from __future__ import annotations
 
@@ -39,7 +39,7 @@ LONGEST = 200  # lines that one event of it may take
 
 
 class Options(NamedTuple):
-    """What is said of the history."""
+    """The options about the history."""
 
     key: Optional[str] = None  # the key of a history without keys
     nil_is_absent: bool = False
@@ -60,7 +60,7 @@ class Options(NamedTuple):
 
     @property
     def first(self) -> Optional[Value]:
-        """What each register holds at first, as it is judged; none if that is a missing key."""
+        """The first value of each register, as it is judged; none if that is a missing key."""
         value = None if self.initial is None else self.meant.value(spelled(self.initial))
         return None if value == "nil" else value
 
@@ -133,7 +133,7 @@ class Translation:
         return written(self.history, self.nil_is_absent, OF_SHARDS if in_shards else Limits(), self.initial)
 
     def beside(self, wanted: Set[int], begun: int) -> Dict[int, Dict[str, Any]]:
-        """What the events of these indices say of when they came, and of errors; so many events come before the history's own."""
+        """The times and errors of the events of these indices; `begun` events come before the history's own."""
         rows = {index: row for index, row in self._rows(begun) if index in wanted and len(row) > 2}
         if self._texts is None:
             return {index: {name: said for name, said in zip(FURTHER, row[7]) if said is not None} for index, row in rows.items() if row[7] is not None}
@@ -161,7 +161,7 @@ class Translation:
 
 
 def translated(source: Source, form: str, options: Options) -> Translation:
-    """What is made of a history that is not in jepmon's own form."""
+    """The translation of a history that is not in jepmon's own form."""
     account = Account()
     if form == JEPSEN:
         _refuse_others(source.front, options)

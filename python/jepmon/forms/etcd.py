@@ -1,7 +1,7 @@
 """Operations of etcd as its robustness tests record them for Porcupine: puts, deletes and ranges of one key each.
 
-Transactions with conditions or over several keys, ranges over several keys and of old revisions, and leases are of a model of
-their own, which those tests check; they are refused by name. Defragmentations and compactions change no key, and are left out.
+Transactions with conditions or over several keys, ranges over several keys and of old revisions, and leases have a model of their own.
+Those tests check it, and the tool refuses such operations by name. Defragmentations and compactions change no key, and are left out.
 """
 from __future__ import annotations
 
@@ -75,7 +75,7 @@ def _list(row: Row, fields: Dict[str, Any], name: str) -> List[Dict[str, Any]]:
     """The objects in a field."""
     inner = fields.get(name) or []
     if not isinstance(inner, list) or not all(isinstance(member, dict) for member in inner):
-        raise Refused(f"line {row.line}: its {name} is no list of objects")
+        raise Refused(f"line {row.line}: its {name} is not a list of objects")
     return [named(member) for member in inner]
 
 

@@ -24,8 +24,9 @@ class _Note:
 
 
 def of_nemesis(left: Iterable[Left], before: int) -> List[Fault]:
-    """The faults of which a Jepsen nemesis tells, so many events coming before the history's own. Each of its operations stands there
-    twice, when it began and when it was done: a fault holds from the beginning of what begins it to the end of what ends it."""
+    """The faults that a Jepsen nemesis records. `before` events come before the history's own. The history has each of its operations
+    twice, at its begin and at its end. A fault holds from the begin of the operation that starts it to the end of the operation that ends
+    it."""
     begun: Dict[str, Left] = {}
     made: List[_Note] = []
     for event in left:
@@ -44,7 +45,7 @@ def _note(before: int, first: Left, last: Left) -> _Note:
 
 
 def of_notes(made: Sequence[_Note]) -> List[Fault]:
-    """The faults of what a nemesis did: each holds to what ends it, or to the end of the history; else it is a moment."""
+    """The faults of a nemesis: each holds until the operation that ends it, or until the end of the history; else it is a moment."""
     faults: List[Fault] = []
     held: Dict[int, str] = {}  # the names of those that hold, by their places among the faults
     for note in made:

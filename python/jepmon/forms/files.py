@@ -157,7 +157,7 @@ def found(word: str) -> Source:
 
 
 def opened(word: str, notes: Sequence[str] = ()) -> Source:
-    """The history in a file, or in standard input; what can't be opened is an OSError."""
+    """The history in a file, or in standard input; a file that can't be opened is an OSError."""
     if word == "-":
         return of_pipe("standard input", _standard_input())
     if os.path.isfile(word):

@@ -19,7 +19,7 @@ from .written import Writer, element, value_of, word
 
 
 class Interval(NamedTuple):
-    """An operation: what it asked and what came."""
+    """An operation: its invocation and its answer."""
 
     line: int
     client: Any

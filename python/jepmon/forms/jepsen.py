@@ -1,4 +1,4 @@
-"""What is told of a history in Jepsen's form, or one that was made into it, beside its events."""
+"""The notes on a history in Jepsen's form, or on one that was made into it, in addition to its events."""
 from __future__ import annotations
 
 from typing import Iterator
@@ -8,7 +8,7 @@ from ..from_jepsen.notes import clients_of
 
 
 def notes_of(found: Turned) -> Iterator[str]:
-    """What was left out or changed."""
+    """The skipped or changed parts."""
     history = found.history
     yield from clients_of(history.clients)
     yield from (f"{note}: {count}" for note, count in history.notes.items())

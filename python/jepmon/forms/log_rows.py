@@ -28,7 +28,7 @@ def of_logfmt(texts: Iterable[str], mapping: Mapping, account: Account) -> Itera
         while place < len(line):
             found = PAIR.match(line, place)
             if found is None:
-                raise Refused(f"line {number}: this is no name=value of logfmt: {line[place:place + 40]!r}")
+                raise Refused(f"line {number}: this is not name=value of logfmt: {line[place:place + 40]!r}")
             name, quoted, bare = found.groups()
             if name in fields:
                 raise Refused(f"line {number}: {name} stands there twice")

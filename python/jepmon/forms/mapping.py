@@ -1,4 +1,4 @@
-"""What a user says of the rows of a history: by --map, --ignore, --time-unit, --order, --skew, and by a mapping file.
+"""The user's words about the rows of a history: --map, --ignore, --time-unit, --order, --skew, and a mapping file.
 
 A mapping file is an object of JSON. All its members may be left out; docs/FORMATS.md shows them.
 
@@ -27,7 +27,7 @@ MEMBERS = ("fields", "ignore", "rows", "line", "columns", "operations", "outcome
 
 
 class Mapping(NamedTuple):
-    """What is said of the rows. Names of fields and words are plain."""
+    """The user's words about the rows. Names of fields and words are plain."""
 
     fields: Map[str, Slot] = {}
     ignored: "frozenset[str]" = frozenset()
@@ -57,7 +57,7 @@ class Mapping(NamedTuple):
 
 
 def slot_named(name: str, place: str) -> Slot:
-    """What an accepted name means."""
+    """The meaning of an accepted name."""
     if name in MEANINGS:
         return slot_of(name) or Slot(name, None, 0)
     slot = slot_of(name)

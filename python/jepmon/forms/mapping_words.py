@@ -43,7 +43,7 @@ def _contradiction(words: str) -> Tuple[str, str]:
 
 
 def of_order(given: argparse.Namespace) -> Mapping:
-    """What the options of any form say."""
+    """The options of any form."""
     if given.skew is not None:
         nanoseconds(given.skew)  # which refuses what is none
     made = Mapping(order=given.order, skew=given.skew, clients=given.clients, contradictions=dict(given.outcome))

@@ -1,4 +1,4 @@
-"""What a row says: it is an event, or an operation with the times of its call and its return."""
+"""The meaning of a row: it is an event, or an operation with the times of its call and its return."""
 from __future__ import annotations
 
 import re
@@ -57,7 +57,7 @@ class Reader:
         self._by_duration: Optional[bool] = None  # whether returns are calls and durations
 
     def told(self, row: Row) -> Optional[Told]:
-        """What a row tells; None if it names no client, operation, key or value."""
+        """The content of a row; None if it names no client, operation, key or value."""
         line = row.line
         shape, fields = self.shapes.of(line, row.fields)
         uses = shape.uses
@@ -170,7 +170,7 @@ class Reader:
         return None, operation, (use.name, word[1], kind)
 
     def operation(self, line: int, said: Any) -> str:
-        """The operation that a word names. What no object has keeps its name, and is refused by it later."""
+        """The operation that a word names. A word that no object has keeps its name, and is refused by it later."""
         found = self._words.get(said) if isinstance(said, (str, int)) else None
         if found is not None:
             return found

@@ -1,5 +1,5 @@
-"""What is known of the order of events in which some clients come behind all others, as in files put one behind the other: with times only
-that of clocks, without them none. All times are of one clock."""
+"""The known order of events in which some clients come behind all others, as in files put one behind the other. With times it is only that
+of clocks, and without them there is none. All times are of one clock."""
 from __future__ import annotations
 
 import array
@@ -60,7 +60,7 @@ class Blocks:
             self.take(client, line + place, times[place] if times else None)
 
     def close(self, account: Account) -> None:
-        """Tells the account what is guessed of the order; one of which nothing is known is refused, but for few events."""
+        """Records the guess about the order. It refuses a file without any order, except for a few events."""
         if self._is_ordered or len(self._starts) < 2:
             return
         if self._timed == self._count:

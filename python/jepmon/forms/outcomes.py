@@ -16,7 +16,7 @@ Said = Tuple[str, Any, str]  # the name of a field, what it says, and the outcom
 
 
 def truth(line: int, name: str, field: Any) -> Optional[bool]:
-    """What a flag says, in whatever way a language prints it. None if it says nothing."""
+    """The value of a flag, in whatever way a language prints it. None if it says nothing."""
     if field is None or field is True or field is False:
         return field
     word = str(field).strip().lower() if isinstance(field, (str, int, float)) else None
@@ -91,7 +91,7 @@ class Outcomes:
                 continue
             outcome = self.word(field)
             if outcome is None or outcome == "invoke":
-                raise Refused(f"line {line}: {shown(use.name)} is {short(field)}, which is no outcome: it is none of ok, fail, info; say what it is "
+                raise Refused(f"line {line}: {shown(use.name)} is {short(field)}, which is not an outcome: it is none of ok, fail, info; say what it is "
                               f'by "outcomes" of a mapping file, or --ignore {shown(use.name)}')
             yield use.name, field, outcome
 

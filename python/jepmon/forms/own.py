@@ -1,7 +1,7 @@
-"""jepmon's own form, an event a line: what its lines tell, read fast. What is taken for it the program takes too.
+"""jepmon's own form, an event a line: a fast reader of its lines. The program accepts everything that this reader accepts.
 
-Between the events may stand comments, notes of faults (#_{..}), and the commands of a log of `jepmon script`: [:model k m] and
-[:budget k n] say what a key is, and [:rewind n] takes events back.
+Between the events there may be comments, notes of faults (#_{..}), and the commands of a log of `jepmon script`. There [:model k m] and
+[:budget k n] say what a key is, and [:rewind n] removes events.
 """
 from __future__ import annotations
 
@@ -38,7 +38,7 @@ Opened = Dict[str, Tuple[str, str, str]]  # the operation of each process that i
 
 
 class KeyFacts:
-    """What the events of a key tell of what it is."""
+    """The facts in the events of a key about its object."""
 
     def __init__(self) -> None:
         self.names: Set[str] = set()
@@ -62,7 +62,7 @@ def possible(facts: KeyFacts) -> List[str]:
 
 
 class Facts:
-    """What the events of a history tell."""
+    """The facts in the events of a history."""
 
     def __init__(self) -> None:
         self.keys: Dict[int, KeyFacts] = {}
@@ -147,7 +147,7 @@ class _Scan:
 
 
 def facts_of(events: List[str], numbers: List[int]) -> Optional[Facts]:
-    """What these lines tell, where each is an event that the program takes after those before it."""
+    """The events in these lines, if each is an event that the program takes after those before it."""
     facts, opened = Facts(), {}  # type: Facts, Opened
     keys, infos, count = facts.keys, facts.infos, facts.outcomes
     had_value: Dict[str, bool] = {}  # whether the key of each process's operation had a value as that began
@@ -205,8 +205,8 @@ def _is_index(further: str, index: int) -> bool:
 
 
 def _may_come(opened: Opened, kind: str, process: str, name: str, key: str, part: str) -> bool:
-    """Whether this event of a client may come after those that opened these operations. One that completes repeats its invocation, but
-    for an answer."""
+    """Whether this event of a client may come after those that opened these operations. A completion repeats its invocation, except for an
+    answer."""
     wanted = TOLD.get(name)
     begins = part[0] if part[0] in (NIL, PAIR, SET) else NUMBER
     if kind == "ok" and name in ANSWERS:

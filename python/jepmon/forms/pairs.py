@@ -1,8 +1,7 @@
 """Rows that are events and do not stand in the order of their times, as where the files of several clients stand one behind the other.
 
-The events of each client stand in their order. They are paired by client into operations with a call and a return, and these are
-ordered by their times, as any other operations (intervals.py): if one returns at the time at which another is called, they count as
-open at once.
+The events of each client stand in their order. They are paired by client into operations with a call and a return, which go by their times,
+as any other operations (intervals.py). If one returns at the time at which another is called, they count as open at once.
 """
 from __future__ import annotations
 
@@ -68,7 +67,7 @@ class Pairs:
         if is_nemesis(told):
             return told
         if told.client is MISSING or not isinstance(told.client, (int, str)):
-            raise Refused(f"line {told.line}: this event has no client, by which events are paired whose times go back; say --map FIELD=client")
+            raise Refused(f"line {told.line}: this event has no client, which pairs events whose times go back; say --map FIELD=client")
         if told.time is None:
             where = f"times go back in line {self._first_back}" if self._first_back else "events are ordered by their times"
             raise Refused(f"line {told.line}: this event has no time, and {where}: which came first?")

@@ -64,7 +64,7 @@ def of_translation(made: Translation) -> Recorded:
     text = turned.text()
     found = own.read(text)
     if found is None:
-        raise Refused("a fault of this program: what it made of the history is not in jepmon's form")
+        raise Refused("a fault of this program: its result is not in jepmon's form")
     return Recorded(made.form, text, found.facts, made.account, turned.models, key_names=turned.names.keys, value_names=turned.names.values,
                     notes=[*made.notes, *jepsen.notes_of(turned)], lines=made.lines(turned.begun), translation=made, begun=turned.begun,
                     faults=faults.of_nemesis(turned.history.nemesis, turned.begun) + faults.of_text(text))

@@ -27,7 +27,7 @@ class TimesGoBack(Exception):
 
 
 class Events:
-    """Writes events as they come. Clients that are no numbers get numbers at first sight."""
+    """Writes events as they come. Clients without a number get one at first sight."""
 
     def __init__(self, writer: Writer, reader: Reader, account: Account, mapping: Mapping) -> None:
         self._writer, self._reader, self._account, self._order = writer, reader, account, mapping.order
@@ -167,7 +167,7 @@ class Events:
         return int(client)
 
     def notes(self) -> List[str]:
-        """What is to be told: the clients that got numbers, and what is guessed of the order."""
+        """The notes: the clients that got numbers, and the guess about the order."""
         self._unfinished.close()
         if self._order is None and self._ties:
             self._account.guess(ORDER, f"events of several clients have one time, {self._ties} times, first in line {self._first_tie}: they are taken "
@@ -182,7 +182,7 @@ def is_nemesis(told: Told) -> bool:
 
 
 def kind_of(told: Told, reader: Reader) -> str:
-    """The type of an event. One that is ok, and says of itself that it is not, is no ok."""
+    """The type of an event. An ok whose own fields deny it is not an ok."""
     kind = told.kind or told.outcome
     if kind is None:
         reader.refuse_no_kind(told)
@@ -190,7 +190,7 @@ def kind_of(told: Told, reader: Reader) -> str:
 
 
 def parts(told: Told, kind: str, invoked: Optional[Told]) -> Tuple[str, Any, Any]:
-    """The operation, the key and the part. What a completion leaves out is that of its invocation."""
+    """The operation, the key and the part. A completion without them has those of its invocation."""
     name, key, value = told.name, told.key, told.value
     if kind != "invoke" and invoked is not None:
         name = name or invoked.name

@@ -67,7 +67,7 @@ def of_json(texts: Iterable[str], mapping: Mapping, account: Account) -> Iterato
 
 
 class _Pieces:
-    """A text in pieces, of which as much is held as is not read yet."""
+    """A text in pieces. It holds only the part that was not read yet."""
 
     def __init__(self, texts: Iterable[str]) -> None:
         self._texts = iter(texts)
@@ -102,7 +102,7 @@ class _Pieces:
         return True
 
     def pass_gap(self) -> None:
-        """Goes on to what is neither white space nor a comma nor a comment."""
+        """Goes on past white space, commas and comments."""
         while True:
             begin = self.at
             self.at = SPACE.match(self.text, begin).end()  # type: ignore[union-attr]
@@ -172,7 +172,7 @@ def _is_plain(value: Any) -> bool:
 def _rows(value: Any, line: int, place: Tuple[str, int, int], mapping: Mapping, account: Account) -> Iterator[Row]:
     """The rows of a value at the top: one, or those of the lists in it that have the history."""
     if not isinstance(value, dict):
-        raise Refused(f"line {line}: this is no object, so no event: {spelled(value)[:60]}")
+        raise Refused(f"line {line}: this is not an object, so not an event: {spelled(value)[:60]}")
     if mapping.rows is None and _is_history(value.get(traces.EVENTS)):
         yield from (Row(line, fields) for fields in traces.rows(line, value[traces.EVENTS], account))
         return
@@ -245,8 +245,8 @@ def of_csv(texts: Iterable[str], mapping: Mapping, account: Account) -> Iterator
 
 
 class Lines:
-    """The lines of a text that comes in pieces of whole lines, each with its end. Refuses a last one that may be cut off: without a line
-    feed, but for one that ends so."""
+    """The lines of a text that comes in pieces of whole lines, each with its end. Refuses a last line without a line feed, which may be cut
+    off, except for one that ends like a complete row."""
 
     def __init__(self, texts: Iterable[str], but_for: str = "\r") -> None:
         self._texts, self._but_for = iter(texts), but_for

@@ -25,7 +25,7 @@ Rows = Callable[[Account], Iterable[Row]]  # which may be read twice, each time 
 
 
 class Asked(NamedTuple):
-    """What is said of the rows."""
+    """The user's words about the rows."""
 
     mapping: Mapping = Mapping()
     has_model: bool = False
@@ -115,11 +115,11 @@ class _Turning:
             self._account.field(name)
 
     def _all_told(self, rows: Iterable[Row]) -> Iterator[Told]:
-        """What these rows tell, of those that tell of an operation."""
+        """The content of those rows that record an operation."""
         return (told for told in map(self._told, rows) if told is not None)
 
     def _told(self, row: Row) -> Optional[Told]:
-        """What a row tells; None if it tells of no operation."""
+        """The content of a row; None if it records no operation."""
         if etcd.is_one(row):
             self._is_etcd = True
             turned = etcd.turned(row, self._writer)

@@ -1,7 +1,7 @@
 """The shape of a row: which of its fields means what. Rows with the same names have one shape, which is found once.
 
-Objects within a row that hold its fields, as Porcupine's Input or the attributes of a span, are laid open: their members get names with
-dots, as Input.Key, and mean what their last part says.
+A row may have objects that hold its fields, as Porcupine's Input or the attributes of a span. Their members get names with dots, as
+Input.Key, and mean what their last part says.
 """
 from __future__ import annotations
 
@@ -28,7 +28,7 @@ class Use(NamedTuple):
 
 
 class Shape:
-    """What the fields of rows with the same names mean."""
+    """The meanings of the fields of rows with the same names."""
 
     def __init__(self, names: Sequence[str], mapping: Mapping) -> None:
         self.names = names
@@ -54,7 +54,7 @@ class Shape:
 
 
 def slot_in(name: str, mapping: Mapping) -> Optional[Slot]:
-    """What a field means, by its whole name, or by its last part within an object."""
+    """The meaning of a field, by its whole name, or by its last part within an object."""
     slot = mapping.fields.get(plain(name)) if mapping.fields else None
     if slot is not None or plain(name) in mapping.ignored:
         return slot
@@ -62,11 +62,11 @@ def slot_in(name: str, mapping: Mapping) -> Optional[Slot]:
     if not dot:
         slot = slot_of(name)
         return slot if slot is not None else Slot("value", None, 99) if plain(name) in ARGUMENTS else None
-    return _member(plain(outer.rpartition("\0")[2]), slot_of(inner), inner)
+    return _member(plain(outer.rpartition("\0")[2]), slot_of(inner))
 
 
-def _member(outer: str, slot: Optional[Slot], inner: str) -> Optional[Slot]:
-    """What a member of an object means."""
+def _member(outer: str, slot: Optional[Slot]) -> Optional[Slot]:
+    """The meaning of a member of an object."""
     of_outer = slot_of(outer)
     if of_outer is not None and of_outer.meaning == "answer":
         return slot._replace(meaning="answer") if slot is not None and slot.meaning in ("value", "answer") else (
@@ -88,7 +88,7 @@ class Shapes:
         self._first: Dict[str, int] = {}  # its first line
 
     def of(self, line: int, fields: Fields) -> "Tuple[Shape, Fields]":
-        """The shape of a row, and its fields, of which objects are laid open."""
+        """The shape of a row, and its fields. Objects are replaced by their members."""
         shape = self.of_names(tuple(fields))
         for name in shape.objects:
             if type(fields[name]) is dict:
@@ -119,7 +119,7 @@ class Shapes:
             said.append(field)
 
     def _opened(self, line: int, fields: Fields) -> Fields:
-        """The fields, with the members of objects that are no values in place of these."""
+        """The fields, with the members of objects that are not values."""
         opened: Fields = {}
         has_some = False
         for name, field in fields.items():
@@ -131,7 +131,7 @@ class Shapes:
         return opened if has_some else fields
 
     def _is_open(self, line: int, name: str, field: Fields) -> bool:
-        """Whether an object is no value, and its members are fields."""
+        """Whether an object is not a value, so that its members are fields."""
         slot = slot_in(name, self._mapping)
         whole = plain(name)
         if any(mapped.startswith(whole) and mapped != whole for mapped in (*self._mapping.fields, *self._mapping.ignored)):

@@ -17,7 +17,7 @@ def members(line: int, value: Any, path: str) -> Iterator[Any]:
         found = [member for one in inner for member in (one if isinstance(one, list) else [one])] if name.endswith("[]") else inner
     for member in found:
         if not isinstance(member, dict):
-            raise Refused(f"line {line}: a member of {path} is no object, so no row")
+            raise Refused(f"line {line}: a member of {path} is not an object, so not a row")
         yield member
 
 

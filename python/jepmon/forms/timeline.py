@@ -37,8 +37,8 @@ class Timeline:
         self.overlaps = 0  # operations that are invoked while another one of their client is open
 
     def operation(self, client: Any, call: Time, ends: Optional[Time], outcome: str, begun: Any, ended: Any) -> None:
-        """Takes an operation: its client, which may be None; when it was called, and when it returned, if it did; "ok", "fail" or
-        "info"; and what is given of its two events, as marshal takes it."""
+        """Takes an operation: its client, which may be None; the times of its call and of its return, if it did; "ok", "fail" or "info";
+        and the data of its two events, as marshal takes it."""
         home = -1 if client is None else self._homes.setdefault(client, len(self._homes))
         number, self._count = self._count, self._count + 1
         span = self._spans.setdefault(client, [call, call])
@@ -94,7 +94,7 @@ class Timeline:
 
 
 def are_apart(spans: Iterable[Tuple[Time, Time]], operations: int) -> bool:
-    """Whether clients that worked within these times had long ended when others began. They did so many operations."""
+    """Whether clients that worked within these times had long ended when others began. They did this number of `operations`."""
     groups: List[List[Time]] = []
     for first, last in sorted(spans):
         if groups and first <= groups[-1][1]:

@@ -35,7 +35,7 @@ def _row(line: int, event: Dict[str, Any]) -> Dict[str, Any]:
     own = {name: event[field] for name, field in OWN.items() if field in event}
     args = event.get("args", {})
     if not isinstance(args, dict):
-        raise Refused(f"line {line}: the args of a traceEvent are no object")
+        raise Refused(f"line {line}: the args of a traceEvent are not an object")
     if "tid" in event:
         own["client"] = f"{event.get('pid', 0)}/{event['tid']}"
     twice = next((name for name in args if name in own), None)

@@ -1,6 +1,6 @@
 """Operations that are open when their client invokes its next one: they never returned, and may take place at any later time.
 
-That a client does one operation after the other is a guess. If a completion does not fit the last invocation, several were open.
+The reader guesses that a client does one operation after the other. If a completion does not fit the last invocation, several were open.
 """
 from __future__ import annotations
 

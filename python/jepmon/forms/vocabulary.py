@@ -94,7 +94,7 @@ def plain(name: str) -> str:
 
 @functools.lru_cache(maxsize=1 << 12)
 def slot_of(name: str) -> Optional[Slot]:
-    """What a field of this name is; None if its name says nothing. Seconds stand as _s behind a time."""
+    """The meaning of a field of this name; None if its name says nothing. Seconds stand as _s behind a time."""
     if len(name) > 2 and name[-1] == "s" and name[-2] in "_-. ":
         slot = _slots().get(plain(name[:-2]))
         return slot._replace(unit="s") if slot is not None and slot.meaning in TIMES and slot.unit is None else None

@@ -1,7 +1,7 @@
 """Turns a recorded Jepsen history into one that jepmon reads.
 
-`turn` takes the text of a history, its bytes, or a file that is open for reading bytes, and gives a Turned: the lines in jepmon's
-form, what is to be told of them, and how to have them judged. What can't be turned is a Refusal.
+`turn` takes the text of a history, its bytes, or a file that is open for reading bytes. It gives a Turned: the lines in jepmon's form, the
+notes on them, and the command that judges them. A Refusal is raised for a history that can't be turned.
 """
 from __future__ import annotations
 

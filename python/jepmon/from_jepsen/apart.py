@@ -19,7 +19,7 @@ def fields_of(element: edn.Element) -> Fields:
     """Reads the fields of an event."""
     fields = edn.fields_of(element.value)
     if fields is None or isinstance(element.value, str):
-        refuse(element.line, f"this is no map, so no event: {shown(element.value, 60)} (is this Jepsen's history.edn?)")
+        refuse(element.line, f"this is not a map, so not an event: {shown(element.value, 60)} (is this Jepsen's history.edn?)")
     names = element.value.members[0::2]
     if len(fields) < len(names):
         for place, name in enumerate(names):

@@ -1,4 +1,4 @@
-"""What is said of a history beside its text, and the pieces of the text, whose lines are counted."""
+"""The options about a history, and the pieces of its text, whose lines are counted."""
 from __future__ import annotations
 
 from typing import Callable, FrozenSet, Iterable, Iterator, Mapping, NamedTuple, Optional, Sequence, Tuple
@@ -34,7 +34,7 @@ class Counted:
 
 
 class Asked(NamedTuple):
-    """What is said of a history beside its text."""
+    """The options about a history in addition to its text."""
 
     key: Optional[str] = None  # of a history without keys: each value v becomes [key v]
     nil_is_absent: bool = False  # nil is what a missing key answers, and no read that says nothing

@@ -23,7 +23,7 @@ class Clients:
         self._has_begun = False
 
     def number_of(self, process: Optional[Value], invokes: bool) -> Optional[int]:
-        """The number of the process that an event states; None if it is no client."""
+        """The number of the process that an event states; None if it is not a client."""
         number = integer(process)
         if number is not None and not self.are_named:
             self._has_begun = True
@@ -48,7 +48,7 @@ class Clients:
         self.names[number] = process
 
     def shown(self, number: int) -> str:
-        """How a client is told of."""
+        """The name of a client in messages."""
         return self.names.get(number, f"process {number}")
 
 

@@ -137,7 +137,7 @@ class Collector:
         return True
 
     def is_odd(self, run: edn.Element, plain: Plain) -> bool:
-        """Whether there is more to be said of events of a run than of which is told there: of their order, or of how they ended."""
+        """Whether a run has more to report than the tool prints: on the order of its events, or on how they ended."""
         if self.clients.are_named or ":error" in run.text and OK_WITH_ERROR.search(run.text):
             return True
         if self.order is not None:
@@ -148,7 +148,7 @@ class Collector:
         return False
 
     def take_told(self, line: int, kind: str, process: int, name: str, value: Pair, beside: Any) -> None:
-        """Takes an event that was told by something else than EDN, with what else that said: its time, and an error."""
+        """Takes an event from another source than EDN, with its time and its error."""
         key, part = value
         if not self.meant.says_nothing:
             key, part = key if key is None else self.meant.alike(key), self.meant.part(name, part)
@@ -168,7 +168,7 @@ class Collector:
         self.count += 1
 
     def take_fault(self, name: str, value: Value, time: int) -> None:
-        """Takes an event of a nemesis that was told by something else than EDN."""
+        """Takes an event of a nemesis from another source than EDN."""
         self.keep_rows()
         fields: Dict[str, Value] = {":process": ":nemesis", ":type": ":info", ":f": f":{name}", ":value": value, ":time": str(time)}
         if faults.is_fault(fields):
@@ -219,7 +219,7 @@ class Collector:
         return '"' + self.names(process, line).replace('"', "'") + '"'
 
     def leave_out(self, element: edn.Element, fields: Dict[str, Value]) -> None:
-        """Leaves out the event of a process that is no client, as :nemesis."""
+        """Leaves out the event of a process other than a client, as :nemesis."""
         process = fields.get(":process")
         if not isinstance(process, str) or not (is_name(process) or process in NEMESIS or process == "nil"):
             wanted = "its :process is neither a number of 64 bits from 0 on nor a name"
@@ -277,7 +277,7 @@ class Collector:
         return known
 
     def complete(self, line: int, kind: str, process: int, name: str, value: Value, index: int) -> None:
-        """A completion repeats its invocation, but for the answer of a read or a dequeue that took place."""
+        """A completion repeats its invocation, except for the answer of a read or a dequeue that took place."""
         opened = self.open.pop(process, None)
         if opened is None:
             raise Unpaired(f"line {line}: {self.clients.shown(process)} completes {name} and has invoked nothing: is the beginning missing?")
@@ -323,7 +323,7 @@ class Collector:
         return ":fail"
 
     def drain(self, line: int, kind: str, invoked: Event, value: Value, index: int) -> None:
-        """Takes the values of a drain out one by one. Of one that failed or timed out nothing is written."""
+        """Takes the values of a drain out one by one. It writes nothing for a drain that failed or timed out."""
         if kind != ":ok":
             self.history.notes[f"{kind} of :drain, left out: {drains.LEFT_OUT[kind]}"] += 1
             return
@@ -372,7 +372,7 @@ class Collector:
 
 
 def flat_part(name: str, part: Value) -> Any:
-    """A part as rows have it: an atom, or the two atoms of a cas, of which none is nil; None if it is neither."""
+    """A part in the form of rows: an atom, or the two atoms of a cas without nil; None if it is neither."""
     if type(part) is str:
         return part
     members = part.members  # type: ignore[union-attr]

@@ -1,4 +1,4 @@
-"""The events of a Jepsen history that jepmon takes, and what is told of the others."""
+"""The events of a Jepsen history that jepmon takes, and notes on the others."""
 from __future__ import annotations
 
 import collections
@@ -44,7 +44,7 @@ class Left(NamedTuple):
 
 
 class KeySeen:
-    """What the events of a key tell of what it is."""
+    """The facts in the events of a key about its object."""
 
     __slots__ = ("line", "names", "reads", "reads_of_nil", "has_sets", "integer")
 
@@ -79,7 +79,7 @@ class Kept(Protocol):
 
 
 class History:
-    """What was read: the events in their order, and what is to be told of them."""
+    """The result of reading: the events in their order, and the notes on them."""
 
     def __init__(self, events: Kept) -> None:
         self.events = events

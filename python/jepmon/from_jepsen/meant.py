@@ -33,7 +33,7 @@ class Meant(NamedTuple):
         return self.whole(part)
 
     def whole(self, value: Value) -> Value:
-        """A value of its own: of a list, a set or a map its members, of which none is a missing key."""
+        """A value of its own. A list, a set or a map gives its members that are not missing keys."""
         if isinstance(value, Many):
             return Many(value.opened, tuple(map(self.alike, value.members)))
         return self.value(value)
@@ -64,7 +64,7 @@ def text_of(value: str) -> str:
 
 
 def number_of(text: str) -> str:
-    """One spelling of each number; of what is none the text."""
+    """One spelling of each number; other atoms keep their text."""
     text = TRUTH.get(text.lower(), text)
     if re.fullmatch(NUMBER, text) is None:
         return text

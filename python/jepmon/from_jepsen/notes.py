@@ -1,4 +1,4 @@
-"""What is to be told of a history that was turned, and how to have it judged."""
+"""The notes on a history that was turned, and the command that judges it."""
 from __future__ import annotations
 
 import itertools
@@ -14,7 +14,7 @@ MOST_CLIENTS = 40  # whose names are told
 
 
 def notes(history: History, writer: Writer) -> Iterator[str]:
-    """What was left out or changed, how the operations ended, and what numbers stand for."""
+    """The skipped or changed parts, how the operations ended, and the meaning of numbers."""
     yield f"events: {len(history.events)}"
     yield from notes_of_outcomes(history)
     yield from clients_of(history.clients)
@@ -57,7 +57,7 @@ def notes_of_outcomes(history: History) -> Iterator[str]:
 
 
 def notes_of_nil(history: History, sets: Set[Value]) -> Iterator[str]:
-    """What answers of nil mean to jepmon."""
+    """The meaning of nil answers for jepmon."""
     of_sets = sum(seen.reads_of_nil for key, seen in history.keys.items() if key in sets)
     if of_sets:
         yield f"reads of a set answered by nil (it fits no set, so they are illegal): {of_sets}"
@@ -72,7 +72,7 @@ def notes_of_nil(history: History, sets: Set[Value]) -> Iterator[str]:
 
 
 def notes_of_absent(history: History, writer: Writer) -> Iterator[str]:
-    """What became of nil where it is what a missing key answers."""
+    """The treatment of nil if it is the answer of a missing key."""
     seen = [history.keys[key] for key in writer.registers]
     yield (f"a missing key is {writer.absent}, which {sum(each.reads_of_nil for each in seen)} of {sum(each.reads for each in seen)} reads "
            "of a register answered")

@@ -1,4 +1,4 @@
-"""Numbers for keys and values that are no integers within jepmon's limits."""
+"""Numbers for keys and values that are not integers within jepmon's limits."""
 from __future__ import annotations
 
 from typing import Callable, Dict, Iterable, Iterator, List, Optional, Set
@@ -47,7 +47,7 @@ class Numbering:
         return next(number for number in self._limits if number not in self._low) if self.stays else len(self._numbers)
 
     def names(self) -> Dict[int, str]:
-        """What the numbers stand for, where things were numbered."""
+        """The meaning of the numbers, if things were numbered."""
         return dict(enumerate(map(shown, self._things)))
 
     def told(self, what: str) -> Iterator[str]:

@@ -1,8 +1,8 @@
 """Whether the events of a file stand in the order in which they took place, by their :index and their :time.
 
-An :index that rises is the recorder's own order, whatever the times say: Jepsen takes the time of an event a moment before it writes
-the event down. Without such an :index, a time that goes back says that the lines are in another order. A history with neither, in which
-the events of each client stand together, has no order that is known.
+An :index that rises is the recorder's own order, whatever the times say: Jepsen reads the clock a moment before it writes an event down.
+Without such an :index, a time that goes back says that the lines are in another order. A history with neither, in which the events of each
+client stand together, has no order that is known.
 """
 from __future__ import annotations
 

@@ -1,9 +1,9 @@
 """Brings events into the order in which they took place, if the lines of a file stand in another one.
 
 By the :index, if each event has its own: a file that was sorted by something else. By the :time, if clients' files stand one behind
-another: each client's events stand in their order, so that they are paired into operations, and these go by their times (timeline.py).
-Two runs in one file are no history: there the :index begins again, and a client goes on on both sides. Then, and where neither the
-:index nor the :time gives an order, the file is refused.
+another: each client's events stand in their order, so that they are paired into operations, and these go by their times (timeline.py). Two
+runs in one file are not one history: there the :index begins again, and a client goes on on both sides. Then, and where neither the :index
+nor the :time gives an order, the file is refused.
 """
 from __future__ import annotations
 
@@ -31,7 +31,7 @@ SETTLES = "--order lines|index|times"
 
 
 class Facts:
-    """What the events of clients say of their order, as they stand."""
+    """The order of the events of clients, by their own fields."""
 
     def __init__(self, has_times: bool = True) -> None:
         self._reader = Times() if has_times else None
@@ -141,7 +141,7 @@ def of_files(facts: Facts, account: Account) -> str:
 
 
 def read(texts: Iterable[str], asked: Asked, account: Account) -> Facts:
-    """What the events say of their order; their lines are accounted for."""
+    """The order by the events' own fields; their lines are accounted for."""
     facts, parts = Facts(asked.order != INDEX), parts_of(texts, asked)
     for element, process, fields in elements(parts, asked):
         if process is None:
@@ -209,7 +209,7 @@ def found(facts: Facts, account: Account, fault: Optional[Refusal]) -> str:
 
 
 def by_index(texts: Iterable[str], asked: Asked, facts: Facts, collector: Collector) -> int:
-    """Takes the events in the order of the :index, what is no client's behind the event before which it stands."""
+    """Takes the events in the order of the :index; other events follow the event before which they stand."""
     if not facts.is_indexed():
         raise OutOfOrder("not each event has an :index of its own: there is no order by it")
     rows, last = SortedRows(), -1

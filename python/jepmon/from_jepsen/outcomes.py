@@ -1,7 +1,7 @@
-"""What an :ok is that says of itself that it is none: a lock, a cas, a write or a dequeue that is answered by false, or an :ok with an :error.
+"""The type of an :ok that denies itself: a lock, a cas, a write or a dequeue that is answered by false, or an :ok with an :error.
 
 Its :type is what the test wrote, and its answer or error is what the store said; one of them is wrong. By default a false answer counts,
-and an error does not; both are told, and --outcome settles them.
+and an error does not; the notes name both, and --outcome settles them.
 """
 from __future__ import annotations
 

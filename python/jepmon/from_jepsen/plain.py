@@ -1,5 +1,5 @@
-"""What most lines of a history are, by one expression: an event of a client with the fields that Jepsen writes, in the order of the first
-one. It is there for speed: whatever it does not match, or is not followed up in collect.py, is read field by field, with the same result."""
+"""Most lines of a history, by one expression: an event of a client with the fields that Jepsen writes, in the order of the first one. It is
+there for speed: whatever it does not match, or is not followed up in collect.py, is read field by field, with the same result."""
 from __future__ import annotations
 
 import itertools
@@ -31,12 +31,12 @@ LONGEST = 1 << 13  # characters of a run
 
 
 class Plain(NamedTuple):
-    """What a plain line of a history is."""
+    """A plain line of a history."""
 
     line: Pattern[str]  # with groups; the last one has all that follows where there is none
 
     def find(self, text: str, place: int) -> Tuple[Rows, int]:
-        """What the groups have of the plain lines that begin at this place, one after the other, and the place behind these."""
+        """The groups of the plain lines that begin at this place, one after the other, and the place behind these."""
         end = min(place + LONGEST, len(text))
         found = self.line.findall(text, place, end)
         rest = found[-1][-1]
@@ -53,7 +53,7 @@ class Plain(NamedTuple):
         return [int(row[place]) for row in run.rows]
 
     def events(self, run: Element, lone_key: Optional[Value], count: int) -> Iterator[Row]:
-        """The events of a run, before which so many came."""
+        """The events of a run, with `count` events before them."""
         columns = dict(zip(self.line.groupindex, zip(*run.rows)))
         parts: Iterable[Any] = columns["part"]
         if any(columns["pair"]):

@@ -19,7 +19,7 @@ class Processes(NamedTuple):
 
 
 def processes_of(history: History, most: int) -> Processes:
-    """Jepsen's own processes with the fewest threads that they fit, or others where they fit none; at most so many threads."""
+    """Jepsen's own processes with the fewest threads that they fit, or others if they fit none; at most `most` threads."""
     threads = history.lives.fewest()
     if threads is not None and threads <= most:
         return Processes(threads, False)
@@ -36,7 +36,7 @@ class OwnProcesses:
 
 
 class OnThreads(OwnProcesses):
-    """For each event, one after another, its process where there are so many threads, of which each operation gets the lowest that is free.
+    """The process of each event, one after another, with n threads: each operation gets the lowest free one.
 
     Which process did an operation says nothing to linearizability; only what was open at once does.
     """

@@ -10,7 +10,7 @@ from .refusal import Refusal
 
 @runtime_checkable
 class Texts(Protocol):
-    """What gives its text in pieces, again and again, as forms.files.Source."""
+    """A source that gives its text in pieces, again and again, as forms.files.Source."""
 
     def texts(self) -> Iterator[str]: ...
 
@@ -19,7 +19,7 @@ Source = Union[str, bytes, BinaryIO, Texts]
 
 
 def texts_of(source: Source) -> Callable[[], Iterator[str]]:
-    """What gives the pieces of the text. Refuses what is no text of EDN."""
+    """A source of the pieces of the text. Refuses bytes that are not EDN text."""
     found: Texts = OfText(source) if isinstance(source, str) else OfFile(io.BytesIO(source)) if isinstance(source, bytes) else (
         source if isinstance(source, Texts) else OfFile(source))
     return lambda: tested(found.texts())

@@ -14,13 +14,12 @@ else stands there (times, errors, exceptions) is dropped, whatever it is. A :dra
                     write of it comes first for each key that is a register, by process 0, before the history's own events
   --shards          for jepmon-judge --jobs and jepmon-shards: any number of keys, and of operations that are open at once
 
-Standard error says what was left out, how the operations ended, and the least --concurrency and the --model by which jepmon
-can judge the rest. Keys and values that are no integers within jepmon's limits are numbered, and the numbering is told there
-too, and in comments at the end of the output. Each line of the output keeps Jepsen's own index as :jepsen-index, which jepmon
-drops: event I of a verdict is line I + 1.
+Standard error says what was left out, how the operations ended, and the least --concurrency and the --model by which jepmon can judge the
+rest. Standard error, and comments at the end of the output, list the numbers of keys and values that are not integers within jepmon's
+limits. Each line of the output keeps Jepsen's own index as :jepsen-index, which jepmon drops: event I of a verdict is line I + 1.
 
-What jepmon can't judge (transactions, unknown operations, a file that was cut off) is refused by name, with status 3. Then the
-output is one line that is no event, so that a check of it is refused too, also behind a pipe.
+The tool refuses by name, with status 3, a history that jepmon can't judge: transactions, unknown operations, or a file that was cut off.
+Then the output is one line that is not an event, so a check refuses it too, also behind a pipe.
 """
 from __future__ import annotations
 

@@ -1,4 +1,4 @@
-"""Turns a history: from the source of its text to the lines in jepmon's form, and what is to be told of them."""
+"""Turns a history: from the source of its text to the lines in jepmon's form, and the notes on them."""
 from __future__ import annotations
 
 from typing import Dict, Iterator, List, Mapping, Optional
@@ -47,13 +47,13 @@ class Turned:
 
 def turn(source: Source, key: Optional[str] = None, nil_is_absent: bool = False, limits: Limits = Limits(), account: Optional[Account] = None,
          order: Optional[str] = None, outcomes: Mapping[str, str] = {}, skew: Optional[int] = None) -> Turned:
-    """Turns a Jepsen history: its text, its bytes, a file that is open for reading bytes, or what gives its text in pieces.
+    """Turns a Jepsen history: its text, its bytes, a file that is open for reading bytes, or a source of its text in pieces.
 
     key            for a history without independent keys: every value v becomes [key v]
-    nil_is_absent  nil is what a missing key answers, and no read that says nothing
-    limits         what is refused beyond: what one check does not take, or nothing where shards are made of it (OF_SHARDS)
+    nil_is_absent  nil is the answer of a missing key, and such reads are judged
+    limits         the limits of one check, or none for shards (OF_SHARDS)
     account        where lines and guesses are recorded
-    order          by which events are taken: "lines", "index" or "times"; None: as they stand, or by what they say if these can't be so
+    order          the order of events: "lines", "index" or "times"; None: that of the lines, or by their fields if that is impossible
     outcomes       the type of an :ok that is answered by false ("false"), and of one with an :error ("error")
     skew           by how much each clock may be wrong, in the unit of the times, if that is said
     """

@@ -18,7 +18,7 @@ from .spool import event_of
 
 
 class Limits(NamedTuple):
-    """What may be written: that which one check takes, or what shards of it may have."""
+    """The limits of the written history: those of one check, or those of its shards."""
 
     keys: range = KEYS
     threads: int = THREADS
@@ -65,7 +65,7 @@ class Writer:
             yield from (value for value in values if value != "nil")
 
     def names(self) -> Names:
-        """What the numbers stand for."""
+        """The meaning of the numbers."""
         values = self.values.names()
         if self.absent != "nil" and self.registers:
             values[int(self.absent)] = ABSENT

@@ -12,7 +12,7 @@ NEMESIS = -1  # the process and the key of an event of the nemesis, whose field 
 
 
 class HistoryError(Exception):
-    """This is no history in jepmon's own form."""
+    """This history is not in jepmon's own form."""
 
     def __init__(self, line: int, reason: str) -> None:
         super().__init__(f"line {line}: {reason}")
@@ -47,7 +47,7 @@ class Operation(NamedTuple):
 
 
 def read_history(text: str, before: int = 0) -> List[Event]:
-    """The events of a history in jepmon's own form, or of what follows so many events of one."""
+    """The events of a history in jepmon's own form, or of the rest of one after `before` events."""
     try:
         return [event_of(index, element) for index, element in enumerate(edn.Reader(text, profile=True).elements(), before)]
     except edn.Unreadable as fault:

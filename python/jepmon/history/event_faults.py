@@ -1,4 +1,4 @@
-"""Why an element is no event that jepmon takes: what it refuses by 5, BadValue, in words."""
+"""Why jepmon refuses an element by 5, BadValue, in words."""
 from __future__ import annotations
 
 from typing import Dict, Optional
@@ -13,7 +13,7 @@ PARTS = {"cas": "two integers, as [1 2]", "read": "nil, an integer or a set of i
 
 
 def fault_of(value: Value) -> str:
-    """Which part of an element that is no event is outside the tables of docs/FORMATS.md."""
+    """Which part of an invalid event is outside the tables of docs/FORMATS.md."""
     fields = fields_of(value)
     if fields is None:
         return of_no_map(value)
@@ -23,7 +23,7 @@ def fault_of(value: Value) -> str:
     if keyword(fields[":type"]) not in kinds.EVENT_TYPES:
         return f"its :type is {spelling(fields[':type'])}, and none of :invoke, :ok, :fail, :info"
     if fields[":process"] == ":nemesis":
-        return f"this name or value is no fault of jepmon's: leave such events of the nemesis out ({tool('from-jepsen')} does)"
+        return f"this name or value is not a fault of jepmon's: leave such events of the nemesis out ({tool('from-jepsen')} does)"
     process = integer(fields[":process"])
     if process is None or process not in kinds.PROCESSES:
         return f"its :process is {spelling(fields[':process'])}, and no integer from 0 on"
@@ -33,7 +33,7 @@ def fault_of(value: Value) -> str:
 def of_no_map(value: Value) -> str:
     if isinstance(value, Many) and value.opened == "[" and any(fields_of(member) is not None for member in value.members):
         return f"one vector of events: {tool('from-jepsen')} takes it"
-    return "it is no map, so no event; commands as [:model k m] are of jepmon script"
+    return "it is not a map, so not an event; commands as [:model k m] are of jepmon script"
 
 
 def of_operation(fields: Dict[str, Value]) -> str:
@@ -49,7 +49,7 @@ def of_operation(fields: Dict[str, Value]) -> str:
         return f"its :value is no [key part]; where the history has no keys, {tool('from-jepsen')} --key 0 makes each value one"
     key = integer(value.members[0])
     if key is None or key not in kinds.KEYS:
-        return f"its key is no integer from 0 to {kinds.KEYS.stop - 1}: {tool('from-jepsen')} numbers keys; --key 0 only where :value is no pair"
+        return f"its key is not an integer from 0 to {kinds.KEYS.stop - 1}: {tool('from-jepsen')} numbers keys; --key 0 only where :value is not a pair"
     index = integer(fields.get(":index", "0"))
     if index is None or index not in kinds.INDICES:
         return f"its :index is {spelling(fields[':index'])}, and no integer from 0 on"

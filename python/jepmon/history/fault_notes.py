@@ -1,7 +1,7 @@
-"""Notes of faults in a history: what a test did to its servers, and when.
+"""Notes of faults in a history: the faults of a test, and their times.
 
-A note stands on a line of its own between the events, as an element that is discarded, so that `jepmon check` and `jepmon script`
-pass over it. Without the `#_` it is an event of a nemesis as Jepsen writes them:
+A note has a line of its own between the events, as a discarded element, so that `jepmon check` and `jepmon script` skip it. Without the
+`#_` it is an event of a nemesis as Jepsen writes them:
 
     #_{:type :info, :process :nemesis, :f :note, :value "kill n1", :time 8123456}            a moment
     #_{:type :info, :process :nemesis, :f :begin-fault, :value "cut n1 off", :time 8123456}  a fault begins

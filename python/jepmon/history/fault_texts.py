@@ -1,4 +1,4 @@
-"""What the text of a fault says: what it does, of which kind it is, and to which nodes. jepmon-test notes a strike as
+"""The text of a fault: its effect, its kind, and its nodes. jepmon-test notes a strike as
 
     n1 is down, by kill -9 [kill n1, process; while slow n2]
 
@@ -13,7 +13,7 @@ NODE = re.compile(r"\bn[0-9]+\b")
 
 
 def plain(text: str) -> str:
-    """What it does, without what jepmon-test notes beside it."""
+    """The effect, without the additions of jepmon-test."""
     found = STRIKE.fullmatch(text)
     return found["text"] if found is not None else text
 

@@ -1,9 +1,9 @@
-"""The six kinds of objects that jepmon judges (its models), their operations, and the limits of what it takes."""
+"""The six kinds of objects that jepmon judges (its models), their operations, and the limits of the program."""
 from __future__ import annotations
 
 from typing import Dict, FrozenSet, Tuple
 
-# Each model and its operations. Of two models with the same operations the stricter one comes first.
+# Each model and its operations. If two models have the same operations, the stricter one comes first.
 MODELS: Dict[str, FrozenSet[str]] = {
     "register": frozenset({"read", "write"}),
     "cas-register": frozenset({"read", "write", "cas"}),
@@ -26,7 +26,7 @@ EVENT_TYPES: Tuple[str, ...] = ("invoke", "ok", "fail", "info")
 
 NOT_JUDGED = {  # other operations that tests have, and what they are
     "txn": "is a transaction over several keys, which jepmon does not judge (Elle does)",
-    "transfer": "moves an amount between the accounts of a bank, which jepmon does not judge: such a test looks at the sum of all "
+    "transfer": "moves an amount between the accounts of a bank, which jepmon does not judge: such a test adds up all "
                 "accounts in each read (Jepsen's own jepsen.tests.bank does)",
 }
 

@@ -1,7 +1,7 @@
-"""What numbers stand for in a history whose keys or values were numbered, as its own comments say.
+"""The meaning of numbers in a history whose keys or values were numbered, as its own comments say.
 
-A history in jepmon's form has integers alone. What makes one of other keys and values numbers them, and says so in comments, a
-line each: `; key 0 is :x`, `; value 3 is "blue"`. By these they are turned back where a person reads them.
+A history in jepmon's form has integers alone. A tool that makes one of other keys and values numbers them, and says so in comments, a line
+each: `; key 0 is :x`, `; value 3 is "blue"`. By these they are turned back where a person reads them.
 """
 from __future__ import annotations
 

@@ -7,7 +7,7 @@ from ..edn import Many, Value, integer
 
 REPLICAS = range(7)
 LOST = range(1 << 16)  # replies
-# What ends a fault, by the name of what begins it: jepmon's own faults, and those of Jepsen's nemeses.
+# The event that ends a fault, by the name of the event that begins it: jepmon's own faults, and those of Jepsen's nemeses.
 ENDED_BY = {
     "partition": ("heal",),
     "pause": ("resume",),

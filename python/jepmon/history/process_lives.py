@@ -1,8 +1,8 @@
 """How many threads the processes of a history have: the fewest by which they keep the process rule.
 
-After an :info of process p its thread goes on as process p + threads. So a number of threads fits where each process that is not below
-it begins after an :info of the one that is less by it. What fits a history fits each front of it: where the fewest threads of a front
-fit all of the history, they are the fewest of all of it.
+After an :info of process p its thread goes on as process p + threads. So a number of threads fits where each process that is not below it
+begins after an :info of the one that is less by it. A number of threads that fits a history fits each prefix of it. So if the fewest
+threads of a prefix fit all of the history, they are the fewest of all of it.
 """
 from __future__ import annotations
 

@@ -1,4 +1,4 @@
-"""Rows in the order of their fronts: a few are held, and many are sorted in runs, which are written to a file that has no name."""
+"""Sorts rows by their first field: it holds a few, sorts many in runs, and writes these to a file without a name."""
 from __future__ import annotations
 
 import heapq

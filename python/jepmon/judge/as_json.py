@@ -1,4 +1,4 @@
-"""What came of a history as one JSON object, for programs in other languages. docs/FORMATS.md has its fields."""
+"""The result of a history as one JSON object, for programs in other languages. docs/FORMATS.md has its fields."""
 from __future__ import annotations
 
 import json
@@ -40,7 +40,7 @@ def front(verdict: str, line: str) -> Object:
 
 
 def write_refusal(reason: str) -> None:
-    """Of a history that was not judged."""
+    """The object of a history that was not judged."""
     write({**front("refused", reason if reason.startswith("refused ") else ""), "reason": reason})
 
 

@@ -22,7 +22,7 @@ SHOWN = 20  # keys that are shown on a terminal
 
 
 class Found(NamedTuple):
-    """What the lines of a report say of its keys."""
+    """The facts about keys in the lines of a report."""
 
     bad: List[KeyLine]  # the one that the verdict names first, then those that are illegal, then the others
     counts: Dict[str, int]  # "legal", "illegal" and "unknown"
@@ -45,7 +45,7 @@ def found(lines: Iterable[KeyLine]) -> Found:
 
 
 def of_key(report: Report, line: KeyLine) -> Report:
-    """What the report says of a key alone."""
+    """The report's lines about one key."""
     if line.status in GOOD:
         return report
     return report_on([line], Verdict(word_of(line), (line.index or 0, line.key)))
@@ -53,7 +53,7 @@ def of_key(report: Report, line: KeyLine) -> Report:
 
 def shown(recorded: Recorded, task: Task, report: Report, lines: Sequence[KeyLine], events_of: EventsOf, with_cause: bool,
           decided: Mapping[int, Decided]) -> List[Shown]:
-    """What there is to show of each bad key; of a history that is legal, of the first key that was decided afterwards."""
+    """The sentences about each bad key, or, if the history is legal, about the first key that was decided afterwards."""
     if not lines and report.word == "legal" and decided:
         number = next(iter(decided))
         lines = [line for line in report.keys if line.key == number] or [line_of(number, decided[number].options)]

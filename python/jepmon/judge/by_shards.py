@@ -1,4 +1,4 @@
-"""Judges a history beyond the limits of one check: by jepmon.shards, with what is told of it beside the report."""
+"""Judges a history beyond the limits of one check by jepmon.shards, with notes on it in addition to the report."""
 from __future__ import annotations
 
 import contextlib
@@ -191,7 +191,7 @@ def _word_of(found: Large, options: Options, given: Given) -> str:
 
 
 def _recorded(found: Large, history: Asked, with_faults: bool) -> Recorded:
-    """What the history is beside its events."""
+    """The facts about a history in addition to its events."""
     if found.made is None or history.made is None:
         told = faults.of_lines(lambda: lines_in(found.texts())) if with_faults else []
         return Recorded("", "", Facts(), history.account, faults=told, is_own=True)
@@ -235,7 +235,7 @@ def events_of(session: shards.Session, found: Large, history: Asked, keys: List[
 
 
 def judged(given: Given, session: shards.Session, options: Options) -> List[Judged]:
-    """What comes of the shards: here, or on the cluster that is named."""
+    """The result of the shards: here, or on the named cluster."""
     if given.dask is None:
         return session.judged(options)
     engine = functools.partial(judged_on, given.dask, threads=session.tools.sizes.threads, program=session.tools.program)
@@ -243,7 +243,7 @@ def judged(given: Given, session: shards.Session, options: Options) -> List[Judg
 
 
 def said_of_bad(report: Report, task: Task, keys: Sequence[causes.Shown], with_cause: bool) -> Iterator[str]:
-    """What is told of the first bad key beside its cause."""
+    """The notes on the first bad key in addition to its cause."""
     if not keys:
         return
     line = keys[0].line
@@ -302,7 +302,7 @@ def of_bad_key(choice: Choice, report: Report) -> Choice:
     return choice._replace(models={report.keys[0].key: report.keys[0].model})
 
 
-# --- What is told ---
+# --- Notes on standard error ---
 
 
 def processes(number: int) -> str:
@@ -314,7 +314,7 @@ def form_of(found: Large) -> str:
 
 
 def said(found: Large, history: Asked, tally: Tally, verdict: Verdict, task: Task) -> Iterator[str]:
-    """What the history was found to be."""
+    """The kind, the form and the size of the history, as found."""
     yield (f"{found.name}: {form_of(found)}, {counted(tally.events, 'event')}, concurrency {task.options.concurrency:,}, "
            f"{counted(verdict.keys, 'key')}")
     yield from outcomes(tally.outcomes())
@@ -338,7 +338,7 @@ def nil_hints(tally: Tally, choice: Choice, given: Given) -> Iterator[str]:
 
 
 def hints_of_refusal(found: Large, line: str, options: Options) -> Iterator[str]:
-    """Why an event is refused, where it is near the front of a file of jepmon's own form."""
+    """Why an event is refused, if it is near the beginning of a file of jepmon's own form."""
     index = line.rpartition(" event ")[2]
     if found.path is not None and found.made is None and index.isdigit() and int(index) < MOST_EVENTS and options.concurrency <= kinds.THREADS:
         yield from explained(line, large_key.front_lines(found.path, int(index) + 1), Explained(options.concurrency, options.model))

@@ -64,7 +64,7 @@ def lines(found: Recorded, key: Shown) -> Iterator[str]:
 
 
 def given(found: Recorded, key: Shown) -> page.PageInput:
-    """What bars and a page are given, but for what a walk has found."""
+    """The fields for bars and a page, except for those that a walk finds."""
     number = key.line.key
     part = key.cause.part if key.cause is not None else None
     return page.PageInput(
@@ -75,7 +75,7 @@ def given(found: Recorded, key: Shown) -> page.PageInput:
 
 
 def sentences(key: Shown) -> List[str]:
-    """What else there is to say, and how the key was decided."""
+    """Further sentences, and how the key was decided."""
     said = key.cause.sentences if key.cause is not None else []
     if key.decided is None:
         return said
@@ -83,24 +83,24 @@ def sentences(key: Shown) -> List[str]:
     if key.decided.index is None:
         return [*said, f"The key was over its budget, and an order of all its operations was found afterwards; {who}."]
     return [*said, "The key was over its budget, and was decided afterwards: the smallest part is illegal by jepmon check, and so is the key, "
-            f"which is proved of each sort of removal; and there is an order of what stands before event {key.decided.index}; {who}."]
+            f"which is proved of each sort of removal; and there is an order of the events before event {key.decided.index}; {who}."]
 
 
 def proviso(key: Shown) -> str:
-    """What is proved of a key that was decided afterwards; nothing where that is as of any other key."""
+    """The proved part of a decision that was made afterwards; nothing for any other key."""
     if key.decided is None or key.decided.index is None and not key.decided.is_proved:
         return ""
     return BY_ORDER if key.decided.index is None else BY_PART
 
 
 def page_of(name: str, found: Recorded, task: Task, key: Shown) -> page.PageInput:
-    """What the page of a key is given."""
+    """The fields for the page of a key."""
     line = next((text for text in key.report.text.splitlines() if text.startswith(f"key {key.line.key} ")), "")
     return given(found, key)._replace(report=line, file=name, walked=walked(found, key), again=task.again("history.edn"))
 
 
 def walked(found: Recorded, key: Shown) -> Optional[page.Walked]:
-    """What is known of how the key may have gone; None of an unknown wide register, of which no walk counts what the program counts."""
+    """The possible courses of the key. None for an unknown wide register: no walk counts its ends as the program does."""
     if key.decided is not None and key.report.word != "unknown":
         return page.ordered(key.events, key.options.model, key.options.concurrency, key.decided.order, key.decided.index,
                             found.value_names)

@@ -1,4 +1,4 @@
-"""What of a verdict may be due to how values were read: an answer of nil, and one that nobody has written."""
+"""The parts of a verdict that may be due to how values were read: an answer of nil, and one that nobody has written."""
 from __future__ import annotations
 
 import re
@@ -15,7 +15,7 @@ NIL = "--nil-is-absent or --nil-is-unknown"  # which settles what nil says
 
 
 def account_for_nils(count: int, given: Given, account: Account) -> None:
-    """Records that so many answers of nil, which may say that a value is lost, are taken to say nothing."""
+    """Records the number of nil answers, which may say that a value is lost, that are taken to say nothing."""
     if count and not given.nil_is_unknown:
         account.guess(ABSENT, f"nil says nothing of what a register holds, and {count:,} {'read' if count == 1 else 'reads'} answered it after a "
                       "value was there", NIL)

@@ -17,8 +17,8 @@ def of_key(found: Recorded, key: int) -> List[Event]:
 
 
 def with_fields(found: Recorded, keys: Iterable[int]) -> Dict[int, List[Event]]:
-    """The events of each of these keys, with their indices in the whole history and their lines in the file that was given; where that
-    was of another form, also with what it says of when they came and of errors."""
+    """The events of each of these keys, with their indices in the whole history and their lines in the given file. If that file had another
+    form, the events' times and errors too."""
     events = of_keys(found, keys)
     if found.translation is None:
         return events

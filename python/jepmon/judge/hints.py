@@ -1,4 +1,5 @@
-"""What jepmon-judge says of a history beside the cause: what was found, what was not judged, what else may have been meant."""
+"""The notes of jepmon-judge on a history in addition to the cause: its form, the parts that were not judged, and other possible
+meanings."""
 from __future__ import annotations
 
 from typing import Counter, Iterator, Sequence
@@ -25,7 +26,7 @@ def counted(number: int, what: str) -> str:
 
 
 def found(source: Source, history: Recorded, task: Task) -> Iterator[str]:
-    """What the history was found to be."""
+    """The kind, the form and the size of the history, as found."""
     facts, threads = history.facts, task.options.concurrency
     yield (f"{source.name}: {history.form}, {counted(facts.events, 'event')}, {counted(models.clients_of(facts, threads), 'client')}, "
            f"{counted(len(facts.keys), 'key')}")
@@ -54,7 +55,7 @@ def outcomes(counts: Counter[str]) -> Iterator[str]:
 
 
 def after(history: Recorded, task: Task, report: Report, given: Given) -> Iterator[str]:
-    """What may be said beside the report. What the program would say otherwise, it is asked."""
+    """The notes in addition to the report. The function asks the program how other readings would be judged."""
     if report.key is not None and report.key in history.key_names:
         yield f"key {report.key} is {history.key_names[report.key]}"
     if report.word == "refused" and report.index is not None:

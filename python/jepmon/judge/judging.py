@@ -15,7 +15,7 @@ ERROR_SHOWN = 300  # characters of what the program wrote on standard error
 
 
 class Task(NamedTuple):
-    """What is to be judged, and how."""
+    """The history to be judged, and the options."""
 
     text: str  # events, and no commands
     choice: Choice
@@ -56,7 +56,7 @@ class Task(NamedTuple):
 
 
 def judged(task: Task) -> Report:
-    """What the program says of it."""
+    """The program's reply."""
     raw = task.text.encode()
     return _by_script(task, raw) if task.commands else program.check(raw, task.options)
 
@@ -85,7 +85,7 @@ def _by_script(task: Task, raw: bytes) -> Report:
 
 
 def _bad_key(task: Task, report: Report) -> List[KeyLine]:
-    """What a verdict of the script says of its key."""
+    """The key and the status in a verdict of the script."""
     if report.key is None:
         return []
     status = "dead" if report.word == "illegal" else "over"

@@ -36,7 +36,7 @@ class Large(NamedTuple):
 
     @property
     def history(self) -> History:
-        """What shards are made of, if it is in jepmon's own form."""
+        """The source of the shards, if it is in jepmon's own form."""
         return self.path if self.path is not None else self.source.texts()
 
     def texts(self) -> Iterator[str]:

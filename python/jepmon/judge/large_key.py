@@ -1,4 +1,4 @@
-"""The events of the bad key of a history that was judged by shards, with what the history's lines say beside them."""
+"""The events of the bad key of a history that was judged by shards, with the fields of the history's lines."""
 from __future__ import annotations
 
 import re
@@ -27,7 +27,7 @@ def event_of(found: KeyEvent, key: int) -> Event:
 
 
 def told(event: Event, number: int, line: str) -> Event:
-    """The event with what its line says."""
+    """The event with the fields of its line."""
     if line.count(" :") + line.count("{:") <= OWN_FIELDS:
         return event._replace(line=number)
     element = next(edn.Reader(line).elements(), None)
@@ -36,7 +36,7 @@ def told(event: Event, number: int, line: str) -> Event:
 
 
 def lines_of(texts: Iterable[str], keys: Sequence[int], indices: "set[int]") -> Iterator[Tuple[int, Tuple[int, str]]]:
-    """Of the events of these keys at these indices the number of the line, and the line, where each event is a line."""
+    """The number and the text of each line that has an event of these keys at these indices, if each event is a line."""
     wanted = re.compile(rf":value \[(?:{'|'.join(map(str, keys))}) ")
     index, number = -1, 1
     for text in texts:

@@ -10,12 +10,12 @@ TELLING = ("cas", "acquire", "release", "dequeue")  # an ok of these is an answe
 
 
 def telling(outcomes: Mapping[str, int], reads: int) -> int:
-    """How many operations were ok whose answers say something: these operations by "NAME ok", and so many reads with an answer."""
+    """How many operations were ok whose answers say something: these operations by "NAME ok", and the number of reads with an answer."""
     return sum(outcomes.get(f"{name} ok", 0) for name in TELLING) + reads
 
 
 def reason(given: Given, word: str, count: int) -> str:
-    """Why there is no verdict, where it would rest on so many; nothing where there is one."""
+    """Why there is no verdict, if it would depend on too few answers; nothing if there is one."""
     if word != "legal" or count >= given.least:
         return ""
     what = {0: "no operation was ok whose answer says", 1: "1 operation was ok whose answer says"}.get(

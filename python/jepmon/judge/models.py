@@ -1,4 +1,4 @@
-"""What each key of a history is, by the operations and answers that were seen; and how many threads its processes have."""
+"""The model of each key of a history, by its operations and answers; and how many threads its processes have."""
 from __future__ import annotations
 
 from typing import Dict, Mapping, NamedTuple, Optional, Sequence
@@ -25,8 +25,8 @@ class Choice(NamedTuple):
 
 
 def chosen(facts: Facts, given: Optional[str], stated: Mapping[int, str], known: Mapping[int, Sequence[str]]) -> Choice:
-    """The model of each key: the one that the history states for it, else the one that is given, else one of those that are known to be
-    possible, else one by its operations."""
+    """The model of each key: the one that the history states for it, else the given one, else one of the known possible ones, else one by
+    its operations."""
     by_key: Dict[int, Sequence[str]] = {}
     for key, of_key in facts.keys.items():
         by_key[key] = [stated[key]] if key in stated else [given] if given else known[key] if key in known else possible(of_key)

@@ -22,7 +22,7 @@ class Page:
         self.path = pathlib.Path(os.path.realpath(path))
         _test_file(self.path, path)
         if self.path.is_file() and not _is_page(self.path):
-            raise Refused(f"{path}: this file is there, and is no page: it is not overwritten")
+            raise Refused(f"{path}: this file is there, and is not a page: it is not overwritten")
 
     @property
     def name_in_links(self) -> str:

@@ -25,7 +25,7 @@ Told = Tuple[str, str, str, int, str, Optional[int]]  # an event: its type, proc
 
 
 class Timed(NamedTuple):
-    """What a history says of times."""
+    """The times in a history."""
 
     reader: Reader
     faults: List[Fault]

@@ -36,7 +36,7 @@ class Way(NamedTuple):
 
 
 class Judged(NamedTuple):
-    """What was judged, and what came of it."""
+    """The judged history, and the result."""
 
     found: Recorded
     choice: Choice
@@ -147,7 +147,7 @@ def are_mixed(made: Translation) -> bool:
 
 
 def _of_answers(given: Given, judged: Judged) -> Iterator[Way]:
-    """That by which answers out of nowhere are those of missing keys, or of what keys held at first."""
+    """The reading by which answers out of nowhere are those of missing keys, or of the first values of keys."""
     if given.initial is not None or given.said.missing_is_judged:
         return
     dead = {line.key: line for line in judged.keys if line.status in DEAD}

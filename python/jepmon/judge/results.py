@@ -1,4 +1,4 @@
-"""What --html and --out write: the pages, and the folder with the history as judged and all that came of it."""
+"""The files of --html and --out: the pages, and the folder with the history as judged and all results."""
 from __future__ import annotations
 
 from typing import Dict, List, Mapping, NamedTuple, Optional, Sequence
@@ -17,7 +17,7 @@ HISTORY, REPORT, CAUSE, PAGE, KEYS = "history.edn", "report.txt", "cause.txt", "
 
 
 class Results(NamedTuple):
-    """What came of a history."""
+    """The results of a history."""
 
     name: str
     found: Recorded
@@ -84,7 +84,7 @@ def files(results: Results) -> Dict[str, Optional[str]]:
 def again(task: Task) -> str:
     """The script that judges the history again."""
     if task.by_judge:
-        how = "in shards, each by the proved program" if task.in_shards else "by the proved program, and by what is found afterwards"
+        how = "in shards, each by the proved program" if task.in_shards else "by the proved program, and by a search afterwards"
         return (f"#!/bin/sh\n# Judges history.edn, beside this file, again: {how}.\n"
                 f'cd "$(dirname "$0")" || exit 3\nexec {task.again(HISTORY)} --no-cause\n')
     return ("#!/bin/sh\n# Judges history.edn, beside this file, again by the proved program.\n"

@@ -65,7 +65,7 @@ def _terminated(number: int, _frame: Optional[FrameType]) -> None:
 def _judge(given: Given) -> int:
     name = find_program()  # what may be missing is seen before the long work
     if shutil.which(name) is None:
-        raise ProgramError(f"{name} can't be run: it is no program; {CURE}")
+        raise ProgramError(f"{name} can't be run: it is not a program; {CURE}")
     if given.temporary is not None and not os.path.isdir(given.temporary):
         raise Refused(f"{given.temporary}: there is no such folder for temporary files")
     page = Page(given.html) if given.html else None

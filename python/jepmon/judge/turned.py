@@ -12,7 +12,7 @@ from ..history import Event
 
 
 def recorded(made: Translation, turned: Turned) -> Recorded:
-    """What the history is beside its events."""
+    """The facts about a history in addition to its events."""
     return Recorded(made.form, "", Facts(), made.account, key_names=turned.names.keys, value_names=turned.names.values, translation=made,
                     faults=faults.of_nemesis(turned.history.nemesis, turned.begun))
 

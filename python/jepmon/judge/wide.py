@@ -1,4 +1,4 @@
-"""Keys that are over their budget, decided by what is known afterwards (jepmon.wide), and the report with what was found."""
+"""Decides keys that are over their budget by the later events (jepmon.wide), and adds the results to the report."""
 from __future__ import annotations
 
 from typing import Callable, Dict, Iterable, Iterator, List, NamedTuple, Optional, Tuple
@@ -38,7 +38,7 @@ def over(lines: Iterable[str], options: Options) -> Iterator[Over]:
 
 
 def decisions(keys: List[Over], events: Iterable[Tuple[int, List[Event]]], seconds: int) -> Decisions:
-    """What is found of these keys in so many seconds. Their events come key by key."""
+    """The results for these keys, found in at most this many seconds. Their events come key by key."""
     found: Decisions = {}
     clock = Clock(seconds)
     options = {one.key: one.options for one in keys}
@@ -55,7 +55,7 @@ def decisions(keys: List[Over], events: Iterable[Tuple[int, List[Event]]], secon
 
 
 def decided_or_said(key: int, events: List[Event], options: Options, clock: Clock) -> Optional[Decided]:
-    """What is found of a key. The verdict stands as it was, whatever comes of this."""
+    """The result for a key. The verdict stands as it was, whatever comes of this."""
     try:
         return decide(operations(events, options.concurrency), options, clock)
     except Exception as fault:
@@ -83,7 +83,7 @@ def grouped(keys: Iterable[Over]) -> Iterator[List[Over]]:
 
 
 def said(found: Decisions, total: int, seconds: int) -> Iterator[str]:
-    """What is told of it."""
+    """The notes on it."""
     if total == 0:
         return
     alive = sum(decided.index is None for decided in found.values())

@@ -28,7 +28,7 @@ proved. Exit status: 0 legal, 1 illegal, 2 unknown, 3 no verdict.
 
 
 class Given(NamedTuple):
-    """What the command line says."""
+    """The options of the command line."""
 
     histories: List[str]
     model: Optional[str]
@@ -56,7 +56,7 @@ class Given(NamedTuple):
 
     @property
     def said(self) -> Said:
-        """What is said of the history."""
+        """The options about the history."""
         return Said(self.key, self.nil_is_absent, self.model, self.mapping, values=self.values, absent=self.absent, initial=self.initial)
 
 
@@ -79,7 +79,7 @@ def number(name: str, limits: range) -> "type[int]":
     return parsed  # type: ignore[return-value]
 
 
-def given(words: Optional[List[str]]) -> Given:
+def _parser() -> Words:
     called = command.tool(NAME)
     parser = Words(prog=called, description=DESCRIPTION.format(tool=called), formatter_class=argparse.RawDescriptionHelpFormatter)
     parser.add_argument("history", nargs="*", metavar="HISTORY", help="a file or a folder; - or nothing is standard input; several files, such as "
@@ -120,6 +120,11 @@ def given(words: Optional[List[str]]) -> Given:
     parser.add_argument("--json", action="store_true", help="print one JSON object instead of the report, for other programs "
                         "(docs/FORMATS.md has its fields)")
     parser.add_argument("--no-cause", dest="cause", action="store_false", help="the verdict alone")
+    return parser
+
+
+def given(words: Optional[List[str]]) -> Given:
+    parser = _parser()
     try:
         parsed = parser.parse_intermixed_args(words)
         mapping = mapping_words.of(parsed)

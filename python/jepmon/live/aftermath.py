@@ -24,7 +24,7 @@ class Bad(NamedTuple):
 
 
 class Told(NamedTuple):
-    """What there is to say of it; empty where a fault of this package was in the way, which is said on standard error."""
+    """The text about it; empty if a fault of this package was in the way, which standard error reports."""
 
     cause: List[str]
     page: str
@@ -62,7 +62,7 @@ def _told(folder: RunFolder, bad: Bad) -> Told:
 
 
 def read_again(folder: RunFolder) -> List[str]:
-    """What the test has found as it read the key once more."""
+    """The answers as the test read the key once more."""
     try:
         return (folder.path / AFTER).read_text("utf-8").splitlines()
     except OSError:
@@ -95,7 +95,7 @@ def event_of(line: str, index: int, number: int) -> Event:
 
 
 def report_of(bad: Bad, events: int, is_wide: bool) -> Report:
-    """What `jepmon check` says of this key, as far as the reply has it."""
+    """The line of `jepmon check` about this key, as far as the reply has it."""
     verdict = Verdict(bad.reply.split(" ")[0], (bad.at, bad.key))
     status = "dead" if verdict.word == "illegal" else "over"
     return report_on([KeyLine(bad.key, bad.model, bad.budget, events, status, bad.at, is_wide)], verdict)

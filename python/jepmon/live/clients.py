@@ -13,7 +13,7 @@ GLANCE = 0.05  # seconds between two looks at clients that go on: Ctrl-C that co
 
 
 class Test(Protocol):
-    """What clients are run by."""
+    """The runner of clients."""
 
     failure: Optional[NotLegal]
     broken_off: Optional[Refused]  # while clients are waited for, of which one has raised an exception

@@ -1,4 +1,4 @@
-"""What a run of a live test leaves in its folder: the verdict as soon as it has fallen, and at the end the cause and the page."""
+"""The files that a live test leaves in its folder: the verdict as soon as it has fallen, and at the end the cause and the page."""
 from __future__ import annotations
 
 import sys
@@ -10,7 +10,7 @@ from .verdicts import NotLegal, Unknown
 
 
 class Conclusion(NamedTuple):
-    """What came of a run."""
+    """The result of a run."""
 
     failure: Optional[NotLegal]  # None: legal
     length: int

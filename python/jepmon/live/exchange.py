@@ -52,8 +52,8 @@ class Exchange:
         return by_ends_note(self._options._replace(model=model), self.program)
 
     def is_legal_as(self, key: int, index: int, model: str) -> bool:
-        """Whether what the key has seen up to this event is legal by this model. The verdict has fallen, so the program is free to judge
-        it anew."""
+        """Whether what the key has seen up to this event is legal by this model. The verdict has fallen, so the program is free to judge it
+        again."""
         try:
             reply = self.replies([f"[:rewind {index + 1}]", self.model_line(key, model)], PATIENCE)[1]
         except Refused:

@@ -1,4 +1,4 @@
-"""What may be done about a reply that is not `legal`, beside it: for people, and not proved."""
+"""Advice about a reply that is not `legal`: for people, and not proved."""
 from __future__ import annotations
 
 from typing import AbstractSet, Callable
@@ -17,7 +17,7 @@ UNKNOWN = (
     "or raise the budget"
 )
 UNKNOWN_WIDE = (
-    "many writes were open or had timed out that answers need: let fewer clients write to one key, let writes go on at a new key after some "
+    "answers need many open or timed-out writes: let fewer clients write to one key, let writes go on at a new key after some "
     "timeouts while reads stay (Monitor.keys), or raise the budget"
 )
 UNKNOWN_QUEUE = (
@@ -31,13 +31,13 @@ def hint_of_refusal(refusal: str) -> str:
 
 
 def hint_of_unknown(names: AbstractSet[str], enqueues: int, dequeues: int, is_wide: bool) -> str:
-    """Of a key over its budget that has seen operations of these names, of which so many had completed."""
+    """Advice about a key over its budget that has seen operations of these names, with the number of completed enqueues and dequeues."""
     return UNKNOWN_QUEUE.format(enqueues, dequeues) if "enqueue" in names else UNKNOWN_WIDE if is_wide else UNKNOWN
 
 
 def hint_of_model(key: int, model: str, names: AbstractSet[str], is_legal_as: Callable[[str], bool]) -> str:
-    """Which model may have been meant for a key that is illegal, if any: its own lacks an operation that the key has seen, or
-    what the key has seen is legal by another one."""
+    """The model that may have been meant for an illegal key, if any. Its own model lacks an operation that the key has seen, or the key's
+    events are legal by another one."""
     others = [other for other in MODELS if other != model and names <= MODELS[other]]
     strange = sorted(names - MODELS.get(model, frozenset(names)))
     if strange:

@@ -1,4 +1,4 @@
-"""What a live test has told of each key: its last events, which operations it has seen, and how they ended."""
+"""The events of each key in a live test: its last events, which operations it has seen, and how they ended."""
 from __future__ import annotations
 
 import collections
@@ -11,7 +11,7 @@ LAST_EVENTS = 16  # of a key, in the text of an exception
 
 
 class Told:
-    """Learns each event as it is told; the caller has a lock."""
+    """Learns each recorded event; the caller has a lock."""
 
     def __init__(self) -> None:
         self.sources = Sources()
@@ -31,7 +31,7 @@ class Told:
         self.sources.tell(kind, process, name, key, part, index)
 
     def replace(self, key: int, index: int, line: str) -> None:
-        """The event of this index was told otherwise."""
+        """Another event was sent instead of the event of this index."""
         events = self._events[key]
         for place, (at, process, _) in enumerate(events):
             if at == index:

@@ -1,5 +1,5 @@
-"""The lines that the threads of a live test tell, in one order. While one thread awaits replies the others queue their lines, and the
-next one sends all of them together; an invocation, which changes no verdict, waits in the queue for the next line that is awaited."""
+"""The lines that the threads of a live test tell, in one order. While one thread awaits replies the others queue their lines, and the next
+one sends all of them together. An invocation, which changes no verdict, waits in the queue for the next line with an awaited reply."""
 from __future__ import annotations
 
 import _thread
@@ -45,7 +45,7 @@ class LineQueue:
         self._is_led = False
 
     def put(self, line: Line) -> None:
-        """Queues a line that nobody waits for."""
+        """Queues a line whose reply is not awaited."""
         self.lines.append(line)
 
     def ask(self, line: Line, answer: Answer) -> None:

@@ -71,9 +71,9 @@ class Monitor(LiveTest):
     initial      the value of each register before its first operation; else it is missing. begin names the value of one key
     absent       the store's answer for a missing key instead of None, such as "" or 0; writing it deletes the key
     by_ends      judges registers and sets by all their possible outcomes (ends), as `jepmon check --model register` does. Else it judges
-                 them as the kinds wide-register and wide-set, by which far fewer keys are Unknown; the other verdicts are the same
+                 them as the kinds wide-register and wide-set: far fewer keys are Unknown, and the other verdicts are the same
     log          gets each recorded line, with its :time in nanoseconds since the monitor began, and the notes. `jepmon script` with
-                 the same options judges it again. Open a file with open(path, "w", buffering=1), by lines: then it is complete
+                 the same options judges it again. Open a file by lines, with open(path, "w", buffering=1): then it is complete
                  even if the test is killed
     timeout      the seconds that a reply may take (it takes microseconds); then jepmon is killed, and the operation gets Refused
     """

@@ -1,5 +1,5 @@
-"""Numbers for values that are no integers: what Monitor.number gives. Equal things have one number. Of what Python takes to be equal those
-have numbers of their own that a store tells apart: True, 1 and 1.0, also within tuples and frozen sets."""
+"""Numbers for values that are not integers: the results of Monitor.number. Equal things have one number. Things that Python takes to be
+equal and a store tells apart have numbers of their own: True, 1 and 1.0, also within tuples and frozen sets."""
 from __future__ import annotations
 
 import numbers
@@ -30,7 +30,7 @@ class Numbers:
             return found
 
     def test(self, key: int, value: int) -> None:
-        """Tests that a value which is brought in is of the sort of those before it: the integer 0 and the number of "a" may be the same."""
+        """Tests that a written value is of the sort of those before it: the integer 0 and the number of "a" may be the same."""
         is_number = isinstance(value, Number)
         if self._sorts.setdefault(key, is_number) != is_number:
             one, others = ("by Monitor.number", "not") if is_number else ("not by Monitor.number", "are")
@@ -39,7 +39,7 @@ class Numbers:
 
 
 def apart(thing: Hashable) -> Hashable:
-    """What the thing is looked up by."""
+    """The form by which the thing is looked up."""
     if isinstance(thing, bool):
         return bool, thing
     if isinstance(thing, numbers.Number):

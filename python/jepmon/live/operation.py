@@ -50,7 +50,7 @@ class Block:
             raise misused
 
     def _take(self, other: Block) -> None:
-        """What was said of another one holds for this one."""
+        """The settings of another operation hold for this one."""
         self.__dict__.update(value=other.value, _said=other._said, _misused=other._misused)
 
     def _why_not(self, name: str) -> str:

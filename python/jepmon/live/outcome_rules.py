@@ -17,7 +17,7 @@ class Endings(NamedTuple):
 
 
 def endings(expected: Exceptions, failed: Exceptions) -> Endings:
-    """Those that are named, where they can be told apart: a class in both would be both."""
+    """The named classes, if they differ from each other: a class in both would be both."""
     for name, classes in (("expected", expected), ("failed", failed)):
         if not isinstance(classes, tuple) or not all(isinstance(one, type) and issubclass(one, BaseException) for one in classes):
             raise TypeError(f"{name} is a tuple of classes of exceptions, as (TimeoutError,), not {classes!r}")

@@ -10,8 +10,8 @@ CURE = "let threads of that process do the operations, or send it what came of t
 
 
 class OwnedLock:
-    """A lock that no other process than its own takes: a ValueError there, in place of waiting for what another thread held as the process
-    was forked, and is never free in the new one."""
+    """A lock that no other process than its own takes: there it raises a ValueError. A lock that another thread held at a fork is never
+    free in the new process."""
 
     def __init__(self) -> None:
         self._process, self._lock = os.getpid(), threading.Lock()
@@ -31,5 +31,5 @@ class OwnedLock:
 
 
 def not_sent(monitor: object) -> NoReturn:
-    """What pickling or copying a monitor raises."""
+    """The exception for pickling or copying a monitor."""
     raise TypeError(f"a {type(monitor).__name__} can't be copied or sent to another process: {CURE}")

@@ -21,7 +21,7 @@ class Record:
         return self.folder.name if self.folder is not None else ""
 
     def write(self, line: str, kept: str) -> None:
-        """A line that is sent: it goes to the log. What is kept of it, where that is not empty, goes to the folder."""
+        """A line that is sent: it goes to the log. The part that is kept of it, if not empty, goes to the folder."""
         if self.log is None and self.folder is None:
             return
         now = time.monotonic_ns() - self._begun

@@ -14,7 +14,7 @@ class Room(NamedTuple):
     counts_timeouts: bool  # whether operations that timed out count as open
 
     def is_left(self, timeouts: int) -> bool:
-        """Whether so many of its operations have timed out that writes leave it."""
+        """Whether writes leave it after this number of timeouts."""
         return self.timeouts is not None and timeouts >= self.timeouts
 
     def holds(self, pending: int, timeouts: int) -> bool:

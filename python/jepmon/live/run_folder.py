@@ -42,8 +42,8 @@ exec "${{JEPMON:-jepmon}}" {again}
 
 
 class RunFolder:
-    """A folder that is there already, and empty. An OSError says that it can't be begun. After that, what can't be written is lost, and
-    that is said once, on standard error: a test goes on without."""
+    """A folder that is there already, and empty. An OSError says that it can't be begun. After that, lines that it can't write are lost. It
+    says so once, on standard error, and the test goes on without."""
 
     def __init__(self, path: pathlib.Path, begun: datetime.datetime, options: Options, program: str, is_part: bool = False) -> None:
         self.options, self.program, self.begun = options, program, begun
@@ -55,7 +55,7 @@ class RunFolder:
         self.path = path.absolute()  # the test may go to another folder
         with contextlib.ExitStack() as on_fault:
             self._history = on_fault.enter_context(open(self.path / HISTORY, "xb", buffering=0))
-            self._append(f"; what clients did in a live test, from {self.begun.isoformat()} on; :time is in nanoseconds from then")
+            self._append(f"; the events of a live test, from {self.begun.isoformat()} on; :time is in nanoseconds from then")
             write_whole(self.path / AGAIN, self._script(), executable=True)
             on_fault.pop_all()
 
@@ -89,7 +89,7 @@ class RunFolder:
     # --- The other files ---
 
     def needs_script(self) -> None:
-        """Says that lines follow in the history which are no events."""
+        """Says that the following lines in the history are not events."""
         if not self.is_script:
             self.is_script = True
             self.put(AGAIN, self._script(), executable=True)

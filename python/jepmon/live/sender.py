@@ -123,8 +123,8 @@ class Telling:
         return self.unknown == "drop" and (at_key, index) == (line.key, line.index)
 
     def _drop(self, unknown: Unknown, lines: List[Line]) -> List[Line]:
-        """Takes back the ok that met too many outcomes, the first of the lines, and what was told behind it; gives what is to be told
-        in its place. So the key is legal up to there, with its operation open, and the verdict is that of the other keys again."""
+        """Takes back the ok that met too many outcomes, the first of the lines, and the events behind it; gives the lines to send instead.
+        So the key is legal up to there, with its operation open, and the verdict is that of the other keys again."""
         assert unknown.key is not None
         self.dropped[unknown.key] = unknown
         for line in [*lines, *self._queue.lines]:
@@ -136,8 +136,8 @@ class Telling:
         return again
 
     def _lose(self, line: Line, end: End) -> None:
-        """Of a key that was dropped an ok is told as an :info, which brings no further outcomes. The run's folder has the ok, as
-        it happened, in which the process goes on."""
+        """Records an ok of a dropped key as an :info, which brings no further outcomes. The run's folder has the ok, as it happened, in
+        which the process goes on."""
         assert line.key is not None
         end.kind, end.is_lost = "info", True
         line.text = event_line("info", end.process, end.name, line.key, end.invoked)
@@ -214,7 +214,7 @@ class Telling:
             raise copy.copy(self.failure)
 
     def _answer(self, lines: List[Line]) -> None:
-        """Has lines judged that are to be told together, and ends what they complete."""
+        """Sends lines together to be judged, and ends the operations that they complete."""
         while lines and self.failure is None:
             replies = self._replies(lines)
             legal = next((place for place, reply in enumerate(replies) if reply != "legal"), len(replies))
@@ -257,8 +257,7 @@ class Telling:
     # --- What is not legal ---
 
     def _not_legal(self, lines: List[Line], replies: List[str]) -> List[Line]:
-        """The first of these replies is not legal. Gives what is to be told now, where it is of a key that is dropped; else the test
-        ends."""
+        """The first of these replies is not legal. Gives the lines to send now, if it is of a key that is dropped; else the test ends."""
         line, reply = lines[0], replies[0]
         verdict = verdict_in(reply)
         if verdict is None or verdict.found is None:
@@ -282,15 +281,15 @@ class Telling:
         return []
 
     def _illegal_behind(self, lines: List[Line], replies: List[str]) -> Tuple[List[Line], List[str]]:
-        """From the first reply on that is `illegal`, also to what was written down behind these lines, and not sent yet: the verdict on all
-        that was written down is that one. Nothing, where there is none."""
+        """The first reply that is `illegal`, also among the replies to lines that were written down behind these and not sent yet: it is
+        the verdict on everything that was written down. Nothing, where there is none."""
         rest = list(self._queue.lines)
         lines, replies = lines + rest, replies + (self._replies(rest) if rest else [])
         place = next((place for place, reply in enumerate(replies) if reply.startswith("illegal")), len(lines))
         return lines[place:], replies[place:]
 
     def _fail(self, failure: NotLegal) -> None:
-        """What is not legal is raised by each operation that waits, and by each later one. The run's folder has it before."""
+        """Each operation that waits raises the reply that is not legal, and so does each later one. The run's folder has it before."""
         failure.folder = self._record.name
         self.failure = failure
         if self._record.folder is not None:

@@ -12,7 +12,7 @@ MOST_HINTS = 16
 
 
 class Sources:
-    """Learns each event as it is told, and says of an answer that is illegal what is strange in it."""
+    """Learns each recorded event, and says what is strange in an illegal answer."""
 
     def __init__(self) -> None:
         self.are_new = False  # whether no store can have held anything under its keys before
@@ -32,7 +32,7 @@ class Sources:
             self._failed[brought] = f"{BROUGHT[name]} by process {process} in events {began}-{index}, recorded as a fail"
 
     def hint(self, line: str) -> str:
-        """What is strange in the answer that this line tells, if anything."""
+        """The strange part of the answer in this line, if any."""
         event = LINE.fullmatch(line)
         if event is None or event[1] != "ok" or event[3] not in ANSWERED:
             return ""

@@ -1,4 +1,4 @@
-"""Keys and values of a live test, as they are told to jepmon: integers, and ABSENT for what a missing key answers."""
+"""Keys and values of a live test, as jepmon gets them: integers, and ABSENT for the answer of a missing key."""
 from __future__ import annotations
 
 from typing import Any, Iterable, NamedTuple, Tuple, Union
@@ -21,7 +21,7 @@ def told(value: Any) -> Any:
 
 
 class Missing(NamedTuple):
-    """What a register holds before its first operation, and which answer beside None means that a key is missing."""
+    """The value of a register before its first operation, and the answer in addition to None that means a missing key."""
 
     initial: int = ABSENT
     answers: Tuple[Any, ...] = ()  # none or one, which may be of any type
@@ -54,6 +54,6 @@ NONE: Any = object()  # no answer but None means a missing key
 
 
 def missing(initial: Any, absent: Any) -> Missing:
-    """What the options of a monitor say."""
+    """The values of a monitor's options."""
     answers = () if absent is NONE else (absent,)
     return Missing(int(integer(told(Missing(answers=answers).seen(initial)))), answers)

@@ -65,8 +65,8 @@ exit "$status"
 
 
 class LongFolder:
-    """It is made with the first part. An OSError says that it can't be; later on what can't be written is lost, and that is said once, on
-    standard error: the test goes on without."""
+    """It is made with the first part. An OSError says that it can't be. Later, lines that it can't write are lost; it says so once, on
+    standard error, and the test goes on without."""
 
     def __init__(self, out: Union[str, "os.PathLike[str]"], begun: datetime.datetime, keep: Optional[int], page: bool = True) -> None:
         self.path: Optional[pathlib.Path] = None
@@ -109,7 +109,7 @@ class LongFolder:
         return self._open[-1]
 
     def closed(self, part: Part, telling: Telling) -> None:
-        """Notes what has come of a part. Of legal ones the oldest are removed, where so many are kept only."""
+        """Notes the result of a part. If only some legal ones are kept, the oldest are removed."""
         said = f"{part.name}: {telling.length} events, {len(part.objects)} objects: {telling.verdict or 'no verdict'}"
         lost = "its folder" if part.folder is None else part.folder.lost
         self.lost = self.lost or lost

@@ -11,10 +11,10 @@ if TYPE_CHECKING:
 
 
 class Handle(Operations):
-    """LongMonitor.fresh makes it. Each block is an operation on one of its objects, whose name is op.name: a change goes to one that
-    is not replaced yet; of two reads one to an object that was, until it was read eight times since, for what a store has lost is seen by
-    reads alone; and a dequeue to one that was, until it was found empty twice. Where each object has its operations open already, a new
-    one comes beside them."""
+    """LongMonitor.fresh makes it. Each block is an operation on one of its objects, whose name is op.name. A change goes to an object that
+    is not replaced yet. One of two reads goes to a replaced one, until it was read eight times since, because reads alone see lost data. A
+    dequeue goes to a replaced one until it was found empty twice. Where each object has its operations open already, a new one comes beside
+    them."""
 
     def __init__(self, parts: Parts, model: str, changes: Optional[int]) -> None:
         self.model = model

@@ -9,7 +9,7 @@ MOST_EVENTS = kinds.EVENTS // 4 * 3  # so that a quarter more is left for what i
 
 
 class Limits(NamedTuple):
-    """Of one part of a test, which is one program."""
+    """The limits of one part of a test, which is one program."""
 
     events: int  # after so many its objects are replaced
     keys: int
@@ -17,7 +17,7 @@ class Limits(NamedTuple):
 
     @property
     def last_events(self) -> int:
-        """After so many nothing more begins on an object that was replaced."""
+        """After this number nothing more begins on an object that was replaced."""
         return self.events + self.events // 4
 
     @property

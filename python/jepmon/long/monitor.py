@@ -14,11 +14,11 @@
 
         monitor.run(client, 200)
 
-A handle lasts as long as the test. From time to time a new object replaces the object behind it, with a name that the store has
-never seen. An operation ends on the object on which it began, so nothing stops. An object is replaced if the program that judges it
-has had its events (new objects then go to a new program), if too many of its operations timed out, and if it is over its budget. If all
-of its operations are in use, or all threads of its program, another object is added. By locality a history is linearizable if each
-object's is, so the verdicts of all programs together are the verdict of the test.
+A handle lasts as long as the test. From time to time a new object replaces the object behind it, with a name that the store has never seen.
+An operation ends on the object on which it began, so nothing stops. An object is replaced if the program that judges it has had its events
+(new objects then go to a new program). It is also replaced if too many of its operations timed out, or if it is over its budget. If all of
+its operations are in use, or all threads of its program, another object is added. By locality a history is linearizable if each object's
+is, so the verdicts of all programs together are the verdict of the test.
 """
 from __future__ import annotations
 
@@ -162,7 +162,7 @@ class LongMonitor(LiveTest):
 
     def close(self) -> str:
         """Ends the programs. Gives the final verdict: `legal` if every operation was judged and legal; else the first reply that was not
-        legal, with its segment, and, each on a line, the counts of operations and objects that were not judged."""
+        legal, with its segment. The counts of operations and objects that were not judged follow, each on a line."""
         return self._close(None)
 
     def __enter__(self) -> LongMonitor:

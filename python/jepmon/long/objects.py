@@ -29,7 +29,7 @@ class Operations:
         return integer(told(self._parts.missing.seen(value)))
 
     def read(self) -> LongOperation:
-        """Of a register: set op.value to an integer, or None where it is missing. Of a set: to its members."""
+        """For a register set op.value to an integer, or None if it is missing. For a set, to its members."""
         return self._operation("read")
 
     def write(self, value: Optional[int]) -> LongOperation:
@@ -55,8 +55,8 @@ class Operations:
 
 
 class LongObject(Operations):
-    """An object, as long as it is judged. A handle chooses among some; what belongs together is done with one of them: the release of
-    a lock with the object of its acquire, a cas with that of the read before it. The numbers change under the lock of the test."""
+    """An object, as long as it is judged. A handle chooses among some objects. Operations that belong together need one of them: the
+    release of a lock that of its acquire, a cas that of the read before it. The numbers change under the lock of the test."""
 
     def __init__(self, parts: Parts, part: Part, key: int, name: str, model: str, changes: Optional[int]) -> None:
         self.part, self.key, self.name, self.model = part, key, name, model

@@ -28,7 +28,7 @@ class LongOperation(Block):
 
     @property
     def object(self) -> LongObject:
-        """What it is done with, once the block has begun."""
+        """The object of the operation, once the block has begun."""
         if self._object is None:
             raise ValueError("an operation has its object in its block alone")
         return self._object
@@ -79,7 +79,7 @@ class LongOperation(Block):
 
 
 class Nobody:
-    """In the place of a program that was closed: nothing is told, and operations end as they would."""
+    """Stands for a program that was closed: it records nothing, and operations end as they would."""
 
     def __init__(self, parts: Parts, model: str) -> None:
         self.endings, self.missing, self._model = parts.endings, parts.missing, model

@@ -18,8 +18,8 @@ if TYPE_CHECKING:
 
 
 class Part:
-    """It is current; then retired, where each of its objects is replaced, and read a few times more; then shut, where nothing begins any
-    more; and closed, with its program, once nothing is open. The caller has the lock of the test, but where it is said."""
+    """A part is current; then retired, if each of its objects is replaced, and read a few times more. Then it is shut, if nothing begins
+    any more; and closed, with its program, once nothing is open. The caller has the lock of the test, but where it is said."""
 
     def __init__(self, number: int, settings: Settings, limits: Limits, folders: Optional[LongFolder]) -> None:
         self.number, self.limits, self.model = number, limits, settings.model
@@ -103,6 +103,6 @@ class Part:
             self.telling.note(kind, text)
 
     def leave(self) -> None:
-        """Its program was closed. What is kept of the part elsewhere, as an object that a client holds, keeps none of its events."""
+        """Its program was closed. Objects that clients hold may keep the part, but none of its events."""
         self.telling = None
         self.objects, self.makers = [], []

@@ -185,7 +185,7 @@ class Parts:
         return part
 
     def _test(self, part: Part) -> None:
-        """Whether it is to be retired, or to be shut. Of retired ones there are as many as of current ones at most."""
+        """Whether it is to be retired, or to be shut. There are at most as many retired ones as current ones."""
         if self.is_closed:
             return
         if not part.is_retired and part.is_full:

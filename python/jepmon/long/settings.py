@@ -1,4 +1,4 @@
-"""What each part of a test without an end is begun with."""
+"""The settings of each part of a test without an end."""
 from __future__ import annotations
 
 import datetime
@@ -10,7 +10,7 @@ from ..live.values import Missing
 
 
 class Settings(NamedTuple):
-    """Of each program, and of the run."""
+    """The settings of each program, and of the run."""
 
     program: Union[str, "os.PathLike[str]", None]
     model: str

@@ -1,4 +1,4 @@
-"""What has come of the parts of a test that are closed, in so many words as one of a day or of a minute has."""
+"""The results of the closed parts of a test, in as few words after a day as after a minute."""
 from __future__ import annotations
 
 import collections

@@ -1,4 +1,4 @@
-"""What each operation does to the six objects: the table of models of docs/FORMATS.md, in Python.
+"""The effect of each operation on the six objects: the table of models of docs/FORMATS.md, in Python.
 
 A state is None or an integer (a register), a boolean (a mutex: is it held), a tuple (a queue, its front first; without an order:
 ascending) or a frozenset (a set). The proved program has these tables by itself; this is a second writing of them, for words and
@@ -106,6 +106,5 @@ def nowhere(_state: State, _part: Part) -> List[Outcome]:
 
 
 def rule(model: str, name: str) -> Rule:
-    """What the operation of this name does: each outcome is the state after it and what is found. Where there is none, it can't
-    take place."""
+    """The outcomes of the operation of this name: each is the state after it and its answer. Where there is none, it can't take place."""
     return RULES.get((model, name), nowhere)

@@ -1,11 +1,11 @@
 """Walks through the events of one key, and keeps what can be after each: its ends.
 
-An end is what one possible order of the operations leaves: the state, the open operations that have taken place in it, with what
-each found, and the timed-out ones that have (but reads, which decide nothing). The words are those of docs/guide/BUDGETS.md.
-Where no end goes on the key is dead; where an ok meets more ends than the budget it is over. The proved program says
-both, and this walk must say the same: it is there to show what the program only counts. The program counts something else
-for the kinds wide-register and wide-set, so there `follow` gives up instead. It is tested against the program, and not
-proved. Where it would take too long it gives up, and then nothing that it has found may be shown.
+An end is the result of one possible order of the operations. It has the state, the open operations that have taken place in it, each with
+its answer, and the timed-out ones that have (but not reads, which decide nothing). The words are those of docs/guide/BUDGETS.md. Where no
+end goes on the key is dead; where an ok meets more ends than the budget it is over. The proved program says both, and this walk must say
+the same: it is there to show what the program only counts. The program counts something else for the kinds wide-register and wide-set, so
+there `follow` gives up instead. It is tested against the program, and not proved. Where it would take too long it gives up, and then
+nothing that it has found may be shown.
 
     walked = walk(of_key(events, 7), "register", 4096)
     walked.status            # "alive", "dead", "over", or "gave up"
@@ -55,7 +55,7 @@ class Step(NamedTuple):
 
 
 class End(NamedTuple):
-    """What one possible order leaves."""
+    """The result of one possible order."""
 
     state: State
     taken: Mapping[int, Found]  # of the operations that are open or have timed out those that took place, with what each found
@@ -73,7 +73,7 @@ class End(NamedTuple):
 
 
 class Live(NamedTuple):
-    """An operation that may still take place: it is open, or has timed out and is no read."""
+    """An operation that may still take place: it is open, or has timed out and is not a read."""
 
     id: int  # the index of its invocation
     name: str
@@ -128,8 +128,8 @@ class Walker:
         return count
 
     def can_have(self, operation: int, test: Callable[[State], bool]) -> bool:
-        """Whether the state passes the test in one of the ends that are held, or this operation has taken place in one, and passes
-        the test by what it found, if it finds anything."""
+        """Whether in one of the ends the state passes the test, or this operation has taken place and its answer, if any, passes the
+        test."""
         live = self.live.get(operation)
         if any(map(test, {state for state, _, _ in self._ends})):
             return True
@@ -163,7 +163,7 @@ class Walker:
         return self._ends
 
     def complete(self, most: int = UNBOUNDED) -> Dict[Place, Link]:
-        """All ends that there are now, those by what was invoked since the last ok too. TooMany where they are more than most."""
+        """All ends at this point, including those by invocations since the last ok. TooMany where they are more than most."""
         if self._fresh:
             new = self._reach(self._fresh, list(self._ends), {}, most)
             everything, moves = list(self.live.values()), {}  # type: Tuple[List[Live], Dict[State, List[Move]]]
@@ -175,8 +175,8 @@ class Walker:
         return self._ends
 
     def after_ok(self, operation: Live, answer: Part) -> Dict[Place, Link]:
-        """The ends that go on where the operation completes with this answer. The ends are complete before. nil agrees with whatever
-        a register holds; what finds nothing agrees with every answer."""
+        """The ends that go on where the operation completes with this answer. The ends are complete before. A nil agrees with any value of
+        a register; an operation without an answer agrees with every answer."""
         seat = operation.seat
         if not operation.answers:
             return {(state, seats ^ seat, finds): link for (state, seats, finds), link in self._ends.items() if seats & seat}
@@ -250,13 +250,13 @@ class Walker:
 
 
 def _moves(operations: List[Live], state: State) -> List[Move]:
-    """What each operation may do in this state."""
+    """The outcomes of each operation in this state."""
     return [(live.seat, live.id, after, frozenset(((live.seat, found),)) if live.answers else NOTHING)
             for live in operations for after, found in live.rule(state, live.part)]
 
 
 class Stop(NamedTuple):
-    """Where a walk was after so many steps."""
+    """The place of a walk after a number of steps."""
 
     steps: int
     walker: Walker
@@ -264,7 +264,7 @@ class Stop(NamedTuple):
 
 @dataclasses.dataclass(frozen=True)
 class Walk:
-    """What a walk has come to."""
+    """The result of a walk."""
 
     model: str
     budget: int
@@ -276,7 +276,7 @@ class Walk:
 
     @property
     def index(self) -> Optional[int]:
-        """Of the event at which it is dead or over."""
+        """The index of the event at which it is dead or over."""
         return self.steps[-1].event.index if self.status in ("dead", "over") else None
 
     @property
@@ -285,13 +285,13 @@ class Walk:
         return self.steps[-1].event if self.status == "dead" else None
 
     def ends(self) -> List[End]:
-        """The ends at its end: where it is dead those just before the fatal event. None where it is over or gave up. GaveUp comes
-        where there are too many, which the budget does not bound where the last event is no ok."""
+        """The ends at its end: where it is dead those just before the fatal event. None where it is over or gave up. GaveUp is raised if
+        there are too many; the budget does not bound them if the last event is not an ok."""
         return self.walker.ends() if self.status in ("alive", "dead") else []
 
     def while_open(self, invocation: int, work: int = WORK) -> Optional[Set[State]]:
-        """What the object may have held while the operation of the fatal event was open, in any order that is possible just before
-        that event. None where there would be too much to try."""
+        """The values that the object may have held while the operation of the fatal event was open, in any order that is possible just
+        before that event. None where there would be too much to try."""
         begun = next(place for place, step in enumerate(self.steps) if step.event.index == invocation)
         stop = next(stop for stop in reversed(self.stops) if stop.steps <= begun)
         walker = stop.walker.copy(UNBOUNDED, work, invocation)

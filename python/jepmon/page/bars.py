@@ -47,7 +47,7 @@ def bars(given: PageInput, width: int = WIDTH, lines: int = LINES, plain: bool =
 
 
 def fitting(given: PageInput, fatal: Optional[int], labels: Labels, width: int) -> Optional[Drawn]:
-    """What has room in the width: as many events as may be."""
+    """The events that have room in the width: as many as may be."""
     smallest = smallest_of(given)
     if smallest:
         whole = drawn_of(operations(smallest, given.concurrency), smallest, labels)
@@ -152,7 +152,7 @@ def draw(line: "Line", bar: layout.Bar, drawn: Drawn, labels: Labels, fatal: Opt
 
 
 class Line:
-    """A line of characters that are put in their columns; what has no room within it is left out."""
+    """A line of characters that are put in their columns; characters without room are left out."""
 
     def __init__(self, width: int) -> None:
         self.cells: Dict[int, str] = {}

@@ -1,4 +1,4 @@
-"""The sentences of a page that are its own: what it is about, whether the walk agrees with the verdict, what is proved."""
+"""The page's own sentences: its subject, whether the walk agrees with the verdict, and which part is proved."""
 from __future__ import annotations
 
 from typing import List, Optional, Tuple
@@ -48,7 +48,7 @@ def agreement(given: PageInput) -> Tuple[bool, str]:
 
 
 def headline(page: Page) -> str:
-    """The cause in one sentence; where none was given, what the verdict says."""
+    """The cause in one sentence; if none was given, that of the verdict."""
     given = page.given
     if given.headline:
         return given.headline
@@ -69,7 +69,7 @@ def told(event: Event, page: Page) -> str:
 
 
 def facts(page: Page) -> List[Tuple[str, str]]:
-    """What was judged, and how: names and values."""
+    """The judged history, and how it was judged: names and values."""
     given, choice = page.given, page.choice
     name = f" ({printable(given.key_name)})" if given.key_name else ""
     found = [("file", printable(given.file)), ("key", f"{given.key}{name}"),

@@ -11,9 +11,8 @@ AFTER = 500  # of them behind the fatal one, where not all have room
 
 
 class Choice(NamedTuple):
-    """The events that are shown; the operations that are, with those that were open before the first of these events; those of
-    the smallest part that are further away, which are shown with it; how many events there are before and after that are not
-    shown."""
+    """The events that are shown, and the operations, with those that were open before the first of these events. Then the operations of the
+    smallest part that are further away, and the numbers of hidden events before and after."""
 
     events: Sequence[Event]
     operations: List[Operation]
@@ -25,8 +24,7 @@ class Choice(NamedTuple):
 
 def choose(events: Sequence[Event], concurrency: int, fatal: Optional[int], part: AbstractSet[int] = frozenset(),
            most: int = MOST) -> Choice:
-    """Chooses at most so many events, with the fatal one (by its index) among them; `part` has the indices of the smallest
-    part."""
+    """Chooses at most `most` events, with the fatal one (by its index) among them; `part` has the indices of the smallest part."""
     every = operations(events, concurrency)
     if len(events) <= most:
         return Choice(events, every, [], 0, 0, len(every))
@@ -39,7 +37,7 @@ def choose(events: Sequence[Event], concurrency: int, fatal: Optional[int], part
 
 
 def meets(operation: Operation, chosen: Sequence[Event]) -> bool:
-    """Whether the operation may take place at one of these events, or is told there."""
+    """Whether the operation may take place at one of these events, or has an event there."""
     first, last = chosen[0].index, chosen[-1].index
     ended = operation.completion
     return operation.invocation.index <= last and (ended is None or ended.index >= first or stays(operation))

@@ -1,5 +1,5 @@
-"""What the script of a page draws: one JSON value, as short as may be. Operations, events and columns are named by their
-numbers in it; script.js says what stands where."""
+"""The data that the script of a page draws: one JSON value, as short as may be. Operations, events and columns are named by their numbers
+in it; script.js says what stands where."""
 from __future__ import annotations
 
 import json
@@ -25,8 +25,8 @@ CHANGES = OPERATIONS - {"read"}
 
 
 class Page(NamedTuple):
-    """What a page is about: what it was given, what of it is shown, the operations of the smallest illegal part, the fatal
-    event's index, and what a walk found (through all events, and through those of the part alone), where that may be shown."""
+    """The data of a page: the input, the part that is shown, the operations of the smallest illegal part, and the fatal event's index. It
+    also has the results of the walks through all events and through those of the part alone, if they may be shown."""
 
     given: PageInput
     choice: Choice
@@ -114,8 +114,8 @@ def field_text(value: Any) -> str:
 
 
 def operation_row(operation: Operation, numbers: Mapping[int, int], labels: Labels) -> List[Any]:
-    """Process, client, name, kind, label, the numbers of its events (-1: none), how it ended, the parts of its events as they
-    stand there (the second one where it is another), and what its numbers stand for; what is empty at the end left out."""
+    """Process, client, name, kind, label, the numbers of its events (-1: none), and how it ended. Then the parts of its events as they are
+    (the second one if it is another), and the meaning of its numbers. Empty fields at the end are left out."""
     asked, ended = operation.invocation, operation.completion
     parts = [part_text(asked.value), part_text(ended.value) if ended is not None and ended.value != asked.value else ""]
     row = [asked.process, operation.thread, asked.name, CHANGE if asked.name in CHANGES else READ,
@@ -138,9 +138,8 @@ def other_labels(page: Page, operations: Sequence[Operation], of_invocation: Map
 
 
 def view_row(of: View, walked: Optional[Walked], numbers: Mapping[int, int], of_invocation: Mapping[int, int]) -> Dict[str, Any]:
-    """The columns' events and gaps, the width, the lanes, the bars in the order of their invocations (operation, lane, row,
-    from which column, to which, and in which it was told), the bands of faults, and what the object could hold just before an
-    ok."""
+    """The columns' events and gaps, the width, and the lanes. Then the bars in the order of their invocations (operation, lane, row, first
+    column, last column, and the column of its event), the bands of faults, and the values that the object could hold just before an ok."""
     bars = [[of_invocation[bar.operation.invocation.index], number, bar.row, bar.begin, bar.end, bar.told]
             for number, lane in enumerate(of.lanes) for bar in lane.bars]
     return {
@@ -155,8 +154,8 @@ def view_row(of: View, walked: Optional[Walked], numbers: Mapping[int, int], of_
 
 
 def orders(walked: Optional[Walked], of_invocation: Mapping[int, int]) -> Dict[str, Any]:
-    """The orders that lead to the ends, as a tree: of each step the operation and the step before it (-1: none); of each end
-    its last step, and how many steps come before the first that is shown."""
+    """The orders that lead to the ends, as a tree. Each step has its operation and the step before it (-1: none). Each end has its last
+    step, and the number of steps before the first that is shown."""
     steps: List[List[int]] = [[], []]
     lasts: List[List[int]] = []
     ends = walked.ends if walked else ()

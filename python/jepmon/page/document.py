@@ -63,7 +63,7 @@ def render(given: PageInput) -> str:
 
 
 def page_of(given: PageInput) -> Page:
-    """What the page is about."""
+    """The subject of the page."""
     fatal = fatal_of(given.verdict)
     smallest = smallest_of(given)
     part_walked = walked(walk.walk(smallest, given.model, walk.GREATEST, PART_WORK), given.names) if smallest else None
@@ -108,7 +108,7 @@ def switch(page: Page) -> str:
 
 
 def legend(page: Page) -> str:
-    """What the bars mean: those that are there."""
+    """The meaning of the bars: those that are there."""
     every = page.choice.operations
     reads = any(each.invocation.name == "read" for each in every)
     shown: List[Tuple[str, str, str]] = []

@@ -1,5 +1,5 @@
-"""The table of the ends just before the fatal event, which readers are told of as outcomes: what the object holds, and which of
-the open operations have taken place."""
+"""The table of the ends just before the fatal event, which readers know as outcomes: the value of the object, and the open operations that
+have taken place."""
 from __future__ import annotations
 
 import collections
@@ -44,8 +44,8 @@ as numbered dots.</p>
 
 
 def pending_of(ends: Sequence[End], page: Page) -> List[int]:
-    """The operations that were open or had timed out, by the index of their invocations: the one of the fatal event, those that
-    took place in some ends and not in others, those that did in all."""
+    """The operations that were open or had timed out, by the index of their invocations. First comes the one of the fatal event, then those
+    that took place in some ends and not in others, and last those that did in all."""
     counts = collections.Counter(index for end in ends for index in end.taken)
     fatal = [each.invocation.index for each in page.choice.operations
              if each.completion is not None and each.completion.index == page.fatal]

@@ -24,10 +24,10 @@ class Band(NamedTuple):
 
 
 def spans(faults: Sequence[AnyFault], events: Sequence[Event]) -> List[Tuple[str, int, int]]:
-    """The text of each fault that held at some of these events, and between which of them it began and ended: gap i is between
-    event i and event i + 1, -1 before the first, and the last one after the last. One that is told by time, where an event has
-    no :time, is left out, and so is one that was over before the first event or began after the last. Those of one text that meet are one:
-    a nemesis may begin what holds already, and end none of it."""
+    """The text of each fault that held at some of these events, and the gaps in which it began and ended. Gap i is between event i and
+    event i + 1, -1 before the first, and the last one after the last. Faults by time are left out if an event has no :time, and so are
+    faults that were over before the first event or began after the last. Those of one text that meet are one: a nemesis may begin what
+    holds already, and end none of it."""
     indices = [event.index for event in events]
     times = [event.fields["time"] for event in events if isinstance(event.fields.get("time"), int)]
     times = list(itertools.accumulate(times, max))  # clocks may be set back

@@ -1,4 +1,4 @@
-"""From a walk through a key's events (jepmon.objects.configurations) to what a page shows of it, in words."""
+"""From a walk through a key's events (jepmon.objects.configurations) to the words of a page."""
 from __future__ import annotations
 
 from typing import Dict, Iterable, List, Mapping, Sequence, Tuple
@@ -16,7 +16,7 @@ WORK = walk.WORK  # outcomes to try once more, for what was held
 
 
 def walked(given: walk.Walk, names: Mapping[int, str]) -> Walked:
-    """What the walk found, in words."""
+    """The result of the walk, in words."""
     labels = Labels(names)
     at = given.steps[-1].event.index if given.steps else None
     try:
@@ -47,7 +47,7 @@ def state_words(model: str, state: State, labels: Labels) -> str:
 
 
 def found_words(taken: Mapping[int, Found], live: Mapping[int, walk.Live], labels: Labels) -> Dict[int, str]:
-    """What each operation found that has taken place and has not been answered; "" where there is nothing to find."""
+    """The answer of each operation that has taken place and has not been answered; "" if there is nothing to find."""
     return {id: labels.value(found) if id in live and live[id].answers else "" for id, found in taken.items()}
 
 

@@ -1,4 +1,4 @@
-"""What a page is given: plain data about one key of one history, and what was found out about it."""
+"""The data of a page: plain data about one key of one history, and the results about it."""
 from __future__ import annotations
 
 from typing import List, Mapping, NamedTuple, Optional, Sequence, Tuple, Union
@@ -9,9 +9,9 @@ from ..history.kinds import BUDGET
 
 
 class Fault(NamedTuple):
-    """A fault, and the time in which it held: from `begin` to `end`. By "index" these are numbers of events of the whole
-    history that came before it (of a nemesis' event: its index); by "time" they are told in the unit of the events' :time. An
-    end of None: it held to the end of the history. An end that is the begin: it is one moment, as a reply that was lost."""
+    """A fault, and the time in which it held: from `begin` to `end`. By "index" these are numbers of earlier events of the whole history
+    (for a nemesis' event: its index). By "time" they have the unit of the events' :time. An end of None: it held to the end of the history.
+    An end that is the begin: it is one moment, as a reply that was lost."""
 
     text: str
     begin: int
@@ -23,9 +23,9 @@ AnyFault = Union[Fault, notes.Fault]
 
 
 class End(NamedTuple):
-    """One way in which the events before the fatal one may have gone: what the object holds after it, in words; which of the
-    operations that were open or timed out have taken place in it, by the index of their invocation, each with what it found in
-    words ("" where it has no answer); and one order of the operations that leads there, by the index of their invocations."""
+    """One way in which the events before the fatal one may have gone. It has the value of the object after it, in words. It has the open or
+    timed-out operations that have taken place in it, by the index of their invocation, each with its answer in words ("" if it has none).
+    And it has one order of the operations that leads there, by the index of their invocations."""
 
     state: str
     taken: Mapping[int, str]
@@ -33,8 +33,8 @@ class End(NamedTuple):
 
 
 class Walked(NamedTuple):
-    """What a walk through the key's events found. It ended at event `at` as "dead" (no end goes on), "over" (more ends than the
-    budget), or "gave-up" (more than it would follow); as "alive" it came to the last event."""
+    """The result of a walk through the key's events. It ended at event `at` as "dead" (no end goes on), "over" (more ends than the budget),
+    or "gave-up" (more than it would follow); as "alive" it came to the last event."""
 
     ended: str
     at: Optional[int]
@@ -46,8 +46,8 @@ class Walked(NamedTuple):
 
 
 class Other(NamedTuple):
-    """Another key of the history that is not legal: its name, "illegal" or "unknown" from the event of this index on, its cause in a
-    sentence, and where its page is, "" where it has none."""
+    """Another key of the history that is not legal: its name, "illegal" or "unknown" from the event of this index on, and its cause in a
+    sentence. The last field is the place of its page, "" if it has none."""
 
     name: str
     word: str
@@ -57,11 +57,10 @@ class Other(NamedTuple):
 
 
 class PageInput(NamedTuple):
-    """All that a page shows. `verdict` is jepmon's last line and `report` its line of this key; `headline` and `sentences` say
-    the cause; `smallest` has the events of the smallest illegal part, or their indices; `names` says what numbered values stand
-    for, and `key_name` what the key's number stands for; `again` is the command that judges the history again; `proviso` says what is
-    proved, where that is not what it is of most pages; `others` are the other keys that are not legal, and `back` is where the page of
-    the first one is."""
+    """All that a page shows. `verdict` is jepmon's last line, and `report` its line of this key. `headline` and `sentences` say the cause.
+    `smallest` has the events of the smallest illegal part, or their indices. `names` has the meaning of numbered values, and `key_name`
+    that of the key's number. `again` is the command that judges the history again. `proviso` says which part is proved, if that differs
+    from most pages. `others` are the other keys that are not legal, and `back` is the place of the first one's page."""
 
     verdict: str
     key: int

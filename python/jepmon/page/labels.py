@@ -1,4 +1,4 @@
-"""The words for values and operations, as they stand on a page and on a terminal: `write 3`, `read → 2`, `cas 1→2`."""
+"""The words for values and operations on a page and in a terminal: `write 3`, `read → 2`, `cas 1→2`."""
 from __future__ import annotations
 
 import heapq

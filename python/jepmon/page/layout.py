@@ -1,7 +1,7 @@
 """Where the bars of operations stand: the row of each, and the gaps between events that leave room for the labels.
 
-A place is the number of an event among those that are shown, from 0; gap i is from event i to event i + 1. The same layout
-serves the page (in pixels), the picture of the README (in pixels) and the terminal (in characters).
+A place is the number of an event among those that are shown, from 0; gap i is from event i to event i + 1. The page (in pixels), the
+picture of the README (in pixels) and the terminal (in characters) have the same layout.
 """
 from __future__ import annotations
 
@@ -33,14 +33,14 @@ class Lane(NamedTuple):
 
 
 def stays(operation: Operation) -> bool:
-    """Whether the operation timed out and may still take place: what a read or a dequeue found nobody was told of a read it says
-    nothing, but a dequeue may take a value out."""
+    """Whether the operation timed out and may still take place. A read without an answer says nothing, but a dequeue may take a value
+    out."""
     return operation.outcome == "info" and operation.invocation.name != "read"
 
 
 def lanes(operations: Sequence[Operation], places: Dict[int, int], last: int) -> List[Lane]:
-    """The lanes of these operations, whose events' indices have these places; those that began at place `last` or before stay
-    to the right edge where they timed out, and later ones, of which no event is judged, only to where that was told."""
+    """The lanes of these operations, whose events' indices have these places. Operations that began at place `last` or before stay to the
+    right edge if they timed out. Later ones have no judged event, and stay only to their :info."""
     of_thread: Dict[int, List[Operation]] = {}
     for operation in operations:
         of_thread.setdefault(operation.thread, []).append(operation)

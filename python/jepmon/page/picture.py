@@ -94,7 +94,7 @@ class Drawing:
         self.width, self.height = self.right + FRAME, self.bottom + HELD
 
     def x(self, place: int) -> int:
-        """Of the event at this place; before the first and behind the last the edge."""
+        """The position of the event at this place; before the first and behind the last the edge."""
         if place < 0:
             return NAMES
         return NAMES + round(self.laid.places[place] * STRETCH) if place < len(self.laid.places) else self.right
@@ -137,7 +137,7 @@ class Drawing:
         yield f'<text class="{"bold" if is_fatal else ""}" x="{left + 11}" y="{y + 15}">{label}</text>'
 
     def foot(self, found: Walked) -> Iterator[str]:
-        """What the object could hold, from one ok to the next."""
+        """The values that the object could hold, from one ok to the next."""
         y = self.bottom
         wide, high = self.width - 2, self.height - y - 9
         yield f'<path class="panel" d="M1 {y}h{wide}v{high}a8 8 0 0 1 -8 8H9a8 8 0 0 1 -8 -8z"/>'

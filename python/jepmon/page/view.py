@@ -45,8 +45,8 @@ def of_letter(letter: str) -> int:
 
 def view(events: Sequence[Event], operations: Sequence[Operation], fatal: int, given: Sequence[AnyFault], labels: Labels,
          walked: Optional[Walked] = None) -> View:
-    """The view of these operations: `events` are the key's own events, `fatal` is the index of the fatal one (the last one's
-    where there is none). What a walk found gets room as well."""
+    """The view of these operations: `events` are the key's own events, `fatal` is the index of the fatal one (the last one's where there is
+    none). The results of a walk get room as well."""
     shown = {event.index for operation in operations for event in operation if isinstance(event, Event)}
     columns = [event for event in events if event.index in shown]
     places = {event.index: place for place, event in enumerate(columns)}

@@ -1,7 +1,7 @@
 """The program `jepmon`: where it is, a check of a recorded history by it, and a running `jepmon script`.
 
-Whatever goes wrong with the program itself (there is none, it can't be run, it died, it gave no reply) is a ProgramError, whose
-text is one line. What the program says of a history is a Report, also where that is a refusal.
+Whatever goes wrong with the program itself (there is none, it can't be run, it died, it gave no reply) is a ProgramError, whose text is one
+line. The program's answer about a history is a Report, also if that is a refusal.
 """
 from __future__ import annotations
 

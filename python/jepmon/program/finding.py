@@ -16,8 +16,8 @@ PROMPT = 5.0  # seconds in which the program prints its help
 
 
 def find_program(named: Optional[str] = None) -> str:
-    """The path of the program: the one that is named, or that JEPMON names; else the one built or released in the repository in
-    which this package lies; else the `jepmon` beside the Python interpreter or on the PATH. Nothing is built."""
+    """The path of the program: the named one, or the one that JEPMON names; else the one built or released in the repository of this
+    package. Else it is the `jepmon` in the Python interpreter's folder or on the PATH. Nothing is built."""
     found = named or os.environ.get("JEPMON")
     if found:
         return os.fspath(found)

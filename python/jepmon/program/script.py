@@ -85,7 +85,7 @@ class Script:
         return reply.decode(errors="replace")
 
     def _ended(self) -> ProgramError:
-        """How it has ended, with what it wrote to standard error."""
+        """How it has ended, with its standard error."""
         try:
             status = self._child.wait(timeout=PATIENCE)
         except subprocess.TimeoutExpired:
@@ -94,7 +94,7 @@ class Script:
         return ProgramError(f"{self._name} has ended, {how}{self._errors_told()}")
 
     def _errors_told(self) -> str:
-        """The last of what it wrote to standard error; of a refusal its line alone, without the usual cause."""
+        """The end of its standard error; a refusal's line alone, without the usual cause."""
         file = self._errors.fileno()
         text = os.pread(file, 2000, max(0, os.fstat(file).st_size - 2000)).decode(errors="replace").strip()
         refusals = [line for line in text.splitlines() if line.startswith("refused ")]

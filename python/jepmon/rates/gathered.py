@@ -1,4 +1,4 @@
-"""What a page of rates is drawn from: operations, counted by name, outcome, time and latency. The memory does not grow with their number."""
+"""The data of a page of rates: operations, counted by name, outcome, time and latency. The memory does not grow with their number."""
 from __future__ import annotations
 
 import collections

@@ -1,4 +1,4 @@
-"""What a page of rates is given: plain data about one run, or one recorded history."""
+"""The data of a page of rates: plain data about one run, or one recorded history."""
 from __future__ import annotations
 
 from typing import NamedTuple, Sequence, Tuple

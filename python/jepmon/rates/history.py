@@ -32,12 +32,12 @@ class Key:
 
 
 class Read:
-    """What was read of a history. Faults that have not ended end with it."""
+    """The facts in a history. Faults that have not ended end with it."""
 
     def __init__(self) -> None:
         self.keys: Dict[int, Key] = {}
         self.faults: List[Fault] = []
-        self.untimed = 0  # events without a time, of which nothing is said
+        self.untimed = 0  # events without a time, and nothing is said about it
 
 
 class Begun(NamedTuple):

@@ -1,5 +1,5 @@
-"""Moments of a run, of which only the gaps between them are asked for: a byte for each slot of time, whose memory does not grow with
-their number."""
+"""Moments of a run. Only the gaps between them count, so a byte for each slot of time suffices, and the memory does not grow with their
+number."""
 from __future__ import annotations
 
 SLOT = 1_000_000  # nanoseconds

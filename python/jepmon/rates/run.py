@@ -20,7 +20,7 @@ NAME = re.compile(r"([0-9]+) is '(.*)'$", re.M)
 
 
 class Drawn(NamedTuple):
-    """What was read of a run."""
+    """The files of a run, as read."""
 
     gathered: Gathered
     faults: List[Fault]
@@ -29,8 +29,8 @@ class Drawn(NamedTuple):
 
 
 def leave(folder: pathlib.Path, is_said: bool = False) -> None:
-    """Writes the page of a run into its folder. The verdict stands whatever comes of this, so that nothing is raised. That the folder can't
-    be written may be said already."""
+    """Writes the page of a run into its folder. The verdict stands whatever comes of this, so that nothing is raised. The message about the
+    folder may have been printed already."""
     try:
         write_whole(folder / RUN_PAGE, render(page_of(folder)))
     except OSError as fault:
@@ -41,7 +41,7 @@ def leave(folder: pathlib.Path, is_said: bool = False) -> None:
 
 
 def page_of(folder: pathlib.Path, whole: bool = False) -> RatesPage:
-    """The page of the run in this folder. Of a long run it has the newest parts, unless it is to have the `whole`."""
+    """The page of the run in this folder. For a long run it has the newest parts, unless it is to have the `whole`."""
     drawn = read_parts(folder, whole)
     facts = facts_of(folder)
     command = facts.pop("command", "")
@@ -71,7 +71,7 @@ def verdict_of(folder: pathlib.Path) -> str:
 
 
 def facts_of(folder: pathlib.Path) -> Dict[str, str]:
-    """What the test has said of the run; nothing where it has said nothing."""
+    """The test's own facts about the run; nothing if it has none."""
     try:
         found = json.loads(text_of(folder / RUN_FACTS) or "{}")
     except ValueError:
@@ -87,7 +87,7 @@ def text_of(path: pathlib.Path) -> str:
 
 
 def links(folder: pathlib.Path) -> Iterator[Tuple[str, str]]:
-    """What else there is to look at, as it stands beside the page."""
+    """Further things to look at, as links on the page."""
     for part in parts_of(folder):
         if (part / PAGE).exists():
             there = (part / PAGE).relative_to(folder)
@@ -131,7 +131,7 @@ def newest(parts: List[pathlib.Path]) -> List[pathlib.Path]:
 
 
 def notes(folder: pathlib.Path, parts: List[pathlib.Path], chosen: List[pathlib.Path], untimed: int) -> Iterator[str]:
-    """What the page does not show."""
+    """The parts that the page does not show."""
     if len(chosen) < len(parts):
         yield f"Shown are the newest {len(chosen)} of {len(parts)} parts, and those that are not legal; jepmon-runs --whole shows all."
     removed = text_of(folder / "parts.txt").count(": removed, ")
@@ -142,7 +142,7 @@ def notes(folder: pathlib.Path, parts: List[pathlib.Path], chosen: List[pathlib.
 
 
 class Statuses:
-    """What is known of the keys of a part."""
+    """The facts about the keys of a part."""
 
     def __init__(self, part: pathlib.Path) -> None:
         verdict, counts = text_of(part / VERDICT), text_of(part / COUNTS)

@@ -46,7 +46,7 @@ def rows(faults: Sequence[Fault], end: int, pixels: int) -> List[Row]:
 
 
 def _laid(faults: Sequence[Fault], pixel: int) -> List[List[Bar]]:
-    """In as many rows as overlaps need; what has no row any more stands in the last one."""
+    """In as many rows as overlaps need; the last row also has those without a row of their own."""
     laid: List[List[Bar]] = []
     for fault in faults:
         bar = Bar([fault.text], ", ".join(nodes_of(fault.text)), fault.begin, fault.end)

@@ -1,4 +1,4 @@
-"""The tables of a page of rates: latencies, what faults did, and keys."""
+"""The tables of a page of rates: latencies, effects of faults, and keys."""
 from __future__ import annotations
 
 import collections
@@ -18,7 +18,7 @@ Cell = Tuple[str, str]  # a text, and the class of its cell
 
 
 class Effect(NamedTuple):
-    """What a fault did to clients, in nanoseconds."""
+    """The effect of a fault on clients, in nanoseconds."""
 
     fault: Fault
     without: int  # the longest time without an ok that meets it

@@ -1,7 +1,7 @@
 """`jepmon-runs`: all runs of a folder at a glance, as lines and as a page, index.html, that leads to the page of each.
 
 summary.py  what a run's folder says of it
-index.py    the page; jepmon-test makes it anew at each end
+index.py    the page; jepmon-test makes it again at each end
 tool.py     the command
 """
 from __future__ import annotations

@@ -1,4 +1,4 @@
-"""What there is to say of a run in one line, from its folder."""
+"""A run in one line, from its folder."""
 from __future__ import annotations
 
 import datetime
@@ -14,7 +14,7 @@ COUNT = re.compile(r"^[a-z]+: ([0-9]+) ok, ([0-9]+) fail, ([0-9]+) info$", re.M)
 
 
 class Summary(NamedTuple):
-    """A run. What its folder does not say is empty."""
+    """A run. Fields that its folder lacks are empty."""
 
     name: str  # of its folder
     begun: str

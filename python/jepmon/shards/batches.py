@@ -1,9 +1,9 @@
 """The second pass: the events of keys as texts that one `jepmon check` judges, one key behind another.
 
-Keys and processes are given anew. A key's number is its place in the text. In each key a process has a thread of its own, of 64; where
-there are more processes than that, each operation gets a free one. After an :info, and where a key leaves an operation open and another
-key follows, a thread goes on as process + 64. What is left open is ended by an :info before the next key, which changes no status: no
-ok follows it, and that an operation may take place later makes nothing illegal.
+Keys and processes get new numbers. A key's number is its place in the text. In each key a process has a thread of its own, of 64; where
+there are more processes than that, each operation gets a free one. After an :info, and if a key leaves an operation open and another key
+follows, a thread goes on as process + 64. An :info ends open operations before the next key. It changes no status: no ok follows it, and an
+operation that may take place later makes nothing illegal.
 """
 from __future__ import annotations
 
@@ -36,7 +36,7 @@ class KeyMap(NamedTuple):
 
 
 class Batch(NamedTuple):
-    """What one check judges: its text, the keys in their order, and the index in the history of each event."""
+    """The input of one check: its text, the keys in their order, and the index in the history of each event."""
 
     text: bytes
     keys: List[KeyMap]
@@ -44,7 +44,7 @@ class Batch(NamedTuple):
 
 
 class Spelling(NamedTuple):
-    """How an event begins, of one type and operation, by threads; in front of it stands the end of the event before."""
+    """How an event begins, of one type and operation, by threads; the end of the event before comes first."""
 
     kind: bytes
     name: bytes
@@ -81,7 +81,7 @@ Row = Tuple[int, List[bytes], Spelling, bool]  # of a code: the process, the hea
 
 
 class Rows(Dict[int, Row]):
-    """What the codes of events say."""
+    """The meaning of the codes of events."""
 
     def __init__(self, threads: Threads) -> None:
         super().__init__()
@@ -109,11 +109,11 @@ class BatchText:
         self.places = array.array(NUMBERS)
 
     def has_place(self, events: int) -> bool:
-        """Whether a key with so many events may follow those that are here."""
+        """Whether a key with this number of events may follow those that are here."""
         return len(self.keys) < self._sizes.keys and len(self._heads) + len(self._open) + events <= self._sizes.events
 
     def add(self, key: int, events: Events, rest: Optional[Rest]) -> None:
-        """Adds the events of a key. What has tested them is given where there are more than these."""
+        """Adds the events of a key. If there are more than these, their tester is given."""
         self._close()
         rows = list(map(self._rows.__getitem__, events[1:self._sizes.events * FIELDS:FIELDS]))
         processes = collections.Counter([row[0] for row in rows])

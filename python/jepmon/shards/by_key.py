@@ -1,5 +1,5 @@
-"""The events of a shard by their keys. Of a key with more events than one check takes the first ones are kept, and those behind them
-are tested here, since no program sees them."""
+"""The events of a shard by their keys. For a key with more events than one check takes, it keeps the first ones and tests those behind
+them, since no program sees them."""
 from __future__ import annotations
 
 import functools
@@ -63,8 +63,7 @@ def event_of(kind: bytes, process: int, name: bytes, part: bytes) -> Event:
 
 
 def events_of(sources: Sequence[Source], shard: int, most: int) -> Tuple[Dict[bytes, Events], Dict[bytes, Rest]]:
-    """The events of each key of a shard, and what has tested those of a key with more than so many. Of such a key that many and one
-    more are kept."""
+    """The events of each key of a shard, and the tester of those of a key with more than `most`. Such a key keeps `most` + 1 of them."""
     keys = KeysEvents()
     rests: Dict[bytes, Rest] = {}
     count = 0

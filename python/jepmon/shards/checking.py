@@ -30,8 +30,8 @@ def check(history: History, options: Options = Options(), jobs: Optional[int] = 
     temporary  the folder for temporary files, which take about half the room of the history
     out        where the report is written, as it is made. Then it is not held, and the Report has no text and no keys
 
-    A key with more events than a check takes, or more operations open at once, is judged up to there: its line has the status
-    `full I` or `wide I`, and the verdict is never `legal` then. ProgramError and ShardsError where no verdict can be given."""
+    A key with more events than a check takes, or more operations open at once, is judged up to there. Its line has the status `full I` or
+    `wide I`, and the verdict is never `legal` then. ProgramError and ShardsError where no verdict can be given."""
     refusal = refusal_of(options)
     if refusal is not None:
         return report_of("", refusal + "\n", 3)
@@ -82,7 +82,7 @@ def temporary_folder(temporary: Optional[str]) -> Iterator[str]:
 
 
 def file_error(fault: OSError, folder: str) -> ShardsError:
-    """What is said of a file that can't be read or written."""
+    """The message about a file that can't be read or written."""
     where = os.fspath(fault.filename) if isinstance(fault.filename, (str, os.PathLike)) else folder
     more = "; name a folder with more room by --temporary" if fault.errno in (errno.ENOSPC, errno.EDQUOT) else ""
     return ShardsError(f"{where}: {fault.strerror or fault}{more}")

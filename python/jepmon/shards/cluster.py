@@ -1,7 +1,7 @@
 """Judges shards on a Dask cluster (https://distributed.dask.org). Its workers need the program `jepmon`, and nothing of this package.
 
-A task has the text of its shard with it, so that another worker can do it where one dies. A report that does not come is none: where a
-task fails again and again, the scheduler is lost, or no worker is left, nothing is judged.
+A task has the text of its shard with it, so that another worker can do it where one dies. A report that does not come is none: if a task
+fails again and again, the scheduler is lost, or all workers are gone, there is no verdict.
 """
 from __future__ import annotations
 
@@ -27,7 +27,7 @@ RETRIES = 3  # of a task whose program fails
 
 def judged_on(address: str, folder: str, shards: Sequence[Written], options: Options, *, threads: int, program: str,
               patience: float = PATIENCE) -> Iterator[Judged]:
-    """What the shards of a folder come to, as the cluster judges them."""
+    """The result of the shards of a folder, as the cluster judges them."""
     with connected(address) as client:
         tasks = Tasks(client, address, folder, options._replace(concurrency=threads, workers=None), program, patience)
         for shard, report in tasks.reports(shards):
@@ -113,7 +113,7 @@ class Tasks:
                 looked = time.monotonic()
 
     def _report(self, future: Any, shard: Written) -> str:
-        """What the program has printed."""
+        """The program's output."""
         if future.status != "finished":
             fault = future.exception(timeout=CONNECT) if future.status == "error" else None
             said = " ".join(str(fault).split()) if fault is not None else f"its task is {future.status}"

@@ -1,4 +1,4 @@
-"""What goes wrong in a check by shards."""
+"""The failures of a check by shards."""
 from __future__ import annotations
 
 from ..tools.errors import ProgramError
@@ -10,4 +10,4 @@ class Doubt(Exception):
 
 
 class ShardsError(ProgramError):
-    """No verdict can be given, for this reason of one line: no room on a disk, a process that was killed, a file that is gone."""
+    """A verdict is not possible, for this reason of one line: no room on a disk, a process that somebody killed, a missing file."""

@@ -1,4 +1,4 @@
-"""What an event is to `jepmon check` (docs/FORMATS.md, Events), and the process rule: the tests 5, 6, 2, 1, 3 and 4, exactly.
+"""The events of `jepmon check` (docs/FORMATS.md, Events), and the process rule: the tests 5, 6, 2, 1, 3 and 4, exactly.
 
 The proved program has these tests by itself. `SameAsCheck` of tests/python/test_shards_check.py compares the two."""
 from __future__ import annotations

@@ -1,4 +1,4 @@
-"""A folder of shards, which are judged one by one, by whom and in what order one likes, and joined at the end.
+"""A folder of shards, which any machines judge one by one, in any order, and which are joined at the end.
 
     shards.json   what they are of: the history, the options, and the name and the checksum of each shard. It is written last
     NAME.edn      a shard: a history that one check takes. Its first line says by which options
@@ -78,7 +78,7 @@ def read_shard(path: str) -> Tuple[bytes, Options]:
         raise ShardsError(f"{path}: {fault.strerror}") from fault
     match = FIRST.match(text)
     if match is None:
-        raise ShardsError(f"{path}: this is no shard, as jepmon-shards split writes them")
+        raise ShardsError(f"{path}: this is not a shard, as jepmon-shards split writes them")
     return text, Options(int(match.group(1)), model_of(match.group(2).decode()), int(match.group(3)), by_ends=match.group(4) is not None)
 
 
@@ -95,7 +95,7 @@ def read_map(folder: str, name: str) -> Tuple[List[KeyMap], Sequence[int]]:
     except OSError as fault:
         raise ShardsError(f"{path}: {fault.strerror}") from fault
     except (ValueError, KeyError, TypeError) as fault:
-        raise ShardsError(f"{path}: this is no map of a shard, or not a whole one") from fault
+        raise ShardsError(f"{path}: this is not a map of a shard, or not a whole one") from fault
 
 
 # --- Reports ---

@@ -19,8 +19,8 @@ REFUSED = re.compile(r"refused [0-9]+ [A-Za-z]+ (?:event )?[0-9]+")  # of what s
 
 
 class Status(NamedTuple):
-    """What is known of a key: the index of its first event, and its line of the report, whose status may also be `full` or `wide`: alive up
-    to there, as far as the program's limits let it be judged."""
+    """A key: the index of its first event, and its line of the report. The status may also be `full` or `wide`: alive up to there, as far
+    as the program's limits let it be judged."""
 
     first: int
     line: KeyLine
@@ -39,7 +39,7 @@ class ShardTask(NamedTuple):
 
 
 class Judged(NamedTuple):
-    """What came of a shard: the file of its result, the keys in it, and the least event of those that are dead, and not decided."""
+    """The result of a shard: the file of its result, the keys in it, and the least event of those that are dead, and not decided."""
 
     path: str
     keys: int
@@ -60,7 +60,7 @@ def judge_shard(task: ShardTask) -> Judged:
 
 
 def checked(text: bytes, words: List[str], program: str) -> str:
-    """What the program prints of a batch. What it says beside it speaks of keys and events that the history does not have."""
+    """The program's output for a batch. Its other notes name keys and events that the history does not have."""
     return run_check(["/dev/stdin", *words], text, program, stderr=subprocess.DEVNULL)[0]
 
 
@@ -70,7 +70,7 @@ def words(options: Options, task: ShardTask) -> List[str]:
 
 
 def statuses_of(report: str, keys: Sequence[KeyMap], places: Sequence[int], options: Options) -> List[Status]:
-    """What the report of a batch says of its keys; a Doubt where it refuses an event."""
+    """The report of a batch about its keys; a Doubt if it refuses an event."""
     lines = report.splitlines()
     if lines and lines[-1].startswith("refused "):
         if REFUSED.fullmatch(lines[-1]):
@@ -95,12 +95,12 @@ def status_of(key: KeyMap, said: KeyLine, first: int, places: Sequence[int]) -> 
         return Status(first, line._replace(status=key.cut or "alive", index=key.cut_place if key.cut else None))
     place = places[said.index] if said.index is not None and said.index < len(places) else NOWHERE
     if place == NOWHERE:
-        raise Doubt(f"jepmon's report on a shard says {said.status} {said.index}, which is no event of the history")
+        raise Doubt(f"jepmon's report on a shard says {said.status} {said.index}, which is not an event of the history")
     return Status(first, line._replace(index=place))
 
 
 def write_result(path: str, statuses: List[Status]) -> Judged:
-    """Writes a line for each key, in the order of their first events, which stand in front of each line."""
+    """Writes a line for each key, in the order of their first events, which begin each line."""
     statuses.sort()
     with open(path, "w") as file:
         file.writelines(f"{status.first:020d} {status.line.text}\n" for status in statuses)

@@ -1,8 +1,8 @@
-"""The quick way through the lines of a history: what stands in each, found by one expression over a block of them.
+"""The quick way through the lines of a history: one expression finds the fields of each line over a block of them.
 
-A line is taken here only if it is one event for sure, or a text by itself, which the exact reader then reads. If every line of a file
-is, so is the file, with the same elements. Whether the part is one is left to the program, which gets it as it stands: its brackets
-close, and there are no words, strings or comments in it, so that it can change nothing around it.
+A line is taken here only if it is one event for sure, or a text by itself, which the exact reader then reads. If every line of a file is,
+so is the file, with the same elements. The program decides whether the part is valid, and gets it as it is. Its brackets close, and there
+are no words, strings or comments in it, so it can change nothing around it.
 """
 from __future__ import annotations
 
@@ -57,7 +57,7 @@ def odd_rows(line: bytes) -> Iterator[Row]:
 
 
 class Heads(Dict[bytes, Head]):
-    """What the head of an event says, by its text. Its thread is among the states then, at first as one that was not seen."""
+    """The content of an event's head, by its text. Its thread is among the states then, at first as one that was not seen."""
 
     def __init__(self, concurrency: int, states: Dict[int, int]) -> None:
         super().__init__()

@@ -1,11 +1,11 @@
 """The first pass: a task reads a piece of a history, tests the process rule in it, and writes its events by shards.
 
-Pieces are read in any order, side by side. What a piece can't know, it assumes, and `follow` tests it against the pieces before: the
+Pieces are read in any order, side by side. A piece assumes facts that it can't know, and `follow` tests them against the pieces before: the
 state of each thread at its first event, and the index of the piece's first event.
 
-That a completion has the key of its invocation is not tested here. The events of each process invoke and complete in turn, which is
-tested here over all keys; and they do so within each key, which the program tests in a shard. Then no completion can be of another key:
-the first that is, in the order of the history, would complete in its key what has not been invoked there.
+This module does not test that a completion has the key of its invocation. The events of each process invoke and complete in turn, which is
+tested here over all keys; and they do so within each key, which the program tests in a shard. Then no completion can be of another key: the
+first that is, in the order of the history, would complete in its key what has not been invoked there.
 """
 from __future__ import annotations
 
@@ -37,7 +37,7 @@ class PieceTask(NamedTuple):
 
 
 class Piece(NamedTuple):
-    """What a piece is found to be."""
+    """The facts that were found about a piece."""
 
     path: str  # of the file that was written
     slabs: List[int]
@@ -110,7 +110,7 @@ class PieceEvents:
         self._router.route(keys, parts, list(map(CODE, heads)), places)
 
     def forget(self) -> None:
-        """Forgets how heads are spelled, of which a long history has many."""
+        """Forgets how heads are spelled, since a long history has many."""
         self._heads.clear()
 
     def _begin(self, thread: int, state: int) -> None:
@@ -128,7 +128,7 @@ class PieceEvents:
 
 
 def follow(pieces: Sequence[Piece]) -> List[Source]:
-    """Tests that each piece begins as those before it end. The files, with what is to be added to their places."""
+    """Tests that each piece begins as those before it end. Gives the files, with the offsets for their places."""
     states: Dict[int, int] = {}
     sources: List[Source] = []
     count = 0

@@ -17,7 +17,7 @@ class Progress:
         self._width = 0
 
     def over(self, what: str, items: Iterator[Item], count: int) -> Iterator[Item]:
-        """The items, of which there are so many. They are counted as they come."""
+        """The items, with their number. They are counted as they come."""
         for number, item in enumerate(items):
             self.say(f"{what} {100 * number // max(1, count)} %")
             yield item

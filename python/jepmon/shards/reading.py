@@ -27,7 +27,7 @@ INTEGERS = range(-(1 << 63), 1 << 63)
 
 
 class Unreadable(Exception):
-    """The text is not of the profile. The place is the length of its longest front that is a text."""
+    """The text is not of the profile. The place is the length of its longest prefix that is a text."""
 
     def __init__(self, place: int) -> None:
         super().__init__(place)
@@ -35,8 +35,8 @@ class Unreadable(Exception):
 
 
 class Reader:
-    """Reads the elements of a text, one after the other. `at` is where it goes on, and `good` the length of the longest front that
-    is known to be a text."""
+    """Reads the elements of a text, one after the other. `at` is where it goes on, and `good` the length of the longest prefix that is
+    known to be a text."""
 
     def __init__(self, data: Data, at: int = 0) -> None:
         self.data, self.at, self.good = data, at, at
@@ -51,7 +51,7 @@ class Reader:
         return self.at < len(self.data)
 
     def element(self, needed: int, depth: int) -> Element:
-        """The element here. So many more are needed after it before the front is a text, and so many collections are open."""
+        """The element here. `needed` more elements are needed after it before the prefix is a text, and `depth` collections are open."""
         start = self.data[self.at:self.at + 2]
         if start[:1] == b'"':
             value: Element = self._string()
@@ -64,7 +64,7 @@ class Reader:
         return value
 
     def _gap(self, needed: int, depth: int) -> None:
-        """Passes a gap, after which so many elements are still needed before the front is a text."""
+        """Passes a gap, after which `needed` elements are missing before the prefix is a text."""
         discards = 0
         while True:
             white = WHITE.match(self.data, self.at)
@@ -151,7 +151,7 @@ def atom_of(token: bytes) -> Tuple[bool, Element]:
 
 
 def longest_atom(token: bytes) -> int:
-    """The length of the longest front of a token that is an atom; 0 where none is."""
+    """The length of the longest prefix of a token that is an atom; 0 if none is."""
     keyword = KEYWORD.match(token)
     if keyword:
         return keyword.end()

@@ -14,7 +14,7 @@ PLACE = 21  # bytes in front of each line of a result
 
 
 def merged(results: Sequence[str], folder: str, sizes: Sizes) -> Iterator[bytes]:
-    """The lines of these files by what stands in front of them. The files are removed."""
+    """The lines of these files, in the order of the number that begins each. The files are removed."""
     names, count = list(results), 0
     while len(names) > sizes.merged:  # no more files are open at once
         path = os.path.join(folder, f"{count}.merged")
@@ -33,7 +33,7 @@ def lines_of(names: Sequence[str]) -> Iterator[bytes]:
 
 
 def verdict_on(judged: Iterable[Judged]) -> Verdict:
-    """What all results together say."""
+    """All results together."""
     results = list(judged)
     dead, undecided = (min((place for place in places if place is not None), default=None)
                        for places in ([result.dead for result in results], [result.undecided for result in results]))

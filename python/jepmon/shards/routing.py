@@ -49,7 +49,8 @@ class Router:
         self.written = [0] * shards  # bytes of each shard
 
     def route(self, keys: Sequence[bytes], parts: Sequence[bytes], codes: Sequence[int], places: Sequence[int]) -> None:
-        """Takes these events: few at once, so that they stay near. What is asked of each event costs most, so it is asked of columns."""
+        """Takes these events: few at once, so that they stay near. The questions about each event cost most, so they are asked of
+        columns."""
         puts = self._puts
         for at, shard in enumerate(shards_of_keys(keys, len(puts), self._level)):
             puts[shard](at)
@@ -84,7 +85,7 @@ class Router:
 
 
 def picker(places: Sequence[int]) -> Callable[[Sequence[Any]], Tuple[Any, ...]]:
-    """What takes from a column what stands at these places, of which there is one at least."""
+    """A function that takes the fields at these places (at least one) from a column."""
     if len(places) == 1:
         return lambda column: (column[places[0]],)
     found: Callable[[Sequence[Any]], Tuple[Any, ...]] = operator.itemgetter(*places)
@@ -92,7 +93,7 @@ def picker(places: Sequence[int]) -> Callable[[Sequence[Any]], Tuple[Any, ...]]:
 
 
 def shards_of_keys(keys: Sequence[bytes], shards: int, level: int) -> List[int]:
-    """The shard of each key. On each level those that share one shard above are spread anew."""
+    """The shard of each key. On each level those that share one shard above are spread again."""
     if level:
         return [zlib.crc32(key + b" level %d" % level) % shards for key in keys]
     crc32 = zlib.crc32
@@ -100,7 +101,7 @@ def shards_of_keys(keys: Sequence[bytes], shards: int, level: int) -> List[int]:
 
 
 def directory_of(file: BinaryIO, slab: int, shard: int) -> Tuple[int, int, int, int]:
-    """What the directory of a slab says of a shard: where it begins, bytes of keys, bytes of parts, events."""
+    """A shard's row in the directory of a slab: where it begins, bytes of keys, bytes of parts, events."""
     file.seek(slab + shard * FIELDS * WIDTH)
     row = array.array(NUMBERS)
     row.fromfile(file, FIELDS)

@@ -1,7 +1,7 @@
-"""A check of one history, step by step: its file is read by shards, then these are judged, and what is known of them is joined.
+"""A check of one history, step by step: it reads the file by shards, judges these, and joins the results.
 
-What is read quickly and is in doubt is read exactly, once: then it is refused, or the same events stand in a file of their own, plainly
-written, with which the check goes on.
+The quick reading may be in doubt; then the file is read exactly, once. Either the check refuses it, or it goes on with a plain file of the
+same events.
 """
 from __future__ import annotations
 
@@ -34,7 +34,7 @@ class Refused(Exception):
 
 
 class Tools(NamedTuple):
-    """What a check works with."""
+    """The parts of a check."""
 
     program: str
     folder: str  # for temporary files
@@ -81,7 +81,7 @@ class Session:
         self._test_unchanged()
 
     def judged(self, options: Options) -> List[Judged]:
-        """The second pass: what the program says of the shards, by these options."""
+        """The second pass: the program's reports on the shards, by these options."""
         while True:
             self.read()
             tasks = [ShardTask(shard.sources, shard.number, shard.name, self.tools.folder, options, self.tools.program, self.tools.sizes)

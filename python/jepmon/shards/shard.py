@@ -14,8 +14,8 @@ from .team import Team, in_order
 
 
 class Shard(NamedTuple):
-    """Some keys of a history, with all their events: the files that have them, the number of the shard there, a name, the bytes, how
-    often it was divided, and whether it may be divided again."""
+    """Some keys of a history, with all their events. The fields are the files that have them, the number of the shard there, a name, the
+    bytes, how often it was divided, and whether it may be divided again."""
 
     sources: List[Source]
     number: int
@@ -26,7 +26,7 @@ class Shard(NamedTuple):
 
 
 class Division(NamedTuple):
-    """A shard that is divided: into so many parts, which are written to a file in this folder."""
+    """A shard that is divided into `parts` parts, which are written to a file in this folder."""
 
     shard: Shard
     parts: int

@@ -163,7 +163,7 @@ def reports_of(folder: str, manifest: Manifest) -> Dict[str, str]:
 
 
 def judged_of(folder: str, shard: Written, path: str, options: Options, scratch: str) -> Judged:
-    """What the report on a shard says, in the words of the history."""
+    """The report on a shard, in the words of the history."""
     report = read_report(path, shard.checksum)
     if report is None:
         raise ShardsError(f"{path}: it has changed while it was read")
@@ -173,7 +173,7 @@ def judged_of(folder: str, shard: Written, path: str, options: Options, scratch:
 
 
 def refusal_in(manifest: Manifest, doubt: Doubt) -> Exception:
-    """What is to be said where the program refuses an event of a shard: the first refusal in the history, which is read exactly."""
+    """The message if the program refuses an event of a shard: the first refusal in the history, which is read exactly."""
     file = manifest.history
     if not file.is_unchanged():
         return ShardsError(f"{doubt}; {file.path} is not there any more as it was, so which event of it is refused first can't be said")

@@ -1,4 +1,4 @@
-"""What the events of a history are, counted in the first pass: how many of each type and operation, and how many parts are nil."""
+"""The counts of a history's events in the first pass: how many of each type and operation, and how many parts are nil."""
 from __future__ import annotations
 
 import collections
@@ -39,7 +39,7 @@ class Tally(NamedTuple):
         return [model for model, operations in MODELS.items() if operations.issuperset(self.names())]
 
     def reads_of_nil(self) -> int:
-        """How many reads were answered by nil: the parts that are nil, but for those that each event of some operations has."""
+        """How many reads were answered by nil: the parts that are nil, except for those that each event of some operations has."""
         always = sum(self.number_of(name, kind) for name in WITHOUT_PART for kind in ("invoke", "fail", "info"))
         always += sum(self.number_of(name, "ok") for name in WITHOUT_PART if name in ("acquire", "release"))
         return self.nils - always
@@ -71,7 +71,7 @@ class Counting:
         self._sets += parts.count(b"#")
 
     def forget(self) -> None:
-        """Forgets the codes, of which a long history has many, for the sorts."""
+        """Forgets the codes for the sorts, since a long history has many."""
         for code, number in self._codes.items():
             self._sorts[code & SORT] += number
         self._codes.clear()

@@ -44,7 +44,7 @@ class Member:
             raise self._ended() from None
 
     def receive(self) -> Any:
-        """What the task gave; what it raised is raised."""
+        """The result of the task; it raises the task's exception."""
         try:
             result, fault = self.connection.recv()
         except (EOFError, OSError):
@@ -81,13 +81,13 @@ class Team:
         self.stop()
 
     def stop(self) -> None:
-        """Ends all processes. The next task starts them anew."""
+        """Ends all processes. The next task starts them again."""
         while self._members:
             self._members.pop().kill()
 
     def run(self, function: Callable[[Task], Result], tasks: Sequence[Task]) -> Iterator[Tuple[int, Result]]:
-        """What the function gives for each task, with the task's number, as it comes. The function is one of a module. What one task
-        raises is raised, and then the others are not done to their end."""
+        """The function's result for each task, with the task's number, as it comes. The function is one of a module. If one task raises an
+        exception it is raised here, and then the others are not done to their end."""
         if self.jobs == 1:
             with uncollected():
                 for number, task in enumerate(tasks):

@@ -12,7 +12,7 @@ TOLD = (Doubt, ShardsError, ProgramError, OSError, MemoryError)  # what a task m
 
 
 def answer(function: Callable[[Any], Any], task: Any) -> Tuple[Any, Optional[BaseException]]:
-    """What the function gives for the task, and what it raises."""
+    """The function's result for the task, and its exception."""
     try:
         return function(task), None
     except TOLD as fault:
@@ -22,8 +22,8 @@ def answer(function: Callable[[Any], Any], task: Any) -> Tuple[Any, Optional[Bas
 
 
 def serve(number: int) -> None:
-    """Does what comes through the connection of this number: pairs of a function and a task. What comes back is a pair of what the
-    function gave, and of what it raised."""
+    """Does what comes through the connection of this number: pairs of a function and a task. The answer is a pair of the function's result
+    and its exception."""
     gc.disable()  # nothing here goes in cycles, and it would look through all events again and again
     with multiprocessing.connection.Connection(number) as connection:
         try:

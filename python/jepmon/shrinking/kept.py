@@ -1,5 +1,5 @@
-"""What stays in the smallest part though it might go out: without it the part would be illegal for a reason that is hard to see, as
-that a value was never written, where in truth it was overwritten."""
+"""The operations that stay in the smallest part though they might be removed. Without them the part would be illegal for a misleading
+reason, as that a value was never written, though in truth it was overwritten."""
 from __future__ import annotations
 
 from typing import Callable, Dict, Iterable, List, Sequence
@@ -15,7 +15,7 @@ def kept(model: str, operations: Sequence[Operation], fatal: int) -> List[int]:
 
 
 def of_register(operations: Sequence[Operation], fatal: int) -> List[int]:
-    """The last that brought in the value which the fatal operation found; one that failed only where there is no other."""
+    """The last operation that wrote the value which the fatal operation found; a failed one only if there is no other."""
     value = registers.wanted(operations[fatal])
     return last_of(operations, [place for place, operation in enumerate(operations)
                                 if value is not None and place != fatal and registers.brought(operation) == value])

@@ -1,5 +1,5 @@
-"""Locks: what goes out is a block of all operations between two that are certain; an acquire and a release after it, or a release and
-an acquire after it; and what nothing can come after."""
+"""Locks: the removed unit is a block of all operations between two certain ones; an acquire and a release after it, or a release and an
+acquire after it; or the operations after which nothing can come."""
 from __future__ import annotations
 
 import bisect
@@ -36,7 +36,8 @@ def named(operations: Sequence[Operation], places: Sequence[int], name: str) -> 
 
 
 def blocks(operations: Sequence[Operation], acquires: List[int], releases: List[int]) -> Iterator[FrozenSet[int]]:
-    """What stands, in each legal order, before an acquire and not before an earlier one. A block begins and ends with a free lock."""
+    """The operations that come, in each legal order, before an acquire and not before an earlier one. A block begins and ends with a free
+    lock."""
     before: FrozenSet[int] = frozenset()
     for cut in sorted(set(cuts(operations, acquires, releases)), key=len):
         if before < cut:
@@ -45,9 +46,8 @@ def blocks(operations: Sequence[Operation], acquires: List[int], releases: List[
 
 
 def cuts(operations: Sequence[Operation], acquires: List[int], releases: List[int]) -> Iterator[FrozenSet[int]]:
-    """What stands, in each legal order, before an acquire that has returned: so many acquires as releases. Where as many acquires
-    certainly stand there as releases may, these stand there and no others; and so where as many releases certainly do as acquires
-    may."""
+    """The operations that come, in each legal order, before an acquire that has returned: as many acquires as releases. If as many acquires
+    certainly come there as releases may, exactly these come there; and likewise if as many releases certainly do as acquires may."""
     returned = [place for place in acquires if end(operations[place]) < NEVER]
     certain = Prefixes(operations, acquires), Prefixes(operations, releases)
     for place in returned[::1 + len(returned) // CUTS]:
@@ -80,8 +80,8 @@ class Prefixes:
 
 
 def pairs(operations: Sequence[Operation], firsts: List[int], seconds: List[int]) -> Iterator[Tuple[int, int]]:
-    """A first operation and a second one, of the other kind, that it precedes, where none that begins after the first, and is of its
-    kind, can stand between the two behind one of the other kind."""
+    """A first operation and a second one, of the other kind, that it precedes. No operation of its kind that begins after the first can
+    come between the two behind one of the other kind."""
     first_begins, begins = [begin(operations[place]) for place in firsts], [begin(operations[place]) for place in seconds]
     unended = open_at_begin(operations, firsts, seconds)
     used: Set[int] = set()
@@ -104,7 +104,7 @@ def among(places: List[int], begins: List[int], since: int, until: int) -> List[
 
 
 def open_at_begin(operations: Sequence[Operation], beginning: List[int], others: List[int]) -> Dict[int, List[int]]:
-    """Of each operation that begins those others that had begun before it, and had not ended."""
+    """For each operation the others that had begun before it began, and had not ended."""
     found: Dict[int, List[int]] = {}
     unended: List[int] = []
     number = 0

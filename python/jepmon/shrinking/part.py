@@ -11,7 +11,7 @@ from ..program import Options
 
 
 def without(operations: Sequence[Operation], out: AbstractSet[int], values: AbstractSet[int]) -> List[Operation]:
-    """The operations that are left where those at some places go out, and some values out of each answer that is a set."""
+    """The operations without those at some places, and without some values in each answer that is a set."""
     return [without_values(operation, values) for place, operation in enumerate(operations) if place not in out]
 
 
@@ -30,9 +30,9 @@ def events_of(operations: Iterable[Operation]) -> List[Event]:
 
 
 def text_of(events: Iterable[Event], concurrency: int) -> str:
-    """The events as a history by itself. Each client has a process of its own number at first, and after each :info the one that is
-    greater by the concurrency: the same as in the history, but for operations that timed out and are not among these. Of a history with
-    more clients than one check takes each operation gets a thread that is free."""
+    """The events as a history by itself. Each client has a process of its own number at first, and after each :info the one that is greater
+    by the concurrency. That is the same as in the history, except for timed-out operations that are not among these. If the history has
+    more clients than one check takes, each operation gets a free thread."""
     clients: Clients = Clients(concurrency) if concurrency <= THREADS else FreeThreads()
     return "".join(line_of(event, clients.process_of(event), f", :original-index {event.index}") + "\n" for event in events)
 

@@ -1,4 +1,4 @@
-"""Queues: a value goes out with its enqueues and dequeues."""
+"""Queues: a value is removed with its enqueues and dequeues."""
 from __future__ import annotations
 
 import collections
@@ -33,8 +33,8 @@ def of_fifo_queue(operations: Sequence[Operation], places: Sequence[int]) -> Lis
 
 
 def of_unordered_queue(operations: Sequence[Operation], places: Sequence[int]) -> List[Unit]:
-    """Of each value the first enqueue by invocation with the first dequeue by completion, the second with the second, and so on; and
-    each other operation alone."""
+    """For each value, the first enqueue by invocation with the first dequeue by completion, the second with the second, and so on; and each
+    other operation alone."""
     enqueues, dequeues = by_value(operations, places, "enqueue"), by_value(operations, places, "dequeue")
     pairs: List[Unit] = []
     for value, taken in dequeues.items():

@@ -1,4 +1,4 @@
-"""Registers: a read goes out alone; what brings a value in, with all that may have found it there."""
+"""Registers: a read is removed alone; a write with all operations that may have found its value."""
 from __future__ import annotations
 
 import bisect
@@ -25,7 +25,7 @@ def brought(operation: Operation) -> Optional[int]:
 
 
 def wanted(operation: Operation) -> Optional[int]:
-    """The value that a register has to hold for it: what a read has answered, and what a cas compares."""
+    """The value that a register has to hold for it: the answer of a read, or the value that a cas compares."""
     value = operation.invocation.value
     if operation.invocation.name == "read" and operation.outcome == "ok" and operation.completion is not None:
         value = operation.completion.value
@@ -34,9 +34,8 @@ def wanted(operation: Operation) -> Optional[int]:
 
 
 def finders_of(operations: Sequence[Operation], places: Sequence[int]) -> Dict[int, List[int]]:
-    """Of each operation that brings a value in, those that may have found it in the register. One can't where it had ended before
-    the other began; nor where a third one, which has certainly brought something in, began after the other had ended and had ended
-    before it began."""
+    """For each operation that writes a value, those that may have found it in the register. One can't if it had ended before the other
+    began. Nor can it if a third one, which has certainly written, began after the other had ended and had ended before it began."""
     gone = Overwrites(operations, places)
     wanting: Dict[int, List[int]] = collections.defaultdict(list)  # by value, in the order of invocations
     for place in places:

@@ -1,4 +1,5 @@
-"""Sets: a read goes out alone, and an add of what an earlier one had added; a value with each add of it, out of each answer."""
+"""Sets: a read is removed alone, and so is an add of a value that an earlier one had added. A value is removed with each add of it, from
+each answer."""
 from __future__ import annotations
 
 import collections

@@ -1,4 +1,4 @@
-"""Units: what goes out of a history together."""
+"""Units: operations that are removed from a history together."""
 from __future__ import annotations
 
 from typing import Iterable, List, NamedTuple, Sequence, Set, Tuple
@@ -9,8 +9,8 @@ NEVER = 1 << 62  # the end of what has not ended
 
 
 class Unit(NamedTuple):
-    """What goes out together. Where it drags other units, these go with it. Any number of the units of one history may go out at
-    once. Operations are meant by their places in the list that the units were made of, units by theirs."""
+    """Operations that are removed together. Where it drags other units, these go with it. Any number of the units of one history may be
+    removed at once. Operations are meant by their places in the list that the units were made of, units by theirs."""
 
     operations: Tuple[int, ...]
     values: Tuple[int, ...] = ()  # of a set: these go out of each answer
@@ -22,8 +22,8 @@ def begin(operation: Operation) -> int:
 
 
 def end(operation: Operation) -> int:
-    """The index of the event by which it is known to have taken place. What is open, or has timed out, may do so at any later
-    moment."""
+    """The index of the event by which it is known to have taken place. An operation that is open, or has timed out, may take place at any
+    later moment."""
     return operation.completion.index if operation.completion is not None and operation.outcome == "ok" else NEVER
 
 
@@ -32,7 +32,7 @@ def precedes(first: Operation, second: Operation) -> bool:
 
 
 def with_dragged(units: Sequence[Unit], chosen: Iterable[int]) -> Set[int]:
-    """The units that go out with those that are chosen."""
+    """The units that are removed with the chosen ones."""
     out: Set[int] = set()
     todo: List[int] = list(chosen)
     while todo:
@@ -44,7 +44,7 @@ def with_dragged(units: Sequence[Unit], chosen: Iterable[int]) -> Set[int]:
 
 
 def dragging(units: Sequence[Unit], kept: Iterable[int]) -> Set[int]:
-    """The units that can't go out where these are kept: they drag one of them."""
+    """The units that can't be removed if these are kept: they drag one of them."""
     draggers: List[List[int]] = [[] for _ in units]
     for place, unit in enumerate(units):
         for dragged in unit.drags:

@@ -7,7 +7,7 @@ server.py   what a server is to the test; servers/ has Redis, etcd, PostgreSQL, 
 cluster.py  the nodes (node.py), the links between them (links.py: switch.py and places.py, or proxy.py), and that none is left
             behind (guard.py)
 strikes/    what is done to them, and when; needs.py says what the machine must have for it
-after.py    what is learned after a finding: the key is read again, losses.py lists what is gone, crashes.py tells a crash
+after.py    reads the bad key again after a finding; losses.py lists lost data, and crashes.py finds crashes
 facts.py    what a test says of itself in the run's folder, and the pages at its end
 run.py      a whole test: workloads.py says what clients do, generators.py when
 """

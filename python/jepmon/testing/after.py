@@ -1,6 +1,6 @@
 """After a finding: the servers are whole again, the bad key is read once more at every node, and the nodes' data are kept.
 
-What is read then tells a write that was lost from a read that was stale, or nodes that differ. It is found by reading, and not proved.
+These reads tell a lost write from a stale read and from nodes that differ. It is found by reading, and not proved.
 """
 from __future__ import annotations
 
@@ -34,7 +34,7 @@ SHOWN = 120  # characters of a value
 
 
 class Reading(NamedTuple):
-    """What a node has answered: a value, or why there is none."""
+    """The answer of a node: a value, or the reason why there is none."""
 
     value: Any
     fault: str = ""
@@ -46,7 +46,7 @@ class Reading(NamedTuple):
 
 @contextlib.contextmanager
 def after_a_finding(cluster: Cluster, folder: pathlib.Path, keep: str, lost: Callable[[], int]) -> Iterator[None]:
-    """The block is the test. If it ends by a finding, or if messages are lost, what can be learned is learned before the servers are gone."""
+    """The block is the test. If it ends by a finding, or if messages are lost, it learns what it can before the servers are gone."""
     found = False
     try:
         yield
@@ -116,7 +116,7 @@ def mend(cluster: Cluster) -> None:
 
 
 def drained(cluster: Cluster, key: int) -> List[int]:
-    """What a queue still has."""
+    """The messages that a queue still has."""
     found: List[int] = []
     with cluster.clients():
         client: Any = cluster.server.client(0)
@@ -145,7 +145,7 @@ def verdict_on_queue(key: int, events: Sequence[Event], rest: Sequence[int], los
 
 
 def readings_of(cluster: Cluster, key: int) -> Dict[str, Reading]:
-    """What each node that clients reach answers, by its name, once they agree, or have had some time to."""
+    """The answer of each node that clients reach, by its name, once they agree, or have had some time to."""
     readings: Dict[str, Reading] = {}
     with cluster.clients():
         for number in range(ROUNDS):
@@ -184,7 +184,7 @@ def verdict_on(fatal: Event, readings: Dict[str, Reading], acknowledged: Acknowl
     answer in the key, or -1."""
     values = [reading.value for reading in readings.values() if not reading.fault]
     if not values:
-        return "No node answered, so it can't be told whether something is lost."
+        return "No node answered, so nobody knows whether something is lost."
     if any(value != values[0] for value in values):
         return "Nodes DIVERGED: they still hold different values."
     if isinstance(values[0], frozenset):
@@ -195,7 +195,7 @@ def verdict_on(fatal: Event, readings: Dict[str, Reading], acknowledged: Acknowl
     if values[0] != wrong and any(one.value == values[0] for one in acknowledged.values):
         return f"The read was STALE: the nodes hold {shown(values[0])}, which had been acknowledged before the read began."
     if values[0] != wrong:
-        return f"LOST or STALE, which can't be told: a write of {shown(values[0])}, not acknowledged when the read began, took place since."
+        return f"LOST or STALE, nobody knows which: a write of {shown(values[0])}, not acknowledged when the read began, took place since."
     if known < 0 and wrong is not None:
         return "The wrong answer stays."
     later = [one for one in acknowledged.after(known) if one.value != wrong]
@@ -237,7 +237,7 @@ def shown(value: Any) -> str:
 
 
 def keep_nodes(cluster: Cluster, folder: pathlib.Path) -> None:
-    """Kills the nodes, and copies their folders into that of the run, as n1.data. What can't be copied is said."""
+    """Kills the nodes, and copies their folders into that of the run, as n1.data. It reports files that it can't copy."""
     for node in cluster.nodes:
         node.kill()
         try:

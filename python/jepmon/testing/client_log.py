@@ -1,4 +1,4 @@
-"""What client libraries log or warn of goes to a file of the run's folder: under faults it would flood the terminal."""
+"""Logs and warnings of client libraries go to a file of the run's folder: under faults they would flood the terminal."""
 from __future__ import annotations
 
 import contextlib

@@ -1,9 +1,9 @@
-"""Wall clocks of single nodes: a small library, which is compiled at the start of a test and preloaded into the node's processes, adds the
-seconds that a file has to the time that they ask the C library for.
+"""Wall clocks of single nodes. The test compiles a small library at its start and preloads it into the node's processes. The library adds
+the seconds in a file to the time that they ask the C library for.
 
-It reaches programs that take the time by the C library, as Redis, PostgreSQL, Erlang's and Java's do. It does not reach those that ask
-the kernel by themselves, as Go's, nor those that are linked statically. The monotonic clock is left alone: machines' clocks are set, and
-the monotonic one is by what timeouts are measured. (A time namespace of Linux shifts the monotonic clock alone, and not the wall clock.)
+It reaches programs that take the time by the C library, as Redis, PostgreSQL, Erlang's and Java's do. It does not reach those that ask the
+kernel by themselves, as Go's, nor those that are linked statically. The monotonic clock is unchanged: people set machines' clocks, and
+timeouts go by the monotonic one. (A time namespace of Linux shifts the monotonic clock alone, and not the wall clock.)
 """
 from __future__ import annotations
 
@@ -65,7 +65,7 @@ time_t time(time_t *at) {
 
 
 class Clock:
-    """Of one node: it is ahead of this machine's by some seconds, or behind it by less than none."""
+    """The clock of one node: it is ahead of this machine's by some seconds, or behind it by less than none."""
 
     def __init__(self, node: Node, library: pathlib.Path) -> None:
         self._file = node.folder.parent / f"{node.name}.clock"

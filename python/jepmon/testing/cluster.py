@@ -22,9 +22,9 @@ from .server import Server
 
 
 class Cluster:
-    """It starts with its block. `network` says by what links others reach the nodes (links.py), `has_disks` whether each node's folder is
-    a disk of its own, which can lose power (disks.py), and `has_clocks` whether each has a wall clock of its own (clocks.py). `has_spare`
-    adds one node for strikes to start."""
+    """It starts with its block. `network` says by what links others reach the nodes (links.py). `has_disks` says whether each node's folder
+    is a disk of its own, which can lose power (disks.py), and `has_clocks` whether each has a wall clock of its own (clocks.py).
+    `has_spare` adds one node for strikes to start."""
 
     def __init__(self, kind: Type[Server], model: str, plant: str, size: int, logs: pathlib.Path, network: str, patience: float = 0.0,
                  has_disks: bool = False, has_clocks: bool = False, durability: str = "", has_spare: bool = False) -> None:
@@ -98,7 +98,7 @@ class Cluster:
         return contextlib.nullcontext() if self.links is None else self.links.clients()
 
     def _start(self, node: Node) -> None:
-        """Its words are made anew at each start: a server may say others, by node.starts."""
+        """Its words are made again at each start: a server may say others, by node.starts."""
         node.words = self.server.command(node)
         node.start()
         if self.links is not None:

@@ -29,7 +29,7 @@ class Stage(NamedTuple):
 
 
 class Now(NamedTuple):
-    """What a client does now."""
+    """The present work of a client."""
 
     rate: float  # operations a second of all clients; 0 is as many as they can
     changes: float

@@ -1,5 +1,5 @@
 """A crash of a server: it has ended without being told to, or its log has a line that its class names as one. That is a finding about the
-server, unless the machine is to blame."""
+server, unless the machine caused it."""
 from __future__ import annotations
 
 import pathlib
@@ -17,14 +17,14 @@ KILLED = "by signal 9"  # which no process sends to itself
 
 
 class LogWatch:
-    """Looks for lines that match in what the nodes' logs have come to say."""
+    """Looks for lines that match in the new part of the nodes' logs."""
 
     def __init__(self, nodes: Sequence[Node], patterns: Sequence[str]) -> None:
         self._nodes = list(nodes)
         try:
             self._patterns = [re.compile(pattern) for pattern in patterns]
         except re.error as fault:
-            raise ServerError(f"crashes of the server's class: {fault.pattern!r} is no regular expression: {fault}") from fault
+            raise ServerError(f"crashes of the server's class: {fault.pattern!r} is not a regular expression: {fault}") from fault
         self._read: Dict[str, int] = {}  # by node: bytes that were looked at
 
     def look(self) -> None:

@@ -1,5 +1,5 @@
-"""What strikes do to clients: one is paused wherever it is, also while it holds a lock, or crashes before it learns what came of its
-operation."""
+"""The effects of strikes on clients: one is paused wherever it is, also while it holds a lock, or crashes before it learns the result of
+its operation."""
 from __future__ import annotations
 
 import threading

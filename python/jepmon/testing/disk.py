@@ -1,4 +1,4 @@
-"""A disk that can lose power: a file system over a folder (FUSE), of which what was not synced can be lost, or torn, sector by sector.
+"""A disk that can lose power: a file system over a folder (FUSE) that can lose or tear unsynced blocks, sector by sector.
 
     python -m jepmon.testing.disk BACKING POINT      serves POINT from the folder BACKING, until standard input ends
 
@@ -121,7 +121,7 @@ class Disk:
         return ENTRY.pack(inode.number, 0, KEPT, 0, 0, 0) + attributes(os.fstat(inode.path))
 
     def _made(self, folder: Inode, name: str) -> bytes:
-        """What was made just now is of whom has asked for it."""
+        """Makes a new file or folder belong to the caller."""
         os.chown(name, self._user, self._group, dir_fd=folder.path, follow_symlinks=False)
         return self._entry(folder, name)
 
@@ -133,7 +133,7 @@ class Disk:
                 self._leave(inode)
 
     def _leave(self, inode: Inode) -> None:
-        """Closes what nobody needs any more: what is not synced is still to be lost, unless it has no name."""
+        """Closes the files that nobody needs any more. Unsynced blocks can still be lost, unless the file has no name."""
         if inode.opened or inode.unsynced is not None and os.fstat(inode.path).st_nlink:
             return
         if inode.file >= 0:

@@ -28,11 +28,11 @@ class Disk:
         self._tell("sync")
 
     def lose(self) -> str:
-        """What was not synced is lost. Says how much: `lost FILES BYTES`."""
+        """Unsynced data is lost. Says how much: `lost FILES BYTES`."""
         return self._tell("lose")
 
     def tear(self, seed: int) -> str:
-        """Of what was not synced each sector is kept or lost, by a coin."""
+        """A coin decides for each unsynced sector whether it is kept or lost."""
         return self._tell(f"tear {seed}")
 
     def end(self) -> None:

@@ -1,4 +1,4 @@
-"""What ends a test of a server without a verdict: one line, and status 3."""
+"""The exceptions that end a test of a server without a verdict: one line, and status 3."""
 from __future__ import annotations
 
 import pathlib
@@ -19,11 +19,11 @@ class Died(ServerError):
 
 
 class Crashed(Exception):
-    """A strike's: the client is gone. What it asked may have taken place, and another one comes in its place."""
+    """A strike's: the client is gone. Its operation may have taken place, and another one comes in its place."""
 
 
 def where(fault: BaseException, path: Optional[pathlib.Path] = None) -> str:
-    """What an exception says, and the line of the user's file, or else of this package, that it is of."""
+    """The message of an exception, and its line of the user's file, or else of this package."""
     frames = traceback.extract_tb(fault.__traceback__)
     own = [frame for frame in frames if path is not None and pathlib.Path(frame.filename).resolve() == path.resolve()]
     line = "".join(f" ({pathlib.Path(frame.filename).name}, line {frame.lineno})" for frame in (own or list(frames))[-1:])

@@ -1,5 +1,5 @@
-"""What a test says of itself in the folder of its run: the command line, the options, the server and its version. And the pages, which are
-made when it ends, however it ends."""
+"""A test's own facts in the folder of its run: the command line, the options, the server and its version. And the pages, which are made
+when it ends, however it ends."""
 from __future__ import annotations
 
 import json
@@ -24,7 +24,7 @@ LEFT_OUT = ("server", "out", "plant", "keep", "patience", "stages", "reserved", 
 
 
 def facts_of(given: Given, network: str, kinds: Sequence[str]) -> Dict[str, str]:
-    """What there is to say before the test begins; `network` is how links are struck, and `kinds` are the faults that may strike."""
+    """The facts before the test begins; `network` is how links are struck, and `kinds` are the faults that may strike."""
     words = {NAMES.get(name, name): str(value) for name, value in given._asdict().items() if name not in LEFT_OUT and value not in ("", None)}
     words.update(network=network, nodes=", ".join(f"n{number + 1}" for number in range(given.nodes)), faults=", ".join(kinds) or "none")
     planted = {"planted": f"{given.plant}: {given.server.plants[given.plant].text}"} if given.plant else {}

@@ -1,7 +1,7 @@
 """A process and all that it has started: servers like PostgreSQL and RabbitMQ are many processes, each in a session of its own.
 
-A process that forks twice leaves its child without a parent. On Linux such an orphan is given to the nearest process above that adopts: so
-a server's first process adopts, and its orphans stay in its family; and the test adopts those of a server that has ended by itself.
+A process that forks twice leaves its child without a parent. On Linux such an orphan is given to the nearest process above that adopts. So
+a server's first process adopts, and its orphans stay in its family. The test adopts those of a server that has ended by itself.
 """
 from __future__ import annotations
 

@@ -1,4 +1,4 @@
-"""What clients do when: operations a second, and phases that are busy or calm."""
+"""The times of clients' operations: operations a second, and phases that are busy or calm."""
 from __future__ import annotations
 
 import random
@@ -19,7 +19,7 @@ KINDS = ((0.5, 0.5), (1.5, 0.5), (1.0, 0.8), (1.0, 0.25))  # calm, busy, mostly 
 
 
 class Phases:
-    """The phases of a run, of which all clients are in the same one; drawn from the seed."""
+    """The phases of a run, which all clients share; drawn from the seed."""
 
     def __init__(self, seed: int) -> None:
         self._draws = random.Random(f"phases {seed}")
@@ -34,7 +34,7 @@ class Phases:
 
 
 class Pace:
-    """Lets one client do so many operations a second; 0 is as many as it can."""
+    """Lets one client do this number of operations a second; 0 is as many as it can."""
 
     def __init__(self, draws: random.Random) -> None:
         self._draws = draws

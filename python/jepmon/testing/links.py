@@ -1,5 +1,5 @@
-"""The test's side of the links: what each way does to what goes over it. A process carries it: proxy.py on the loopback, or switch.py
-between network namespaces."""
+"""The test's side of the links: the effect of each way on its packets. A process carries it: proxy.py on the loopback, or switch.py between
+network namespaces."""
 from __future__ import annotations
 
 import contextlib
@@ -42,7 +42,7 @@ Pair = Tuple[str, str]  # a way: who sends, and who gets it
 
 
 class Effect(NamedTuple):
-    """What happens to what goes over a way. Shares are of packets, and seconds are of each packet."""
+    """The effects on the packets of a way. Shares are of packets, and seconds are of each packet."""
 
     cut: bool = False
     delay: float = 0.0
@@ -52,7 +52,7 @@ class Effect(NamedTuple):
     corrupt: float = 0.0
 
     def and_(self, other: Effect) -> Effect:
-        """What both do to a packet."""
+        """The effects of both on a packet."""
         loss, reorder, corrupt = (1 - (1 - one) * (1 - two) for one, two in zip(self[3:], other[3:]))
         return Effect(self.cut or other.cut, self.delay + other.delay, self.jitter + other.jitter, loss, reorder, corrupt)
 
@@ -153,7 +153,7 @@ class Proxied(Links):
 
 
 class Switched(Links):
-    """Between network namespaces, of which each node has one, and the clients have one."""
+    """Between network namespaces: each node has one, and the clients have one."""
 
     def __init__(self, nodes: Sequence[Node]) -> None:
         with contextlib.ExitStack() as made, contextlib.ExitStack() as handed_over:

@@ -1,4 +1,4 @@
-"""What was acknowledged, and is gone: messages of queues, members of sets and writes of registers, each with the time of its
+"""Acknowledged changes that are gone: messages of queues, members of sets and writes of registers, each with the time of its
 acknowledgement, and the fault that followed."""
 from __future__ import annotations
 
@@ -25,7 +25,7 @@ class One(NamedTuple):
 
 
 class Acknowledged(NamedTuple):
-    """Of one key: what was acknowledged before an event, in the order of the acknowledgements."""
+    """The acknowledged changes of one key before an event, in the order of the acknowledgements."""
 
     values: List[One]
 
@@ -77,7 +77,7 @@ def told(one: One) -> str:
 
 
 def many(lost: Sequence[One], of: int = 12) -> str:
-    """These in one phrase, so many of them, with the faults of the first and the last one."""
+    """These in one phrase, at most `of` of them, with the faults of the first and the last one."""
     shown = ", ".join(f"{one.value} (at {seconds(one.moment)})" for one in lost[:of]) + (f" and {len(lost) - of} more" if len(lost) > of else "")
     first, last = lost[0], lost[-1]
     faults = f"; the first one {first.fault}" if first.fault and len(lost) > 1 else f", {first.fault}" if first.fault else ""
@@ -108,7 +108,7 @@ def lines(folder: pathlib.Path, lost: int, missing: Sequence[Missing]) -> Iterat
 
 
 def acknowledgements(folder: pathlib.Path, missing: Sequence[Missing]) -> "Iterator[tuple[str, One]]":
-    """When each of these messages was acknowledged, by the histories of the parts. Of a part that was removed nothing is known."""
+    """When each of these messages was acknowledged, by the histories of the parts. Nothing is known of a part that was removed."""
     for queue in missing:
         path = folder / queue.part / HISTORY
         if not path.exists():

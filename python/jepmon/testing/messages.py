@@ -1,4 +1,4 @@
-"""Which messages of queues were taken and have not come: no event tells that one is lost, so they are counted."""
+"""Which messages of queues were taken and have not come: no event shows a loss, so this module counts them."""
 from __future__ import annotations
 
 import threading
@@ -22,7 +22,7 @@ class Account:
 
 
 class Missing(NamedTuple):
-    """What is missing of one queue: where its history is, and which values."""
+    """The missing values of one queue, and the place of its history."""
 
     name: str
     part: str
@@ -71,7 +71,7 @@ class Messages:
 
     @property
     def listed(self) -> List[Missing]:
-        """What is missing of them."""
+        """The missing values."""
         with self._lock:
             return [Missing(queue.name, queue.part.name, queue.key, sorted(account.missing), account.may_have_come)
                     for queue, account in self._accounts.items() if account.lost]

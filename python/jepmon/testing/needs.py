@@ -1,4 +1,4 @@
-"""What strikes need of this machine, and whether it is here: asked before anything starts."""
+"""The needs of strikes on this machine, and whether they are met: tested before anything starts."""
 from __future__ import annotations
 
 from typing import TYPE_CHECKING, Callable, Dict, Optional

@@ -29,8 +29,8 @@ ELSEWHERE = 2.0  # seconds, after which a server that listens at another address
 
 
 class Node:
-    """`address` is its address, and `ports` are where the server listens there, by the names that its Server class gives; `reach` where
-    others reach it: through the link that may be cut, where there is one. `folder` is for its data, and stays when it is killed."""
+    """`address` is its address, and `ports` are where the server listens there, by the names that its Server class gives. `reach` is where
+    others reach it: through the link that may be cut, if there is one. `folder` is for its data, and stays when it is killed."""
 
     def __init__(self, number: int, folder: pathlib.Path, log: pathlib.Path, ports: Dict[str, int], guard: Guard) -> None:
         self.number, self.name, self.folder, self.log, self.ports = number, f"n{number + 1}", folder, log, ports
@@ -168,7 +168,7 @@ def as_user(user: Optional[str], words: Sequence[str]) -> List[str]:
 
 
 def last_words(lines: Sequence[str]) -> str:
-    """Of a log: the last line in which a system says why something can't be done, which servers say long before they end; or else how it
+    """The last line of a log in which a system says why something can't be done, which servers say long before they end; or else how it
     ends."""
     said = [line.strip()[:160] for line in lines if line.strip()]
     telling = [line for line in said if any(words in line.lower() for words in TELLING)]
@@ -194,8 +194,8 @@ def one_line(fault: BaseException) -> str:
 
 
 class Ports:
-    """Free ports below those that the system gives to outgoing connections: one of these could take the port of a server that is
-    down, also the connection by which a client tries to reach it."""
+    """Free ports below those that the system gives to outgoing connections. One of these could take the port of a server that is down, also
+    the connection by which a client tries to reach it."""
 
     def __init__(self, draws: random.Random) -> None:
         self._draws = draws

@@ -41,7 +41,7 @@ class Place:
 
     @contextlib.contextmanager
     def inside(self) -> Iterator[None]:
-        """This thread is in it, with what it starts meanwhile."""
+        """This thread is in it, with the processes that it starts meanwhile."""
         with _back():
             _called("setns", self._namespace, NEW_NETWORK)
             yield

@@ -1,7 +1,7 @@
 """The links of a test: a process between the nodes, and between clients and nodes, which can hold or slow what goes one way.
 
-It needs no rights, so that it works on any machine. What is held is not lost: it goes on once the link is open again, as what TCP
-sends anew. So a request that timed out may take place later.
+It needs no rights, so that it works on any machine. Held bytes are not lost: they go on once the link is open again, as if TCP sent them
+again. So a request that timed out may take place later.
 
 Its one word is a JSON list of [port, port of the server, name of the node]. It reads commands, a line each, and answers `ok`:
 
@@ -32,7 +32,7 @@ GLANCE = 0.02  # seconds between two looks whether a server listens
 
 
 class Way:
-    """What goes from one to another."""
+    """The bytes from one to another."""
 
     def __init__(self) -> None:
         self.open = asyncio.Event()
@@ -49,15 +49,15 @@ class Way:
 
 
 class Connection:
-    """A connection to a node. By whom it was made is looked up only where something is struck: that costs more than all else, and a
-    busy machine would never come to the end of those that wait."""
+    """A connection to a node. The proxy looks up who made it only if something is struck. That costs more than all else, and a busy machine
+    would never come to the end of those that wait."""
 
     def __init__(self, proxy: Proxy, port: int, link: Link) -> None:
         self._proxy, self._port, self._link = proxy, port, link
         self._source = ""
 
     async def carry(self, source: asyncio.StreamReader, target: asyncio.StreamWriter, is_answer: bool) -> None:
-        """Until the source ends, which the target is told then. An OSError where one of both has gone."""
+        """Runs until the source ends, and then ends the target's side too. An OSError where one of both has gone."""
         while True:
             data = await source.read(CHUNK)
             await self._pass(is_answer)

@@ -1,4 +1,4 @@
-"""What a test of a server says: what it is to do, and what came of it."""
+"""The messages of a test of a server: its plan, and its result."""
 from __future__ import annotations
 
 from typing import Iterator, List

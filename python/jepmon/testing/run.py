@@ -1,4 +1,4 @@
-"""One test: servers start, clients work, faults strike, all is mended, what is left is asked, and a verdict falls."""
+"""One test: servers start, clients work, faults strike, all is mended, the nodes are asked again, and a verdict falls."""
 from __future__ import annotations
 
 import contextlib
@@ -40,7 +40,7 @@ PAUSE = 0.01  # seconds after an operation that was not ok: not thousands of ref
 
 
 class Given(NamedTuple):
-    """What the command line says."""
+    """The options of the command line."""
 
     server: Type[Server]
     model: str
@@ -66,7 +66,7 @@ class Given(NamedTuple):
 
 
 class Outcome(NamedTuple):
-    """What came of a test."""
+    """The result of a test."""
 
     verdict: str  # legal, illegal .., unknown ..; empty where there is none
     reason: str  # why there is none, or what else is wrong
@@ -141,7 +141,7 @@ class Test:
         return outcome
 
     def _fault(self, fault: Exception) -> str:
-        """What an exception says that nobody expected: mostly one of the client, in a file of the user's."""
+        """The message of an unexpected exception: mostly one of the client, in a file of the user's."""
         file = getattr(sys.modules.get(self.given.server.__module__), "__file__", None)
         said = where(fault, pathlib.Path(file) if file else None)
         return f"a fault of the client: {said}"
@@ -176,7 +176,7 @@ class Test:
             self._finish(monitor, work, cluster)
 
     def _client(self, monitor: LongMonitor, work: Work, cluster: Cluster, course: Course, number: int) -> None:
-        """What one client does until the time is up."""
+        """The work of one client until the time is up."""
         given = self.given
         draws = random.Random(f"client {number} {given.seed}")
         pace = Pace(draws)
@@ -239,7 +239,7 @@ class Test:
             verdict, status = "", 3
         elif few:
             verdict, status = "", 3
-            reason = f"fewer than {self.given.least} operations were ok ({', '.join(few)}), of which nothing is said"
+            reason = f"fewer than {self.given.least} operations were ok ({', '.join(few)}), and nothing is said about it"
         elif work.lost:
             verdict, status = f"lost {work.lost} messages: acknowledged, and never dequeued; this was counted, and is not proved", 1
             losses.leave(monitor.folder, work.lost, work.missing)

@@ -15,10 +15,10 @@ ALL_STRIKES = ("kill", "pause", "cut", "partition", "slow", "halves", "oneway", 
 
 
 class Client:
-    """The client of one thread, with the operations of its object: `read` and `write` of a register; also `cas` of a
-    cas-register; `acquire` and `release` of a mutex; `enqueue` and `dequeue` of a queue; `add` and `read` of a set. Values are
-    integers. `read` of a register and `dequeue` give None if there is no value; `cas`, `acquire` and `release` give whether they
-    took effect. Each returns once the server has answered. If it has not, an exception says what is known:
+    """The client of one thread, with the operations of its object: `read` and `write` of a register, also `cas` of a cas-register;
+    `acquire` and `release` of a mutex. A queue has `enqueue` and `dequeue`, and a set `add` and `read`. Values are integers. `read` of a
+    register and `dequeue` give None if there is no value; `cas`, `acquire` and `release` give whether they took effect. Each returns once
+    the server has answered. If it has not, an exception says what is known:
 
     certain  it certainly did not take place, for example if the connection was refused, so that nothing was sent: a :fail
     unsure   it may have taken place, or may yet, for example after a timeout: an :info

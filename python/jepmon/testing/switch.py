@@ -1,8 +1,8 @@
 """The links between network namespaces (places.py): a process that takes each packet from the one and gives it to the other, and can lose
 or delay what goes one way.
 
-What is cut is lost, as on a wire: TCP sends it anew, so that a request that timed out may take place later. The same holds for a packet
-that is lost by itself, or has a bit that was flipped: the kernel that gets it finds its checksum wrong.
+Packets on a cut link are lost, as on a wire: TCP sends them again, so that a request that timed out may take place later. The same holds
+for a packet that is lost by itself, or has a bit that was flipped: the kernel that gets it finds its checksum wrong.
 
 Its one word is a JSON list of [name, address, file of packets]. It reads commands, a line each, and answers `ok`:
 
@@ -29,7 +29,7 @@ ENDS = slice(12, 20)  # of a packet: the two addresses, from and to
 
 
 class Way:
-    """What goes from one to another."""
+    """The packets from one to another."""
 
     def __init__(self, target: int) -> None:
         self.target = target
@@ -51,7 +51,7 @@ class Switch:
         self._draws = random.Random(1)
 
     def forward(self, source: int) -> None:
-        """Takes what has come from one place. What is for nobody, as what IPv6 asks, is dropped."""
+        """Takes what has come from one place. Packets for nobody, as those of IPv6, are dropped."""
         for _ in range(BATCH):
             try:
                 packet = os.read(source, PACKET)

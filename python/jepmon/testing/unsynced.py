@@ -1,4 +1,4 @@
-"""What of a file was not synced: which blocks were written since its last sync, with what they had then. So its durable contents can be
+"""The unsynced part of a file: the blocks that were written since its last sync, with their old bytes. So its durable contents can be
 brought back, as after a power failure."""
 from __future__ import annotations
 
@@ -10,7 +10,7 @@ BLOCK, SECTOR = 4096, 512  # bytes; a disk writes a sector whole, or not at all
 
 
 class Unsynced:
-    """Of one file, from its last sync on. `file` is open to be read and written."""
+    """The unsynced part of one file, from its last sync on. `file` is open to be read and written."""
 
     def __init__(self, file: int) -> None:
         self._file = file

@@ -1,4 +1,4 @@
-"""What clients do to each kind of object: mixed operations while the test runs, and what is asked at its end, when all is mended."""
+"""The operations of clients on each kind of object: mixed operations while the test runs, and reads at its end, when all is mended."""
 from __future__ import annotations
 
 import contextlib
@@ -42,12 +42,12 @@ class Work:
         """Asks what is left to ask."""
 
     def each_left(self) -> Iterator[LongObject]:
-        """The objects that are judged still, but for those that are over when their turn comes."""
+        """The objects that are judged still, except for those that are over when their turn comes."""
         return (one for handle in self.handles for one in handle.objects if not one.is_over)
 
     @property
     def lost(self) -> int:
-        """How many values were taken, and certainly lost, of which no event tells."""
+        """How many values were taken, and certainly lost, though no event shows it."""
         return 0
 
     @property
@@ -206,8 +206,8 @@ class Queues(Work):
         return op
 
     def finish(self, ask: Asked) -> None:
-        """Drains each queue: until it says that it is empty, and has said so for a while where something is missing. What was sent
-        to a connection that is gone comes back only when the server sees that."""
+        """Drains each queue: until it says that it is empty, and has said so for a while where something is missing. Messages on a
+        connection that is gone come back only when the server sees that."""
         end = time.monotonic() + self.SETTLING
         for one in self.each_left():
             self._drain(one, ask)
@@ -253,5 +253,5 @@ WORKS: Dict[str, Type[Work]] = {
 
 
 def works_of(server: Type[Server]) -> Dict[str, Type[Work]]:
-    """What clients of a server do to each kind of object: to the known ones, and to its own."""
+    """The operations of a server's clients on each kind of object: on the known ones, and on its own."""
     return {**WORKS, **server.workloads}

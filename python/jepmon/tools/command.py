@@ -1,4 +1,4 @@
-"""What the commands of the package share: what they say, what they write, and how they end.
+"""The common parts of the package's commands: messages, outputs, and exit statuses.
 
 A user's mistake is one clear line on standard error and status 3; Ctrl-C ends with 130; a traceback is never shown. A file gets its
 name once it is whole.
@@ -114,7 +114,7 @@ def _write_whole(stream: TextIO, text: str) -> None:
 
 
 def abandon(stream: TextIO) -> None:
-    """What standard output or standard error still holds goes nowhere, so that Python has nothing to say of it as it ends."""
+    """The rest in the buffers of standard output and standard error goes nowhere, so that Python has nothing to say of it as it ends."""
     try:
         os.dup2(os.open(os.devnull, os.O_WRONLY), stream.fileno())
     except (OSError, ValueError):
@@ -184,7 +184,7 @@ def add_by_ends(parser: argparse.ArgumentParser) -> None:
 
 
 def run(name: str, main: Callable[[], int]) -> int:
-    """Does the work of a command, and gives its exit status. What it raises is said in one line."""
+    """Does the work of a command, and gives its exit status. It prints an exception as one line."""
     status = REFUSED
     collect_seldom()
     try:

@@ -1,4 +1,4 @@
-"""What ends a command of this package with one line on standard error and status 3."""
+"""The exceptions that end a command of this package with one line on standard error and status 3."""
 from __future__ import annotations
 
 

@@ -1,4 +1,4 @@
-"""Judges keys with many clients by what is known afterwards.
+"""Judges keys with many clients with the help of later events.
 
 The program judges a history as it comes, and counts what may be: with many operations open at once this is too much, and a key is
 `over`. Where the history is recorded, an order of its operations may be searched for, and a part of it that is illegal. Nobody has to

@@ -17,7 +17,7 @@ PATIENCE = 10.0  # seconds that the program has, where no other number is given
 
 
 class Said(NamedTuple):
-    """What was said of an order, and whether a proved program has said so."""
+    """The reply about an order, and whether a proved program gave it."""
 
     is_order: bool
     is_proved: bool
@@ -25,14 +25,14 @@ class Said(NamedTuple):
 
 def confirmed(operations: Sequence[Operation], options: Options, order: Sequence[int], program: Optional[str] = None,
               seconds: float = PATIENCE) -> Said:
-    """Whether the history of one key, of these operations, has this order: operations one after another, by the index of their
-    invocations. Those that are left out did not take place. OutOfTime comes where the program takes longer than so many seconds."""
+    """Whether the history of one key, of these operations, has this order: operations one after another, by the index of their invocations.
+    Those that are left out did not take place. OutOfTime is raised if the program takes longer than `seconds`."""
     said = by_program(operations, options, order, find_program(program), seconds)
     return Said(ordered.is_order(operations, options.model, order), False) if said is None else Said(said, True)
 
 
 def by_program(operations: Sequence[Operation], options: Options, order: Sequence[int], program: str, seconds: float) -> Optional[bool]:
-    """What the program says of the order; None where it has no such command."""
+    """The program's reply about the order; None if it has no such command."""
     events = events_of(operations)
     place = {event.index: number for number, event in enumerate(events)}
     asked = as_asked(options)

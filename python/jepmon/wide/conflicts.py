@@ -1,5 +1,5 @@
-"""An illegal part of a key's history, which the program is asked about: what may go out of it goes out (docs/guide/SHRINKING.md says what may,
-and why), as the searches of this package judge, and the program judges what is left."""
+"""An illegal part of a key's history, for a question to the program. The searches of this package remove the operations that may be removed
+(docs/guide/SHRINKING.md has the rules), and the program judges the rest."""
 from __future__ import annotations
 
 from typing import AbstractSet, FrozenSet, List, Optional, Sequence
@@ -57,7 +57,7 @@ def part_of(operations: Sequence[Operation], options: Options, fatal: int, hints
 
 
 def without_other_reads(operations: List[Operation], model: str, kept: AbstractSet[int]) -> Optional[List[Operation]]:
-    """Of a set the operations without the reads that have none of these events; None of other objects. Each read may go out, and a
+    """For a set, the operations without the reads that have none of these events; None for other objects. Each read may be removed, and a
     search through the members of all would take long."""
     if model != "set":
         return None

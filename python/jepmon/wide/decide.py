@@ -1,5 +1,5 @@
-"""Decides one key by what is known afterwards: an order of all its operations; or, where there is none, at which event it is dead, with
-an order of the events before, and a part that is illegal at that event."""
+"""Decides one key with the help of later events. It finds an order of all its operations. If there is none, it finds the event at which the
+key is dead, with an order of the events before, and a part that is illegal at that event."""
 from __future__ import annotations
 
 import bisect
@@ -19,7 +19,7 @@ LEAST = 5.0  # seconds that the program has for an order which was found in time
 
 
 class Decided(NamedTuple):
-    """What was found of a key."""
+    """The result for a key."""
 
     index: Optional[int]  # type: ignore[assignment]  # (also a method of tuple) the event at which it is dead; None: it is alive
     order: List[int]  # of all operations, or of those before that event, by the index of their invocations
@@ -29,8 +29,8 @@ class Decided(NamedTuple):
 
 
 def decide(operations: Sequence[Operation], options: Options, clock: Clock, program: Optional[str] = None) -> Optional[Decided]:
-    """What is found of a key, of its operations in the order of their invocations; None where nothing is, in the time that there is.
-    What is said rests on what the program says of the order and of the part."""
+    """The result for a key, from its operations in the order of their invocations; None if there is none in this time. It depends on the
+    program's replies about the order and the part."""
     if most_open(operations) > THREADS:
         return None  # the program takes no such history
     try:
@@ -75,8 +75,8 @@ def searched(operations: Sequence[Operation], model: str, clock: Clock) -> Union
 
 
 def guessed(operations: Sequence[Operation], ends: Sequence[int], found: Conflict) -> Iterator[int]:
-    """Where the first front without an order may end, by what a search has blamed: the numbers of two ends of fronts, that one and the
-    one before."""
+    """Where the first prefix without an order may end, by the operations that stopped a search: the numbers of two ends of prefixes, that
+    one and the one before."""
     blamed = set(found.ids)
     completed = [completion.index for invocation, completion, _ in operations if completion is not None and invocation.index in blamed]
     for index in sorted(completed, reverse=True)[:1]:

@@ -1,5 +1,5 @@
-"""The elements of a queue by the invocations of their enqueues, all of which return: a list out of which they are taken, and into which
-they are put back, the last one first."""
+"""The elements of a queue by the invocations of their enqueues, all of which return. Elements are taken out of the list and put back into
+it, the last one first."""
 from __future__ import annotations
 
 import collections

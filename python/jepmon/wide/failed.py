@@ -10,9 +10,9 @@ Key = Tuple[int, Optional[int]]  # the event, and the value of the register
 
 
 class Failed:
-    """A state is told by its event, its value, and two sets of open operations, as bits: those with which it could not be better off,
-    and those that have taken place. Better off it is with a write that may be hidden than with one that has taken place, or has to
-    take place; with a read that has its answer; and with a timed-out operation that may still take place."""
+    """A state has its event, its value, and two sets of open operations, as bits: those with which it could not be better off, and those
+    that have taken place. It is better off with a write that may be hidden than with one that has taken place, or has to take place. It is
+    better off with a read that has its answer, and with a timed-out operation that may still take place."""
 
     def __init__(self) -> None:
         self._every: Set[Tuple[Key, int, int]] = set()

@@ -1,7 +1,7 @@
-"""Queues with an order. Dequeues take place only when one returns, and then as few as may be. What they take is found by the enqueues:
-an element can be in front where no other that is in the queue was certainly enqueued before it. Of those that can, and have the value
-that is wanted, the one whose enqueue returns first is taken, since it holds up others the longest. So a search has few choices: whether
-a timed-out dequeue takes what holds up others, and where a value stands in the queue twice, which of the two goes first.
+"""Queues with an order. Dequeues take place only when one returns, and then as few as may be. The enqueues show what they take: an element
+can be the first if no other element of the queue was certainly enqueued before it. The search takes the one that can, has the wanted value
+and whose enqueue returns first, since it holds up others the longest. So a search has few choices: whether a timed-out dequeue takes what
+holds up others, and where a value stands in the queue twice, which of the two goes first.
 
 Where each value is enqueued once there is no choice."""
 from __future__ import annotations
@@ -26,7 +26,7 @@ class Removal(NamedTuple):
 
 
 class Queue:
-    """What is in the queue, and which dequeues are open, at a moment of a search. Each step can be undone, the last one first."""
+    """The elements of the queue, and the open dequeues, at a moment of a search. Each step can be undone, the last one first."""
 
     def __init__(self, ops: Sequence[Op]) -> None:
         chance = random.Random(0)
@@ -156,7 +156,7 @@ class Search:
         return False
 
     def back(self, at: int, removals: int) -> None:
-        """Back to the dequeue that returns at this event, as it was when so many elements had been removed."""
+        """Goes back to the dequeue that returns at this event, when this number of elements had been removed."""
         queue = self.queue
         while len(queue.removals) > removals:
             queue.undo()
@@ -208,11 +208,11 @@ class Search:
         return queue.elements.held[value] > 0 or queue.used_unsure[value] < len(queue.unsure[value])
 
     def others(self, wanted: Op) -> List[int]:
-        """What has taken the value that is wanted."""
+        """The operations that have taken the wanted value."""
         return [removal.dequeue.id for removal in self.queue.removals[-100:] if removal.element.part == wanted.answer]
 
     def blame(self, ids: List[int]) -> None:
-        """What is to blame, where the search has come as far as never before."""
+        """The operations that stop the search, if it has come as far as never before."""
         if self.at > self.furthest:
             self.furthest = self.at
             lost = [removal for removal in self.queue.removals if not removal.dequeue.is_done]

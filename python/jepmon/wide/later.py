@@ -1,4 +1,4 @@
-"""What a register will be asked for after an event: which values, and by when."""
+"""The values that a register will need after an event, and by when."""
 from __future__ import annotations
 
 import bisect
@@ -12,7 +12,7 @@ Soonest = Tuple[int, Optional[int]]  # by when a value is needed, and which
 
 
 class Later:
-    """Of the operations that begin after an event, which need a value and return."""
+    """The operations that begin after an event, need a value and return."""
 
     def __init__(self, events: Sequence[Tuple[int, bool, Op]]) -> None:
         self.first: List[Soonest] = [(NEVER, None)] * (len(events) + 1)  # by event: the one that returns first of those that begin later

@@ -1,6 +1,6 @@
-"""Locks: an operation takes place only when one returns, and then as few as may be; where one of several must, the one that returns
-first. Both can do no harm: what is put off may still take place until it returns, and of two that are open the other may take its
-place later."""
+"""Locks: an operation takes place only when one returns, and then as few as may be; where one of several must, the one that returns first.
+Both can do no harm: a delayed operation may still take place until it returns, and of two that are open the other may take its place
+later."""
 from __future__ import annotations
 
 import heapq

@@ -1,4 +1,4 @@
-"""The operations of a front of one key's history, as a search has them, and what a search answers."""
+"""The operations of a prefix of one key's history, as a search has them, and the answer of a search."""
 from __future__ import annotations
 
 import itertools

@@ -9,8 +9,8 @@ from ..objects.replay import OBJECTS, Wanted
 
 
 def is_order(operations: Sequence[Operation], model: str, order: Sequence[int]) -> bool:
-    """Whether this is an order of the operations of one key, by the index of their invocations: each that is ok is in it, and none
-    that failed; nothing stands against real time; and each takes place where it stands, and answers as it did."""
+    """Whether this is an order of the operations of one key, by the index of their invocations. Each ok operation is in it, and no failed
+    one. It agrees with real time, and each operation takes place at its place and answers as it did."""
     by_id: Dict[int, Operation] = {operation.invocation.index: operation for operation in operations}
     listed = frozenset(order)
     if len(listed) != len(order) or not listed <= by_id.keys():

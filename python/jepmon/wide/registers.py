@@ -1,10 +1,10 @@
-"""Registers whose values come again. Operations take place only when one returns that has to; a read as soon as its value is there. A
-write that nobody needs is hidden: it may take place right before another write, while it is open, or where its value is there already;
-so it needs no moment until it returns. What is tried are the operations that show their values: each state that is passed through has a
-reader, or a cas from it.
+"""Registers whose values come again. Operations take place only when one returns that has to; a read as soon as its value is there. A write
+that nobody needs is hidden: it may take place right before another write, while it is open, or where its value is there already. So it
+needs no moment until it returns. The search tries the operations that show their values: each state that is passed through has a reader, or
+a cas from it.
 
-A search that has gone wrong early would try for ages what comes later. So it begins anew, in another order, after ever more steps; what
-it has found to lead nowhere it keeps."""
+A search that has gone wrong early would try for ages what comes later. So it begins again, in another order, after ever more steps, and
+keeps its list of dead states."""
 from __future__ import annotations
 
 import bisect
@@ -26,8 +26,8 @@ class TooLong(Exception):
 
 
 class State(NamedTuple):
-    """What the register holds; of the operations that are open, as bits, which have taken place, and which writes may be hidden; and how
-    many operations were placed."""
+    """The value of the register; the open operations that have taken place, and the writes that may be hidden, as bits; and the number of
+    operations that were placed."""
 
     value: Optional[int]
     taken: int
@@ -201,8 +201,8 @@ class Search:
             yield from self.towards(op, op.completed)
 
     def explored(self, is_decided: bool, op: Optional[Op] = None) -> Iterator[None]:
-        """Goes on from here, where that has not been found to lead nowhere: by what can be done next, or, where it is towards an
-        operation, by what leads there."""
+        """Goes on from here, unless this state is known to be dead: by the possible next operations or, on the way to an operation, by
+        those that lead there."""
         best = self.free | self.reads & self.taken | self.lost & ~self.taken
         state = (2 * self.at + is_decided, self.value), best, self.taken
         if state in self.failed:
@@ -226,7 +226,7 @@ class Search:
             self.restore(before)
 
     def moves(self, wanted: Op) -> List[Op]:
-        """What may take place now, the likeliest first; of those that do the same, the one that returns first."""
+        """The operations that may take place now, the likeliest first; of those that do the same, the one that returns first."""
         needed: Set[Optional[int]] = set()
         for op in self.open.values():
             if not self.taken & self.bit[op.id]:
@@ -258,7 +258,7 @@ class Search:
         return sorted(moves, key=rank)
 
     def is_urgent(self, op: Op) -> bool:
-        """Whether the value of a write is needed next, and no other operation that is open brings it in."""
+        """Whether the value of a write is needed next, and no other open operation writes it."""
         value = cast(int, op.part)
         if any(brings(other) == value and other is not op and not self.taken & self.bit[other.id] for other in self.open.values()):
             return False
@@ -274,7 +274,7 @@ class Search:
     # --- The order ---
 
     def order(self) -> List[int]:
-        """What was placed, and what was hidden among it."""
+        """The operations that were placed, and those hidden among them."""
         values: List[Optional[int]] = [None]  # before each that was placed
         for _, op in self.placed:
             value = brings(op)

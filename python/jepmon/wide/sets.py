@@ -1,7 +1,7 @@
-"""Sets: what reads have answered says in which order they took place, and between which of them each value was added first. So each
+"""Sets: the answers of reads show the order in which they took place, and between which of them each value was added first. So each
 operation has a level: reads of the answer k in ascending order the level 2k + 1, and what brings in a member that is new in answer k at
-least 2k. Levels never fall from one operation to another that begins after it. The least levels that keep to this are found in one
-pass, and where these do not do, none do."""
+least 2k. Levels never fall from one operation to another that begins after it. The least levels that keep to this are found in one pass,
+and where these do not do, none do."""
 from __future__ import annotations
 
 from typing import Dict, FrozenSet, List, Optional, Sequence, Tuple, cast
@@ -13,7 +13,7 @@ Answered = FrozenSet[int]
 
 
 class Levels:
-    """What the answers of reads say."""
+    """The facts in the answers of reads."""
 
     def __init__(self, reads: Sequence[Op]) -> None:
         self.read_of: Dict[Answered, Op] = {}  # one read of each answer
@@ -68,7 +68,7 @@ def solve(ops: Sequence[Op], clock: Clock) -> Answer:
 
 
 def unsupported(kept: Sequence[Op], levels: Levels, level: Dict[int, int], cause: Dict[int, Op]) -> Optional[Conflict]:
-    """A member of an answer that no add can have brought in by then."""
+    """A member of an answer that no add can have added by then."""
     adds: Dict[int, List[Op]] = {}
     for op in kept:
         if op.name == "add":

@@ -1,8 +1,8 @@
-"""Registers whose values are unique: each is brought in by one operation. A value's operations stand together in an order, and a cas
-joins those of two values to one group, which has an order of its own. Of a group two moments matter: when the first of its operations
-returns, and when the last is invoked. Where the first comes first, the group fills the time between (it is wide); else all of it may
-take place at any moment between (it is narrow). No two wide groups may overlap, nor may a narrow one be within a wide one: then all of
-them can be put in an order, and else not (Gibbons and Korach, 1997). This takes the time of a sort."""
+"""Registers whose values are unique: one operation writes each. A value's operations stand together in an order, and a cas joins those of
+two values to one group, which has an order of its own. Two moments of a group matter: when the first of its operations returns, and when
+the last is invoked. Where the first comes first, the group fills the time between (it is wide); else all of it may take place at any moment
+between (it is narrow). No two wide groups may overlap, nor may a narrow one be within a wide one: then all of them can be put in an order,
+and else not (Gibbons and Korach, 1997). The cost is that of a sort."""
 from __future__ import annotations
 
 import bisect
@@ -15,7 +15,7 @@ Layers = List[List[Op]]  # what brings a value in, its readers, what brings the 
 
 
 class NotUnique(Exception):
-    """A value is brought in twice."""
+    """Two operations write the same value."""
 
 
 class Group(NamedTuple):
@@ -71,7 +71,7 @@ def needed(ops: Sequence[Op]) -> List[Op]:
 
 
 def solve(ops: Sequence[Op], clock: Clock) -> Answer:
-    """NotUnique comes where a value is brought in twice."""
+    """NotUnique is raised if two operations write one value."""
     bringer: Dict[int, Op] = {}
     readers: Dict[int, List[Op]] = collections.defaultdict(list)
     following: Dict[int, Op] = {}  # the cas from a value

@@ -1,4 +1,4 @@
-"""A string that is no UTF-8."""
+"""A string that is not UTF-8."""
 import sys
 
 sys.stdout.buffer.write(b'{}\n{:error "\xff"}')

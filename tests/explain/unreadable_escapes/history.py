@@ -1,2 +1,2 @@
-"""What a terminal would obey is shown by its code."""
+"""Characters that a terminal would obey are shown by their code."""
 print("\x1b[31mred")

@@ -1,4 +1,4 @@
-"""Bytes that are no text."""
+"""Bytes that are not text."""
 import sys
 
 sys.stdout.buffer.write(b"{:type :invoke}\n\x89PNG\r\n")

@@ -1,4 +1,4 @@
-"""A hundred clients, of which five work at once; client 7 crashes, and goes on as process 107."""
+"""A hundred clients; five work at once. Client 7 crashes, and goes on as process 107."""
 
 
 def event(kind, process, name, part):

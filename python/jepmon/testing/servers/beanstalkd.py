@@ -1,8 +1,8 @@
 """beanstalkd: one node, with a log that each job is written to. A tube is an unordered queue, which delivers at least once: a job that was
 not deleted when its connection ended, or in five seconds, comes again. So a dequeue takes place where a job comes for the first time.
 
-What an error says: where the connection, or the tube in it, is not there yet, nothing was sent: a :fail, as is an answer that the job was
-not inserted. A job that was sent and is not known to be inserted is an :info. A job that was not got is a :fail: it comes again.
+The meaning of errors: if the connection, or the tube in it, is not there yet, nothing was sent: a :fail, as is an answer that the job was
+not inserted. A job without an answer may have been inserted: an :info. A job that was not got is a :fail: it comes again.
 """
 from __future__ import annotations
 

@@ -1,7 +1,7 @@
-"""etcd: three members, of which each client asks one, over HTTP by the JSON gateway of version 3.
+"""etcd: three members; each client asks one, over HTTP by the JSON gateway of version 3.
 
-What an error says: a refused connection sent nothing, a :fail. Whatever else is no answer, a timeout or a status that is not 200, is an
-:info: a member that says `request timed out`, `leader changed` or `no leader` may have sent on what it was asked before.
+The meaning of errors: a refused connection sent nothing, a :fail. Everything else but an answer, as a timeout or a status other than 200,
+is an :info. A member that says `request timed out`, `leader changed` or `no leader` may have sent on the request before.
 """
 from __future__ import annotations
 
@@ -82,9 +82,9 @@ class SerializableRegister(Register):
 
 
 class Lock(EtcdClient):
-    """A key that its holder makes where there is none, with a lease, so that it goes away where the holder does. A release never is
-    a :fail, since what was not given back goes away by its lease at a later moment; where it has gone before, another's acquire may
-    have been wrong, and not this."""
+    """A key that its holder makes where there is none, with a lease, so that it goes away where the holder does. A release never is a
+    :fail, since an unreleased key goes away by its lease at a later moment. If it has gone before, another's acquire may have been wrong,
+    and not this."""
 
     certain: Exceptions = ()
     seconds = 60  # of the lease: longer than all that may come between

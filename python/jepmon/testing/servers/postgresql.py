@@ -1,7 +1,7 @@
 """PostgreSQL: a primary, and standbys of it. Rows are registers, at an isolation level; advisory locks; a queue by SKIP LOCKED.
 
-What an error says: a connection that was refused, or not yet ready (the server starts, 57P03), has sent nothing; an ERROR as an answer
-says that the transaction was rolled back, as a serialization failure (40001): both are a :fail. A timeout, a cut connection, and the
+The meaning of errors: a connection that was refused, or is not ready (the server starts, 57P03), has sent nothing. An ERROR as an answer
+says that the server rolled the transaction back, as a serialization failure (40001). Both are a :fail. A timeout, a cut connection, and the
 message by which the server ends a session are an :info: a COMMIT may have been done before.
 """
 from __future__ import annotations
@@ -188,7 +188,7 @@ class PostgreSQL(Server):
 
 
 def integer(rows: "list[tuple[Optional[str], ...]]") -> Optional[int]:
-    """What the one field of the one row holds, where there is one."""
+    """The value of the one field of the one row, if there is one."""
     return int(rows[0][0]) if rows and rows[0][0] is not None else None
 
 

@@ -2,14 +2,14 @@
 are a cluster with quorum queues, whose minority pauses itself. It takes network namespaces: the nodes find one another by one port, at an
 address each.
 
-It delivers at least once: what was not acknowledged when a connection or the server ended comes again. So a dequeue takes place where a
+It delivers at least once: unacknowledged messages come again when a connection or the server has ended. So a dequeue takes place where a
 message comes for the first time in the whole test; a message that has come before is a :fail.
 
-A queue is declared some time before its first message comes: durable queues that were declared 0.5 s and 1.3 s before a kill were lost
-with all the confirmed messages in them (RabbitMQ 3.10.8).
+A queue is declared some time before its first message comes: a kill 0.5 s and 1.3 s after the declaration lost durable queues with all the
+confirmed messages in them (RabbitMQ 3.10.8).
 
-What an error says: where the connection, or the queue in it, is not there yet, nothing was sent: a :fail. A message that was sent and
-not confirmed is an :info. A get that was not answered is a :fail: what the broker may have sent was not acknowledged, and comes again.
+The meaning of errors: if the connection, or the queue in it, is not there yet, nothing was sent: a :fail. A message that was sent and not
+confirmed is an :info. A get without an answer is a :fail: a message that the broker may have sent was not acknowledged, and comes again.
 """
 from __future__ import annotations
 
@@ -98,7 +98,7 @@ class EarlyQueue(Queue):
 
 
 class LateQueue(Queue):
-    """Takes a message that comes for what it is, and acknowledges it when the next one comes."""
+    """Takes a message for a new or a repeated one, and acknowledges it when the next one comes."""
 
     late: Optional[Message] = None
 

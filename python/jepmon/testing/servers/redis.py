@@ -1,7 +1,7 @@
 """Redis: a primary, and replicas of it. Clients speak to the primary, which writes each command to its file and syncs the file before it
-answers (`appendonly yes`, `appendfsync always`; --durability has the looser ones, of which a loss of power shows the difference).
+answers (`appendonly yes`, `appendfsync always`). --durability has the looser ones, whose difference a loss of power shows.
 
-What an error says: a refused connection sent nothing, and an error as an answer says that the command was not done (`LOADING`,
+The meaning of errors: a refused connection sent nothing, and an error as an answer means that the command was not done (`LOADING`,
 `READONLY`, `MISCONF`): both are a :fail. A timeout, or a connection that was cut, is an :info.
 """
 from __future__ import annotations
@@ -54,8 +54,8 @@ class Set(RedisClient):
 
 
 class Lock(RedisClient):
-    """SET NX PX. A release never is a :fail: what was not given back goes away as the lease runs out, at a later moment. Where it has
-    run out before, the lock is given back all the same: if somebody has taken it meanwhile, that acquire was wrong, and not this."""
+    """SET NX PX. A release never is a :fail: an unreleased lock goes away as the lease runs out, at a later moment. Where it has run out
+    before, the lock is given back all the same: if somebody has taken it meanwhile, that acquire was wrong, and not this."""
 
     certain: Exceptions = ()
     unsure: Exceptions = (OSError, RedisError)

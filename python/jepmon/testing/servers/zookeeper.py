@@ -1,10 +1,10 @@
-"""ZooKeeper: three servers, of which each client asks one. A znode is a register, and its version makes it a cas-register.
+"""ZooKeeper: three servers; each client asks one. A znode is a register, and its version makes it a cas-register.
 
-A server answers a read by itself, from what it has. So before a read a client sets a znode that all share: the session's server then has
+A server answers a read by itself, from its own data. So before a read a client sets a znode that all share: the session's server then has
 all that was acknowledged before. (`sync`, which is made for that, asks the leader alone, which may have been replaced without knowing it.)
 
-What an error says: a refused connection, a session that was not given, and an error as an answer are a :fail. Whatever else is no answer
-is an :info.
+The meaning of errors: a refused connection, a session that was not given, and an error as an answer are a :fail. Everything else but an
+answer is an :info.
 """
 from __future__ import annotations
 
@@ -61,7 +61,7 @@ class Register(Client):
 
 
 class OwnRegister(Register):
-    """Reads are of what the server has, as most applications do it."""
+    """Reads give the server's own data, as most applications read it."""
 
     def up_to_date(self) -> None:
         pass
@@ -78,7 +78,7 @@ class ZooKeeper(Server):
     size, sizes, survives_power = 3, range(1, 8), True
     # A record of its log that is torn ends a server for good, so `tear` is not among those that it ought to bear.
     bears = {model: (*ALL_STRIKES, "power") for model in CLIENTS}
-    plants = {"own": Plant("reads are of what the client's server has", "register", "pause,partition")}
+    plants = {"own": Plant("reads give the data of the client's server", "register", "pause,partition")}
 
     @classmethod
     def test_installed(cls) -> None:
@@ -116,7 +116,7 @@ class ZooKeeper(Server):
 
 
 def mode(node: Node, timeout: float) -> str:
-    """What it says that it is: leader, follower or standalone; empty where it says nothing."""
+    """Its own role: leader, follower or standalone; empty if it says nothing."""
     try:
         with socket.create_connection(node.listens_at, timeout) as connection:
             connection.sendall(b"srvr")

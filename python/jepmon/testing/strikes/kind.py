@@ -27,8 +27,8 @@ During = Callable[["Cluster", "Node", Values], ContextManager[None]]
 
 
 class Parameter(NamedTuple):
-    """What a strike is given: a number between these two, drawn anew for each strike. From a positive `least` on, small ones are drawn as
-    often as great ones (their logarithms are even)."""
+    """The amount of a strike: a number between these two, drawn for each strike. From a positive `least` on, small ones are drawn as often
+    as great ones (their logarithms are even)."""
 
     least: float
     most: float

@@ -1,5 +1,5 @@
-"""Strikes on the links between nodes, and between clients and nodes. Each is an effect on some ways; what holds a way is counted, so that
-strikes may overlap: a way is open again once none holds it."""
+"""Strikes on the links between nodes, and between clients and nodes. Each is an effect on some ways. A way counts its holders, so that
+strikes may overlap: it is open again once none holds it."""
 from __future__ import annotations
 
 import contextlib

@@ -1,4 +1,4 @@
-"""What `--nemesis` asks for, and what is drawn from it by a seed.
+"""The items of `--nemesis`, and a seed's choice among them.
 
     kill,pause:n1                      these strikes, drawn; of pause only node n1 is struck
     all,power                          all that the server bears, and one more
@@ -63,8 +63,9 @@ class Item(NamedTuple):
 
 
 class Plan:
-    """The items of `text`, for a server of so many nodes that has these strikes. `default` are those of `all`; those of it that `why_not`
-    gives a reason against are left out, and `left_out` says why. A strike that is asked for by name, and can't be, is a ServerError."""
+    """The items of `text`, for a server with this number of nodes that has these strikes. `default` are those of `all`; those of it that
+    `why_not` gives a reason against are left out, and `left_out` says why. A strike that is asked for by name, and can't be, is a
+    ServerError."""
 
     def __init__(self, text: str, nodes: int, strikes: Mapping[str, Strike], default: Sequence[str],
                  why_not: Callable[[str], Optional[str]] = lambda name: None, has_leader: bool = False) -> None:
@@ -155,7 +156,7 @@ class Plan:
 
     @property
     def names(self) -> List[str]:
-        """Of the strikes that may come, in the order in which they are known."""
+        """The names of the strikes that may come, in the order in which they are known."""
         named = {item.name for item in [*self.drawn, *self.scheduled]}
         return [name for name in self.known if name in named]
 

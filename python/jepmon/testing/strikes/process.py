@@ -13,7 +13,7 @@ if TYPE_CHECKING:
 
 @contextlib.contextmanager
 def killed(cluster: Cluster, node: Node, values: Values) -> Iterator[None]:
-    """Then it starts again with what it has kept."""
+    """Then it starts again with its kept data."""
     cluster.kill(node)
     try:
         yield

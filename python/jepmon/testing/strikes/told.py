@@ -1,4 +1,4 @@
-"""What the history notes of a strike: begin-fault and end-fault of notes.py, both with one text:
+"""The notes of a strike in the history: begin-fault and end-fault of notes.py, both with one text:
 
     n1 is down, by kill -9 [kill n1, process]
     all links of n2 are slow [slow n2, links, delay=0.05, jitter=0.01; while kill n1, pause n3]

@@ -31,16 +31,10 @@ class Postgres:
         self.stream, self.user, self.connected = Stream(at, timeout), user, 0
 
     def query(self, text: str) -> Answer:
-        """What the last statement of these answered. All of them are one transaction, where the text begins none itself."""
-        try:
-            if not self.stream.is_open:
-                self._connect()
-            self.stream.begin()
+        """The answer of the last of these statements. All of them are one transaction, where the text begins none itself."""
+        with self.stream.request(self._connect):
             self._send(b"Q", text.encode() + b"\0")
             return self._answer()
-        except OSError:
-            self.close()
-            raise
 
     def _connect(self) -> None:
         """Until the server is ready. While it starts or ends it refuses (57P03), before anything was sent: a refused connection."""

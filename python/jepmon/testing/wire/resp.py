@@ -19,15 +19,9 @@ class Redis:
 
     def call(self, *words: Union[str, int]) -> Any:
         """The server's answer to a command: an integer, bytes, a list of them, or None."""
-        try:
-            if not self.stream.is_open:
-                self.stream.open()
-            self.stream.begin()
+        with self.stream.request(self.stream.open):
             self.stream.send(request(*words))
             return self._answer()
-        except OSError:
-            self.close()
-            raise
 
     def _answer(self) -> Any:
         line = self.stream.line()

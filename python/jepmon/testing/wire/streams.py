@@ -1,10 +1,11 @@
-"""A connection that is made when it is needed, and made anew after a fault, so that a late answer is not taken for the next one.
-It tries nothing again, so that a ConnectionRefusedError says that nothing was sent."""
+"""A connection that is made when needed, and made again after a fault, so that a late answer never counts for the next one. It tries
+nothing again, so that a ConnectionRefusedError says that nothing was sent."""
 from __future__ import annotations
 
+import contextlib
 import socket
 import time
-from typing import Optional
+from typing import Callable, Iterator, Optional
 
 from ..node import At
 
@@ -26,6 +27,18 @@ class Stream:
         self.begin()
         self._socket = socket.create_connection(self._at, self._seconds)
         self._socket.setsockopt(socket.IPPROTO_TCP, socket.TCP_NODELAY, 1)
+
+    @contextlib.contextmanager
+    def request(self, connect: Callable[[], None]) -> Iterator[None]:
+        """The block is one request: it connects first if needed, and its time begins. A fault closes the connection."""
+        try:
+            if not self.is_open:
+                connect()
+            self.begin()
+            yield
+        except OSError:
+            self.close()
+            raise
 
     def begin(self) -> None:
         """The time for one operation, with all that it sends and awaits, begins."""

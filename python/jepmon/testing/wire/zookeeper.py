@@ -51,7 +51,7 @@ class ZooKeeper:
         return Found(answer[4:end], STAT.unpack_from(answer, end)[4])
 
     def set(self, path: str, data: bytes, version: int = -1) -> None:
-        """Of any version, unless one is given."""
+        """Any version, unless one is given."""
         self._asked(SET, text(path) + buffer(data) + struct.pack(">i", version))
 
     def create(self, path: str, data: bytes) -> None:
@@ -75,19 +75,13 @@ class ZooKeeper:
         self.stream.close()
 
     def _asked(self, kind: int, body: bytes) -> bytes:
-        try:
-            if not self.stream.is_open:
-                self._connect()
-            self.stream.begin()
+        with self.stream.request(self._connect):
             self._count += 1
             self._send(struct.pack(">ii", self._count, kind) + body)
             answer = self._frame()
             number, _, code = struct.unpack_from(">iqi", answer)
             if number != self._count:
                 raise ConnectionError("an answer to something else")
-        except OSError:
-            self.close()
-            raise
         if code:
             raise ZooKeeperError(code)
         return answer[16:]
