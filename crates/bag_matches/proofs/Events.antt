@@ -49,7 +49,7 @@ module _ (ms : List Mark) (m : Mark) (well : AreWellFormed (ms ++ m ∷ [])) whe
       (λ c. inr (c.0, c.2))
       (snoc_cut front rest ms m cut)
 
-  extended : (front rest : List Mark) → front ++ rest ≡ ms → front ++ (rest ++ m ∷ []) ≡ longer
+  pub extended : (front rest : List Mark) → front ++ rest ≡ ms → front ++ (rest ++ m ∷ []) ≡ longer
   extended front rest cut = sym (append_assoc front rest (m ∷ [])) ∙ ap (λ l. l ++ m ∷ []) cut
 
   -- what takes a value out, and how often

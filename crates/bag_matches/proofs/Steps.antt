@@ -69,7 +69,7 @@ run_known (y ∷ order) s t run x h = ⊎_elim
     (Contains-cons_cases y order x h)
 
 -- how often a value is in
-times_cons : (w x : ℤ) (xs : List ℤ) → times_in w (x ∷ xs) ≡ cond (int_eq x w) 1 0 + times_in w xs
+pub times_cons : (w x : ℤ) (xs : List ℤ) → times_in w (x ∷ xs) ≡ cond (int_eq x w) 1 0 + times_in w xs
 times_cons w x xs = sum_by-cons (λ y. cond (int_eq y w) 1 0) x xs
 
 pub times_with : (w v : ℤ) (s : List ℤ) → times_in w (with_one v s) ≡ cond (int_eq v w) 1 0 + times_in w s
