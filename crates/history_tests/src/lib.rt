@@ -1,7 +1,9 @@
-//! Worked rows of texts, sequential objects, histories, orders of histories, wide sets, and wide registers. Each answer is compared
-//! with one that follows from the grammar, the tables and the definitions by hand. It has tests alone.
+//! Worked rows of texts, sequential objects, histories, orders of histories, wide sets, wide registers, and wide unordered queues. Each
+//! answer is compared with one that follows from the grammar, the tables and the definitions by hand. It has tests alone.
 #![tactic(auto)]
 
+#[cfg(test)]
+mod bags;
 #[cfg(test)]
 mod histories;
 #[cfg(test)]

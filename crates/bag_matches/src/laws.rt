@@ -1,0 +1,69 @@
+//! Laws of the history of a queue without an order by its values.
+ghost use Rattle.std.specs.Prelude.{◌≡◌, ◌↔◌, ℕ, ℤ, List, [], ◌∷◌, ◌++◌};
+ghost use Rattle.std.specs.List.{Contains};
+ghost use Rattle.models.specs.Objects.{unordered_queue};
+ghost use Rattle.models.specs.declared.operation.Name.TheVariants.{Dequeue};
+ghost use Rattle.models.specs.declared.operation.Part.TheVariants.{Nil};
+ghost use Rattle.models.specs.declared.operation.Op.{Op};
+ghost use Rattle.models.specs.declared.finding.Answer.{Answer};
+ghost use Rattle.models.specs.declared.finding.Answer.TheVariants.{Number};
+ghost use Rattle.events.specs.Events.{Mark, Entry, marks, of_key, IsFront};
+ghost use Rattle.events.specs.Events.Mark.{Invoked, Returned, Failed, Crashed};
+ghost use Rattle.linspec.specs.MarkRule.{AreWellFormed};
+ghost use Rattle.linspec.specs.Orders.{IsLinearizable};
+ghost use Rattle.linspec.specs.Verdicts.{EndsShortestBadFront};
+ghost use Rattle.bag_matches.specs.Matches.{IsMatched, IsEnqueueOf};
+ghost use Rattle.bag_matches.specs.Counts.{IsBalanced, MayDequeue, MayFail};
+
+/// A history of a queue without an order is linearizable exactly if it is matched: each done dequeue has an enqueue of its own. Such
+/// enqueues are there exactly if the history is balanced. The same holds of the history of one key.
+pub fn matches_law()
+    ensures linearizable { (marks : List Mark) → AreWellFormed marks
+        → IsLinearizable unordered_queue marks → IsMatched marks }
+    ensures matched { (marks : List Mark) → AreWellFormed marks
+        → IsMatched marks → IsLinearizable unordered_queue marks }
+    ensures balanced { (marks : List Mark) → AreWellFormed marks → IsMatched marks ↔ IsBalanced marks }
+    ensures key { (entries : List Entry) (k : ℕ) → AreWellFormed (marks (of_key k entries))
+        → IsLinearizable unordered_queue (marks (of_key k entries))
+        ↔ IsMatched (marks (of_key k entries)) }
+{}
+
+/// The ok of an enqueue keeps a history matched, whatever it answers.
+pub fn ok_of_enqueue_law()
+    ensures { (marks : List Mark) (id : ℕ) (v : ℤ) (answer : Answer) →
+        AreWellFormed (marks ++ Returned id answer ∷ []) → IsEnqueueOf marks id v → IsMatched marks
+        → IsMatched (marks ++ Returned id answer ∷ []) }
+{}
+
+/// A history is matched with the ok of a dequeue exactly if it was matched before, the answer is a value, and that may be dequeued now.
+pub fn ok_of_dequeue_law()
+    ensures value { (marks : List Mark) (id : ℕ) (op : Op) (v : ℤ) →
+        AreWellFormed (marks ++ Returned id (Number v) ∷ []) → Contains marks (Invoked id op)
+        → op.name ≡ Dequeue → op.part ≡ Nil
+        → IsMatched (marks ++ Returned id (Number v) ∷ [])
+        ↔ (IsMatched marks × MayDequeue marks v) }
+    ensures other { (marks : List Mark) (id : ℕ) (op : Op) (answer : Answer) →
+        AreWellFormed (marks ++ Returned id answer ∷ []) → Contains marks (Invoked id op)
+        → op.name ≡ Dequeue → ((v : ℤ) → ¬ (answer ≡ Number v))
+        → ¬ IsMatched (marks ++ Returned id answer ∷ []) }
+{}
+
+/// An invocation and an info change nothing. A history is matched with a fail exactly if it was matched before and the operation may fail
+/// now.
+pub fn other_events_law()
+    ensures invoke { (marks : List Mark) (id : ℕ) (op : Op) →
+        AreWellFormed (marks ++ Invoked id op ∷ [])
+        → IsMatched (marks ++ Invoked id op ∷ []) ↔ IsMatched marks }
+    ensures info { (marks : List Mark) (id : ℕ) → AreWellFormed (marks ++ Crashed id ∷ [])
+        → IsMatched (marks ++ Crashed id ∷ []) ↔ IsMatched marks }
+    ensures fail { (marks : List Mark) (id : ℕ) → AreWellFormed (marks ++ Failed id ∷ [])
+        → IsMatched (marks ++ Failed id ∷ []) ↔ (IsMatched marks × MayFail marks id) }
+{}
+
+/// The history of a queue without an order becomes illegal at the event at which it stops being matched.
+pub fn illegal_at_law()
+    ensures { (entries : List Entry) (last : Entry) → AreWellFormed (marks entries)
+        → EndsShortestBadFront unordered_queue entries last
+        ↔ ((before : List Entry) × IsFront (before ++ last ∷ []) entries × IsMatched (marks before)
+        × (¬ IsMatched (marks (before ++ last ∷ [])))) }
+{}

@@ -1,0 +1,10 @@
+pub mod Tests
+pub mod Loops
+pub mod Places
+pub mod Carrying
+pub mod Counting
+pub mod Events
+pub mod Taking
+pub mod Beginning
+pub mod Prepared
+pub mod Crossing
