@@ -3,6 +3,7 @@
 killed. Ends with 'N passed, M failed', or 'N passed, M failed, K skipped' where an engine is not installed (tests/setup installs it).
 With words, it runs the cases of these names alone.
 """
+import contextlib
 import functools
 import os
 import resource
@@ -157,7 +158,8 @@ def run_interrupted_split() -> List[str]:
                 began = time.monotonic()
                 while child.poll() is None and time.monotonic() < began + LIMIT:  # one that comes just before a read is seen after it
                     os.kill(child.pid, number)
-                    time.sleep(0.5)
+                    with contextlib.suppress(subprocess.TimeoutExpired):
+                        child.wait(5)  # a second signal while Python ends would kill it
                 output, error = child.communicate(timeout=LIMIT)
             left = sorted(os.listdir(folder)), os.listdir(scratch)
             faults += differing(f"what came of signal {number}", (child.returncode, output, b"Traceback" in error, left),
