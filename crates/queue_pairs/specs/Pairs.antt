@@ -1,0 +1,129 @@
+-- Promise: a queue whose values differ, by its answers alone (Henzinger, Sezgin and Vafeiadis 2013; here with operations that are open, have
+-- failed or have crashed, and with no answer from an empty queue)
+use Rattle.std.specs.Prelude.{◌≡◌, ◌≢◌, ℕ, ℤ, ◌⊎◌, List}
+use Rattle.std.specs.List.{Contains}
+use Rattle.models.specs.declared.operation.Name.TheVariants.{Enqueue, Dequeue}
+use Rattle.models.specs.declared.operation.Part.TheVariants.{Nil, Int}
+use Rattle.models.specs.declared.operation.Op.{Op}
+use Rattle.models.specs.declared.finding.Answer.TheVariants.{Number}
+use Rattle.events.specs.Events.{Mark, Entry, marks, IsFront}
+use Rattle.events.specs.Events.Mark.{Invoked, Returned, Failed}
+use Rattle.linspec.specs.Operations.{HasReturned, Precedes}
+
+-- the operation enqueues v
+abbrev pub Enqueues : Op → ℤ → Type 0
+Enqueues op v = (op.name ≡ Enqueue) × (op.part ≡ Int v)
+
+abbrev pub IsEnqueueOf : List Mark → ℕ → ℤ → Type 0
+IsEnqueueOf marks id v = (op : Op) × Contains marks (Invoked id op) × Enqueues op v
+
+-- an enqueue of v that has not failed: it is done, or may take place yet
+abbrev pub MayEnqueue : List Mark → ℕ → ℤ → Type 0
+MayEnqueue marks id v = IsEnqueueOf marks id v × (¬ Contains marks (Failed id))
+
+abbrev pub Dequeues : Op → Type 0
+Dequeues op = (op.name ≡ Dequeue) × (op.part ≡ Nil)
+
+-- the operation is a dequeue that has answered v
+pub record HasDequeued (marks : List Mark) (id : ℕ) (v : ℤ) : Type 0 where
+  pub op : Op
+  pub invoked : Contains marks (Invoked id op)
+  pub dequeues : Dequeues op
+  pub answer : Contains marks (Returned id (Number v))
+
+-- the operation is a dequeue that may take a value of which nobody was told: it is open, or has crashed
+pub record MayDequeue (marks : List Mark) (id : ℕ) : Type 0 where
+  pub op : Op
+  pub invoked : Contains marks (Invoked id op)
+  pub dequeues : Dequeues op
+  pub not_returned : ¬ HasReturned marks id
+  pub not_failed : ¬ Contains marks (Failed id)
+
+-- u came in before v: an enqueue of u precedes each enqueue of v that has not failed
+abbrev pub IsBefore : List Mark → ℤ → ℤ → Type 0
+IsBefore marks u v =
+    (a : ℕ) × IsEnqueueOf marks a u × ((b : ℕ) → MayEnqueue marks b v → Precedes marks a b)
+
+-- no dequeue has answered v
+abbrev pub IsUntold : List Mark → ℤ → Type 0
+IsUntold marks v = (id : ℕ) → ¬ HasDequeued marks id v
+
+-- a dequeue of which nobody was told must have taken u before d: nobody was told of u, and it came in before the value that d has
+-- dequeued
+pub record IsOwedTo (marks : List Mark) (u : ℤ) (d : ℕ) : Type 0 where
+  pub untold : IsUntold marks u
+  pub v : ℤ
+  pub before : IsBefore marks u v
+  pub dequeued : HasDequeued marks d v
+
+-- each owed value is taken by a dequeue of its own that has no answer, and that none precedes to which the value is owed
+pub record AreTakers (marks : List Mark) (taker : ℤ → ℕ) : Type 0 where
+  pub may : (u : ℤ) (d : ℕ) → IsOwedTo marks u d → MayDequeue marks (taker u)
+  pub in_time : (u : ℤ) (d : ℕ) → IsOwedTo marks u d → ¬ Precedes marks d (taker u)
+  pub apart : (u w : ℤ) (d e : ℕ) → IsOwedTo marks u d → IsOwedTo marks w e
+      → taker u ≡ taker w → u ≡ w
+
+pub record IsPaired (marks : List Mark) : Type 0 where
+  -- each done operation is an enqueue of a value, or has dequeued one
+  pub known : (id : ℕ) → HasReturned marks id
+      → ((v : ℤ) × IsEnqueueOf marks id v) ⊎ ((v : ℤ) × HasDequeued marks id v)
+  -- what was dequeued has an enqueue that has not failed and that the dequeue does not precede
+  pub added : (d : ℕ) (v : ℤ) → HasDequeued marks d v
+      → (a : ℕ) × MayEnqueue marks a v × (¬ Precedes marks d a)
+  -- a value is dequeued once
+  pub once : (c d : ℕ) (v : ℤ) → HasDequeued marks c v → HasDequeued marks d v → c ≡ d
+  -- what came in first is not dequeued last
+  pub in_turn : (u v : ℤ) (c d : ℕ) → IsBefore marks u v → HasDequeued marks c u
+      → HasDequeued marks d v → ¬ Precedes marks d c
+  -- what came in before a dequeued value and was not dequeued has a taker
+  pub taken : (taker : ℤ → ℕ) × AreTakers marks taker
+
+-- values differ. Two operations are twins where they are enqueues of one value and neither has failed
+pub record AreTwins (marks : List Mark) (a b : ℕ) (v : ℤ) : Type 0 where
+  pub two : a ≢ b
+  pub first : MayEnqueue marks a v
+  pub second : MayEnqueue marks b v
+
+abbrev pub HasTwins : List Mark → Type 0
+HasTwins marks = (a b : ℕ) × (v : ℤ) × AreTwins marks a b v
+
+-- an operation is late where it was invoked after every ok
+abbrev pub IsLate : List Mark → ℕ → Type 0
+IsLate marks id = (done : ℕ) → HasReturned marks done → Precedes marks done id
+
+-- of two twins one is late, so no answer tells of it yet
+abbrev pub TwinsAreLate : List Mark → Type 0
+TwinsAreLate marks = (a b : ℕ) (v : ℤ) → AreTwins marks a b v → IsLate marks a ⊎ IsLate marks b
+
+-- they were so at each event
+abbrev pub TwinsAreAlwaysLate : List Entry → Type 0
+TwinsAreAlwaysLate entries =
+    (front : List Entry) → IsFront front entries → TwinsAreLate (marks front)
+
+-- u needs a taker once v is dequeued: it is another value, nobody was told of it, and it came in before v or is owed already
+abbrev pub IsOwedBeside : List Mark → ℤ → ℤ → Type 0
+IsOwedBeside marks v u =
+    (u ≢ v) × IsUntold marks u × (IsBefore marks u v ⊎ ((d : ℕ) × IsOwedTo marks u d))
+
+-- there are takers still when the operation dequeues v
+pub record AreTakersBeside (marks : List Mark) (id : ℕ) (v : ℤ) (taker : ℤ → ℕ) : Type 0 where
+  pub may : (u : ℤ) → IsOwedBeside marks v u → MayDequeue marks (taker u)
+  pub others : (u : ℤ) → IsOwedBeside marks v u → taker u ≢ id
+  pub in_time : (u : ℤ) (d : ℕ) → IsOwedBeside marks v u → IsOwedTo marks u d
+      → ¬ Precedes marks d (taker u)
+  pub apart : (u w : ℤ) → IsOwedBeside marks v u → IsOwedBeside marks v w
+      → taker u ≡ taker w → u ≡ w
+
+-- a dequeue that is open may answer v now
+pub record MayTake (marks : List Mark) (id : ℕ) (v : ℤ) : Type 0 where
+  pub added : (a : ℕ) × MayEnqueue marks a v
+  pub untold : IsUntold marks v
+  pub in_turn : (d : ℕ) → IsOwedTo marks v d → ¬ Precedes marks d id
+  pub taken : (taker : ℤ → ℕ) × AreTakersBeside marks id v taker
+
+-- an operation that is open may fail now: what was dequeued has another enqueue, and what is owed another taker
+pub record MayFail (marks : List Mark) (id : ℕ) : Type 0 where
+  pub added : (d : ℕ) (v : ℤ) → HasDequeued marks d v → IsEnqueueOf marks id v
+      → (a : ℕ) × MayEnqueue marks a v × (¬ Precedes marks d a) × (a ≢ id)
+  pub taken : (taker : ℤ → ℕ) × AreTakers marks taker
+      × ((u : ℤ) (d : ℕ) → IsOwedTo marks u d → taker u ≢ id)
