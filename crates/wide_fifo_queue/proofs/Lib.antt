@@ -1,0 +1,17 @@
+pub mod Moments
+pub mod Loops
+pub mod Once
+pub mod Serving
+pub mod Takers
+pub mod Laws
+pub mod Knowing
+pub mod Carrying
+pub mod Owing
+pub mod Calls
+pub mod Leaving
+pub mod Dequeuing
+pub mod Events
+pub mod Failing
+pub mod Oks
+pub mod Beginning
+pub mod Judging

@@ -100,9 +100,10 @@ pub record AreOwed (entered : List Enqueued) (owed : List Owed) (marks : List Ma
   pub least : (o : Owed) (moment : ℕ) → Contains owed o → IsPassed entered o.by moment → o.deadline ≤ moment
   pub in_order : Pairwise (λ o p. (o.deadline ≤ p.deadline) × (o.value ≢ p.value)) owed
 
-abbrev pub IsAmong : List Waiting → List Owed → ℤ → Type 0
-IsAmong waiting owed v = ((w : Waiting) × Contains waiting w × (w.value ≡ v))
-    ⊎ ((o : Owed) × Contains owed o × (o.value ≡ v))
+-- the value that waits since this moment was passed over, or not
+abbrev pub IsAmong : List Waiting → List Owed → ℤ → ℕ → Type 0
+IsAmong waiting owed v moment = ((w : Waiting) × Contains waiting w × (w.value ≡ v) × (w.by ≡ moment))
+    ⊎ ((o : Owed) × Contains owed o × (o.value ≡ v) × (o.by ≡ moment))
 
 -- the invocations of the dequeues that are open or have crashed
 pub record AreMoments (takers : List ℕ) (marks : List Mark) : Type 0 where
@@ -160,7 +161,7 @@ pub record AreFacts (f : Facts) (marks : List Mark) : Type 0 where
   pub entries : AreEntries f.entered f.late marks
   pub waiting : AreWaiting f.entered f.waiting marks
   pub owed : AreOwed f.entered f.owed marks
-  pub among : (v : ℤ) (moment : ℕ) → Waits f.entered marks v moment → IsAmong f.waiting f.owed v
+  pub among : (v : ℤ) (moment : ℕ) → Waits f.entered marks v moment → IsAmong f.waiting f.owed v moment
   pub takers : AreMoments f.takers marks
 
 -- the facts after one more mark that changes no value, and leaves these operations open

@@ -3,7 +3,7 @@ ghost use Rattle.std.specs.Prelude.{◌≡◌, ◌≢◌, ◌↔◌, ◌⊎◌, 
 ghost use Rattle.std.specs.List.{Contains};
 ghost use Rattle.wide_fifo_queue.specs.declared.known.Enqueued.{Enqueued};
 ghost use Rattle.wide_fifo_queue.specs.Facts.{IsByValue};
-ghost use Rattle.wide_fifo_queue.specs.Queries.{IsEndOf, IsPlaceOf};
+ghost use Rattle.wide_fifo_queue.specs.Queries.{IsEndOf};
 
 use crate::known::Enqueued;
 use persistent::Row;

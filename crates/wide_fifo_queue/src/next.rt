@@ -1,5 +1,5 @@
 //! What is known after an event.
-ghost use Rattle.std.specs.Prelude.{◌≡◌, ◌≢◌, ℤ, [], List, Some, None, IfOk, IsTrue};
+ghost use Rattle.std.specs.Prelude.{◌≡◌, ◌≢◌, [], None, true, false, IfOk, IsTrue};
 ghost use Rattle.std.specs.List.{Contains};
 ghost use Rattle.models.specs.Objects.{answer_of};
 ghost use Rattle.models.specs.declared.finding.Answer.{Answer};
