@@ -16,7 +16,7 @@ use Rattle.wide_fifo_queue.specs.declared.known.Call.TheVariants as calls
 use Rattle.wide_fifo_queue.specs.declared.known.Pending.{Pending}
 use Rattle.wide_fifo_queue.specs.Facts.{call_by, Facts, AreFacts}
 use Rattle.wide_fifo_queue.proofs.Moments.{stands_contains}
-use Rattle.wide_fifo_queue.proofs.Once.{one_op}
+use Rattle.queue_pairs.proofs.Once.{one_op}
 
 pub dequeue_by : (name : Name) (part : Part) → call_by name part ≡ calls.Dequeue → (name ≡ Dequeue) × (part ≡ Nil)
 dequeue_by Dequeue Nil e = (refl, refl)

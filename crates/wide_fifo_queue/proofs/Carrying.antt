@@ -19,7 +19,7 @@ use Rattle.wide_fifo_queue.specs.declared.known.Enqueued.{Enqueued}
 use Rattle.wide_fifo_queue.specs.Facts.{StandsAt, ArePending, IsEntry, IsTakenAt, Waits, call_by, is_other}
 use Rattle.wide_fifo_queue.proofs.Moments.{stands_contains, stands_on, stands_cases, stands_last, last_or_before}
 use Rattle.linspec.proofs.Filters.{from_filter, to_filter}
-use Rattle.wide_fifo_queue.proofs.Once.{returned_invoked}
+use Rattle.queue_pairs.proofs.Once.{returned_invoked}
 
 pub not_same : (a b : ℕ) → not (nat_eq a b) ≡ true → a ≢ b
 not_same a b e same = let t : nat_eq a b ≡ true = eq-eqb a b same in true≢false (sym e ∙ ap not t)

@@ -19,7 +19,7 @@ use Rattle.wide_fifo_queue.specs.declared.known.Waiting.{Waiting}
 use Rattle.wide_fifo_queue.specs.declared.known.Owed.{Owed}
 use Rattle.wide_fifo_queue.specs.Facts.{StandsAt, ArePending, IsEntry, IsTakenAt, IsByValue, AreEntries, Waits, IsPassed, AreWaiting, AreOwed, IsAmong, AreMoments, Facts, AreFacts, call_by, later, is_other, is_other_enqueue}
 use Rattle.wide_fifo_queue.proofs.Moments.{stands_contains, stands_below, stands_last, stands_on}
-use Rattle.wide_fifo_queue.proofs.Once.{one_op}
+use Rattle.queue_pairs.proofs.Once.{one_op}
 use Rattle.wide_fifo_queue.proofs.Laws.{invocation, crash}
 use Rattle.wide_fifo_queue.proofs.Calls.{by_enqueues, by_dequeues}
 use Rattle.wide_fifo_queue.proofs.Carrying.{one_more, longer, kept, kept_at, invoked_was, enqueue_is, may_enqueue_was, entry_is, dequeued_is, dequeued_was, taken_is, may_dequeue_is, may_dequeue_was, waits_is, waits_was, late_is, pending_without, pending_with}

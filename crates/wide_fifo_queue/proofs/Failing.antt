@@ -15,7 +15,7 @@ use Rattle.wide_fifo_queue.specs.declared.known.Pending.{Pending}
 use Rattle.wide_fifo_queue.specs.declared.known.Enqueued.{Enqueued}
 use Rattle.wide_fifo_queue.specs.Facts.{StandsAt, IsEntry, IsByValue, AreEntries, Waits, IsPassed, AreMoments, IsServed, Facts, AreFacts, later, is_other, is_other_enqueue}
 use Rattle.wide_fifo_queue.proofs.Moments.{stands_contains}
-use Rattle.wide_fifo_queue.proofs.Once.{one_op, not_before_itself}
+use Rattle.queue_pairs.proofs.Once.{one_op, not_before_itself}
 use Rattle.wide_fifo_queue.proofs.Laws.{fail}
 use Rattle.wide_fifo_queue.proofs.Calls.{no_both, enqueue_of_call, no_enqueue_of_call}
 use Rattle.wide_fifo_queue.proofs.Carrying.{not_same, is_not_same, same_or_not, one_more, may_enqueue_was, entry_is, taken_is, may_dequeue_was, late_is, kept, kept_at, pending_without, invoked_was}

@@ -1,5 +1,5 @@
 -- what an event is answered
-use Rattle.std.proofs.Common.{◌≡◌, ◌≢◌, ℕ, ⊎_elim, Option, Some, None, Bool, true, false, List, [], ◌∷◌, ◌++◌, IsTrue, refl, sym, ap, ◌∙◌, subst, arith}
+use Rattle.std.proofs.Common.{◌≡◌, ◌≢◌, ◌↔◌, ℕ, ⊎_elim, Option, Some, None, Bool, true, false, List, [], ◌∷◌, ◌++◌, IsTrue, refl, sym, ap, ◌∙◌, subst, arith}
 use Rattle.std.proofs.lemmas.Bool.{true≢false}
 use Rattle.std.specs.List.{Contains}
 use Rattle.models.specs.declared.operation.Op.{Op}
@@ -19,7 +19,7 @@ use Rattle.queue_pairs.specs.Pairs.{MayEnqueue, HasTwins, AreTwins, IsPaired}
 use Rattle.wide_fifo_queue.specs.declared.known.Known.{Known}
 use Rattle.wide_fifo_queue.specs.declared.known.Enqueued.{Enqueued}
 use Rattle.wide_fifo_queue.specs.Facts.{Facts, AreFacts, facts_of}
-use Rattle.wide_fifo_queue.specs.Kept.{IsDead, Stands}
+use Rattle.wide_fifo_queue.specs.Kept.{IsDead, Stands, IsSameKnown}
 use Rattle.wide_fifo_queue.specs.Counted.{the_object, counts_more}
 use Rattle.wide_fifo_queue.specs.Judges.{kills, is_an_ok, step_by, step_of_dead}
 use Rattle.wide_fifo_queue.proofs.Carrying.{well_more}
@@ -119,3 +119,10 @@ no_step old new (Returned id answer) p q = (omega (arith, p, q), λ marks st n f
 no_step old new (Invoked id op) p q = omega (arith, p, q)
 no_step old new (Failed id) p q = omega (arith, p, q)
 no_step old new (Crashed id) p q = omega (arith, p, q)
+
+-- the same facts stand for the same histories
+pub same_stands : (k l : Option Known) → IsSameKnown k l → (ms : List Mark) → Stands l ms ↔ Stands k ms
+same_stands None None same ms = ((λ h. h), (λ h. h))
+same_stands (Some k) None same ms = absurd same
+same_stands None (Some l) same ms = absurd same
+same_stands (Some k) (Some l) same ms = ((λ h. subst (λ (f : Facts). AreFacts f ms) same h), (λ h. subst (λ (f : Facts). AreFacts f ms) (sym same) h))

@@ -21,7 +21,7 @@ use Rattle.wide_fifo_queue.specs.declared.known.Waiting.{Waiting}
 use Rattle.wide_fifo_queue.specs.declared.known.Owed.{Owed}
 use Rattle.wide_fifo_queue.specs.Facts.{StandsAt, IsEntry, IsTakenAt, IsByValue, Waits, IsPassed, Facts, AreFacts}
 use Rattle.wide_fifo_queue.proofs.Moments.{stands_contains, stands_of, precedes_by, not_precedes}
-use Rattle.wide_fifo_queue.proofs.Once.{returned_not_failed, not_before_itself, one_op}
+use Rattle.queue_pairs.proofs.Once.{returned_not_failed, not_before_itself, one_op}
 
 -- of two elements one is the other, or they are related
 pub in_some_order : {X : Type 0} (R : X → X → Type 0) (xs : List X) → Pairwise R xs → (x y : X) → Contains xs x → Contains xs y → (x ≡ y) ⊎ (R x y ⊎ R y x)
@@ -41,7 +41,7 @@ pub none_or_some : (x : Option ℕ) → (x ≡ None) ⊎ ((n : ℕ) × (x ≡ So
 none_or_some None = inl refl
 none_or_some (Some n) = inr (n, refl)
 
-not_below_itself : (a b : ℤ) → a ≡ b → ¬ (a <ℤ b)
+pub not_below_itself : (a b : ℤ) → a ≡ b → ¬ (a <ℤ b)
 not_below_itself a b e l = let k : b <ℤ b = subst (λ x. x <ℤ b) e l in omega (arith, ints)
 
 pub one_entry : (xs : List Enqueued) → IsByValue xs → (d e : Enqueued) → Contains xs d → Contains xs e → d.value ≡ e.value → d ≡ e

@@ -1,6 +1,5 @@
 pub mod Moments
 pub mod Loops
-pub mod Once
 pub mod Serving
 pub mod Takers
 pub mod Laws
@@ -15,3 +14,6 @@ pub mod Failing
 pub mod Oks
 pub mod Beginning
 pub mod Judging
+pub mod Places
+pub mod Splitting
+pub mod After

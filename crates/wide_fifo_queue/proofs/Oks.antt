@@ -23,7 +23,7 @@ use Rattle.wide_fifo_queue.specs.declared.known.Owed.{Owed}
 use Rattle.wide_fifo_queue.specs.Facts.{StandsAt, IsEntry, IsTakenAt, IsByValue, AreEntries, Waits, IsPassed, AreWaiting, AreOwed, IsAmong, AreMoments, IsServed, Facts, AreFacts, later, is_other, owed_by}
 use Rattle.wide_fifo_queue.specs.Queries.{IsDueOf, IsInTime}
 use Rattle.wide_fifo_queue.proofs.Moments.{stands_contains, stands_below, stands_last}
-use Rattle.wide_fifo_queue.proofs.Once.{one_op}
+use Rattle.queue_pairs.proofs.Once.{one_op}
 use Rattle.wide_fifo_queue.proofs.Laws.{ok_of_enqueue, ok_of_dequeue}
 use Rattle.wide_fifo_queue.proofs.Calls.{no_both, op_of, dequeue_of_call, no_enqueue_of_call}
 use Rattle.wide_fifo_queue.proofs.Carrying.{one_more, may_enqueue_was, entry_is, dequeued_is, dequeued_was, taken_is, may_dequeue_is, may_dequeue_was, waits_is, waits_was, kept, kept_at, pending_without}

@@ -32,10 +32,7 @@ impl Known {
         ensures none { result ≡ false → self.now.late.items ≡ [] }
         ensures some { result ≡ true → (e : Enqueued) × Contains self.now.late.items e }
     {
-        for _entry in &self.late {
-            return true;
-        }
-        false
+        !self.late.is_empty()
     }
 
     // After the invocation of an enqueue.
