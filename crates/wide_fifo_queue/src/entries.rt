@@ -53,7 +53,8 @@ pub fn with_entry(
 {
     let at = entered.place_of(entry.value);
     let to = end_of(entered, at, entry.value);
-    entered.spliced(alloc, at, to, entry)
+    let row = entered.spliced(alloc, at, to, entry)?;
+    Ok(row)
 }
 
 /// The enqueues of other values. O(log n).
@@ -68,7 +69,9 @@ pub fn without_entry(
 {
     let at = entered.place_of(value);
     if end_of(entered, at, value) == at {
-        return entered.copy();
+        let row = entered.copy()?;
+        return Ok(row);
     }
-    entered.without(alloc, at)
+    let others = entered.without(alloc, at)?;
+    Ok(others)
 }

@@ -33,7 +33,8 @@ pub fn without_waiting(
             return waiting.without(alloc, at);
         }
     }
-    waiting.copy()
+    let row = waiting.copy()?;
+    Ok(row)
 }
 
 /// How many of the values came in before this moment. O(log n) for each.
