@@ -1,4 +1,5 @@
-//! Worked rows of texts, sequential objects, histories, orders of histories, wide sets, and wide registers. Each answer is compared
+//! Worked rows of texts, sequential objects, histories, orders of histories, wide sets, wide registers, and queues
+//! whose values differ. Each answer is compared
 //! with one that follows from the grammar, the tables and the definitions by hand. It has tests alone.
 #![tactic(auto)]
 
@@ -8,6 +9,8 @@ mod histories;
 mod objects;
 #[cfg(test)]
 mod orders;
+#[cfg(test)]
+mod queues;
 #[cfg(test)]
 mod registers;
 #[cfg(test)]

@@ -125,6 +125,10 @@ module _ (f : Facts) where
       pub take_too_late : (o : Owed) → Contains f.owed o → ¬ (p.since ≤ o.deadline) → Kills f (Returned p.id (Number o.value))
       take_too_late o i late = no_take o.value (λ ms facts. deq.too_late f ms facts p h o i late)
 
+      pub take_after : (v : ℤ) (due : Option Owed) → IsDueOf f.owed v due → ¬ IsInTime p.since due → Kills f (Returned p.id (Number v))
+      take_after v None is late = absurd (late tt)
+      take_after v (Some o) is late = subst (λ w. Kills f (Returned p.id (Number w))) is.1 (take_too_late o is.0 late)
+
       module _ (e : Enqueued) (here : Contains f.entered e) (stays : e.taken ≡ None) (due : Option Owed) (is_due : IsDueOf f.owed e.value due)
           (others : List Waiting) (but : IsWaitingBut f.waiting e.value due others) (many : ℕ) (before : (w : Waiting) → Contains (take many others) w → w.by < e.since)
           (first : many < length others → (w : Waiting) → w ≡ get_or others many w → e.since ≤ w.by) where

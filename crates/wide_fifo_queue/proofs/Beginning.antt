@@ -17,11 +17,14 @@ none_paired = record {
   added = λ d v h. absurd (Contains-nil _ h.answer);
   once = λ c d v h k. absurd (Contains-nil _ h.answer);
   in_turn = λ u v c d b h k p. Contains-nil _ h.answer;
-  taken = ((λ u. 0), record {
-    may = λ u d o. absurd (Contains-nil _ o.dequeued.answer);
-    in_time = λ u d o p. Contains-nil _ o.dequeued.answer;
-    apart = λ u w d e o q same. absurd (Contains-nil _ o.dequeued.answer);
-  });
+  taken = (
+    (λ u. 0),
+    record {
+      may = λ u d o. absurd (Contains-nil _ o.dequeued.answer);
+      in_time = λ u d o p. Contains-nil _ o.dequeued.answer;
+      apart = λ u w d e o q same. absurd (Contains-nil _ o.dequeued.answer);
+    },
+  );
 }
 
 pub no_facts_are : AreFacts no_facts []

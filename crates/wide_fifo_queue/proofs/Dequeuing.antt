@@ -103,8 +103,8 @@ module _ (f : Facts) (ms : List Mark) (facts : AreFacts f ms) (e : Enqueued) (he
       (λ w x h k (lt : w.by < x.by). (
         (let now : f.now ≤ f.now = omega arith in now),
         (λ (same : w.value ≡ x.value).
-        let by : w.by ≡ x.by = waits_once f ms facts x.value w.by x.by (subst (λ u. Waits f.entered ms u w.by) same (facts.waiting.is w (pass_in w h).0)) (facts.waiting.is x (pass_in x k).0) in
-        absurd (omega arith)),
+            let by : w.by ≡ x.by = waits_once f ms facts x.value w.by x.by (subst (λ u. Waits f.entered ms u w.by) same (facts.waiting.is w (pass_in w h).0)) (facts.waiting.is x (pass_in x k).0) in
+            absurd (omega arith)),
       ))
       (Pairwise-left IsSooner pass rest split_order))
       (λ o q h k.
@@ -181,12 +181,15 @@ module _ (f : Facts) (ms : List Mark) (facts : AreFacts f ms) (e : Enqueued) (he
               let le : p.since ≤ k.0.deadline = timely k.0 k.2 k.3 in
               let more : k.0.deadline ≤ k.1 = k.5 in
               not_precedes ms facts.well d p.id k.1 p.since (Number o.v) own k.4 (facts.pending.is p h).1.1 (omega arith);
-          taken = (t.0, record {
-            may = λ u q. (does.may_take u q).0;
-            others = λ u q. (does.may_take u q).1;
-            in_time = λ u d q o. does.in_time u d q o;
-            apart = λ u w q r same. does.apart u w q r same;
-          });
+          taken = (
+            t.0,
+            record {
+              may = λ u q. (does.may_take u q).0;
+              others = λ u q. (does.may_take u q).1;
+              in_time = λ u d q o. does.in_time u d q o;
+              apart = λ u w q r same. does.apart u w q r same;
+            },
+          );
         }
 
   module _ (p : Pending) (h : Contains f.pending p) where

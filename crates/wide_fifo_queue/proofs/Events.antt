@@ -215,10 +215,15 @@ module _ (f : Facts) (ms : List Mark) (facts : AreFacts f ms) (id : ℕ) (op : O
       is = λ x k. entry_is ms last well x (facts.entries.is x k) (λ q. cc);
       is_late = λ x k. ⊎_elim
           (λ j. (let i = facts.entries.is_late x j in (entry_is ms last well x i.0 (λ q. cc), late_is ms last well x.id no_ok_is_invoked i.1, i.2, i.3)))
-          (λ q. subst IsLateTwin q (is_new_entry, (λ d r. ⊎_elim
-          (λ j. record { before = ms; after = last ∷ []; cut = refl; returned = (r.0, j); invoked = (op, subst (λ i. Contains (last ∷ []) (Invoked i op)) (sym own_id) (Contains-head last [])) })
-          (λ g. cc)
-          (Contains-push_cases ms last (Returned d r.0) r.1)), untaken, (o, h, is, λ g. (let i = (facts.entries.is o h).stands in new (Invoked o.id (facts.entries.is o h).op) (stands_contains ms o.since _ i) (g ∙ own_id)))))
+          (λ q. subst IsLateTwin q (
+            is_new_entry,
+            (λ d r. ⊎_elim
+                (λ j. record { before = ms; after = last ∷ []; cut = refl; returned = (r.0, j); invoked = (op, subst (λ i. Contains (last ∷ []) (Invoked i op)) (sym own_id) (Contains-head last [])) })
+                (λ g. cc)
+                (Contains-push_cases ms last (Returned d r.0) r.1)),
+            untaken,
+            (o, h, is, λ g. (let i = (facts.entries.is o h).stands in new (Invoked o.id (facts.entries.is o h).op) (stands_contains ms o.since _ i) (g ∙ own_id))),
+          ))
           (Contains-push_cases f.late e x k);
       all = λ i v a. ⊎_elim
           (λ k. (let j = facts.entries.all i v (may_enqueue_was ms last well i v k a) in (j.0, ⊎_elim inl (λ l. inr (Contains-append_left f.late (e ∷ []) j.0 l)) j.1, j.2, j.3)))

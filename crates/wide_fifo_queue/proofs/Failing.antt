@@ -219,15 +219,22 @@ module _ (f : Facts) (ms : List Mark) (facts : AreFacts f ms) (id : ℕ) (well :
               is = λ e h. (let k = (has e).0 h in entry_is ms (Failed id) well e (facts.entries.is e k.0) (alive entered out' from' e k.0 k.1));
               is_late = λ e h.
                   let k = facts.entries.is_late e h in
-                  let ne = none e h in
-                  (entry_is ms (Failed id) well e k.0 (other_failed id e.id (λ q. ne (sym (its_value e.value (subst (λ i. IsEnqueueOf ms i e.value) (sym q) (entry_enqueues f ms facts e k.0).0))))),
-                  late_is ms (Failed id) well e.id (no_ok_is_fail id) k.1, k.2, (k.3.0, out' k.3.0 k.3.1 (λ q. ne (sym k.3.2 ∙ q)), k.3.2, k.3.3));
+                  let ne = none e h in (
+                    entry_is ms (Failed id) well e k.0 (other_failed id e.id (λ q. ne (sym (its_value e.value (subst (λ i. IsEnqueueOf ms i e.value) (sym q) (entry_enqueues f ms facts e k.0).0))))),
+                    late_is ms (Failed id) well e.id (no_ok_is_fail id) k.1,
+                    k.2,
+                    (k.3.0, out' k.3.0 k.3.1 (λ q. ne (sym k.3.2 ∙ q)), k.3.2, k.3.3),
+                  );
               all = λ i w a.
-                  let k = facts.entries.all i w (may_enqueue_was ms (Failed id) well i w (invoked_by i a.0.0 a.0.1) a) in
-                  (k.0, ⊎_elim
-                  (λ l. inl (out' k.0 l (λ q. not_itself i a.1 (sym k.2 ∙ ap (λ (x : Enqueued). x.id) (other_entry k.0 l q) ∙ own_id))))
-                  inr
-                  k.1, k.2, k.3);
+                  let k = facts.entries.all i w (may_enqueue_was ms (Failed id) well i w (invoked_by i a.0.0 a.0.1) a) in (
+                    k.0,
+                    ⊎_elim
+                        (λ l. inl (out' k.0 l (λ q. not_itself i a.1 (sym k.2 ∙ ap (λ (x : Enqueued). x.id) (other_entry k.0 l q) ∙ own_id))))
+                        inr
+                        k.1,
+                    k.2,
+                    k.3,
+                  );
               by_value = by;
               taken = λ e n h t. taken_is ms (Failed id) well e.value n (facts.entries.taken e n (taken_of_others entered out' from' e n h t) t);
               told = λ e d h k. told_of_others entered out' from' e d h k;
@@ -246,8 +253,11 @@ module _ (f : Facts) (ms : List Mark) (facts : AreFacts f ms) (id : ℕ) (well :
 
             from_next : (e : Enqueued) → Contains entered e → (Contains f.entered e × (e.value ≢ v)) ⊎ ((e.value ≡ v) × (e.taken ≡ None) × (¬ HasReturned ms e.id))
             from_next e h = ⊎_elim
-                (λ q. inr (ap (λ (x : Enqueued). x.value) q ∙ next_is, ap (λ (x : Enqueued). x.taken) q ∙ (facts.entries.is_late next is_late).2,
-                λ r. not_before_itself ms facts.well e.id (subst (λ (x : Enqueued). Precedes ms e.id x.id) (sym q) ((facts.entries.is_late next is_late).1 e.id r))))
+                (λ q. inr (
+                  ap (λ (x : Enqueued). x.value) q ∙ next_is,
+                  ap (λ (x : Enqueued). x.taken) q ∙ (facts.entries.is_late next is_late).2,
+                  λ r. not_before_itself ms facts.well e.id (subst (λ (x : Enqueued). Precedes ms e.id x.id) (sym q) ((facts.entries.is_late next is_late).1 e.id r)),
+                ))
                 inl
                 ((has e).0 h)
 
@@ -262,12 +272,15 @@ module _ (f : Facts) (ms : List Mark) (facts : AreFacts f ms) (id : ℕ) (well :
                   ((has e).0 h);
               is_late = λ e h.
                   let j = from_filter (is_other_enqueue next.id) f.late e h in
-                  let k = facts.entries.is_late e j.0 in
-                  (entry_is ms (Failed id) well e k.0 (other_failed id e.id (λ q. late_next e j.0 (sym q))), late_is ms (Failed id) well e.id (no_ok_is_fail id) k.1, k.2,
-                  ⊎_elim
-                  (λ (q : k.3.0.value ≡ v). (next, (has next).1 (inl refl), next_is ∙ sym q ∙ k.3.2, λ r. not_same e.id next.id j.1 (sym r)))
-                  (λ (n : k.3.0.value ≢ v). (k.3.0, out_next k.3.0 k.3.1 n, k.3.2, k.3.3))
-                  (same_int_or_not k.3.0.value v));
+                  let k = facts.entries.is_late e j.0 in (
+                    entry_is ms (Failed id) well e k.0 (other_failed id e.id (λ q. late_next e j.0 (sym q))),
+                    late_is ms (Failed id) well e.id (no_ok_is_fail id) k.1,
+                    k.2,
+                    ⊎_elim
+                        (λ (q : k.3.0.value ≡ v). (next, (has next).1 (inl refl), next_is ∙ sym q ∙ k.3.2, λ r. not_same e.id next.id j.1 (sym r)))
+                        (λ (n : k.3.0.value ≢ v). (k.3.0, out_next k.3.0 k.3.1 n, k.3.2, k.3.3))
+                        (same_int_or_not k.3.0.value v),
+                  );
               all = λ i w a.
                   let k = facts.entries.all i w (may_enqueue_was ms (Failed id) well i w (invoked_by i a.0.0 a.0.1) a) in
                   ⊎_elim

@@ -44,12 +44,16 @@ no_twins f ms facts no_late twins =
 
 pub has_twins : (f : Facts) (ms : List Mark) → AreFacts f ms → (e : Enqueued) → Contains f.late e → HasTwins ms
 has_twins f ms facts e h =
-    let k = facts.entries.is_late e h in
-    (k.3.0.id, e.id, e.value, record {
-      two = k.3.3;
-      first = subst (MayEnqueue ms k.3.0.id) k.3.2 (is_entry f ms facts k.3.0 k.3.1);
-      second = entry_enqueues f ms facts e k.0;
-    })
+    let k = facts.entries.is_late e h in (
+      k.3.0.id,
+      e.id,
+      e.value,
+      record {
+        two = k.3.3;
+        first = subst (MayEnqueue ms k.3.0.id) k.3.2 (is_entry f ms facts k.3.0 k.3.1);
+        second = entry_enqueues f ms facts e k.0;
+      },
+    )
 
 -- after a mark that may follow, what is not paired is dead
 pub dead_after_ok : (f : Facts) (ms : List Mark) → AreFacts f ms → f.late ≡ [] → (id : ℕ) (answer : Answer) → AreWellFormed (ms ++ Returned id answer ∷ []) → ¬ IsPaired (ms ++ Returned id answer ∷ []) → IsDead (ms ++ Returned id answer ∷ [])

@@ -78,9 +78,9 @@ module _ (f : Facts) (ms : List Mark) (facts : AreFacts f ms) where
       let a = facts.paired.added d v h in
       let k = facts.entries.all a.0 v a.1 in
       let first : (e : Enqueued) × Contains f.entered e × (e.value ≡ v) = ⊎_elim
-          (λ i. (k.0, i, k.3))
-          (λ i. (let o = (facts.entries.is_late k.0 i).3 in (o.0, o.1, o.2 ∙ k.3)))
-          k.1 in
+      (λ i. (k.0, i, k.3))
+      (λ i. (let o = (facts.entries.is_late k.0 i).3 in (o.0, o.1, o.2 ∙ k.3)))
+      k.1 in
       let told = facts.entries.told first.0 d first.1 (subst (HasDequeued ms d) (sym first.2) h) in
       let taken = facts.entries.taken first.0 told.0 first.1 told.1 in
       let same : taken.0 ≡ d = facts.paired.once taken.0 d v (subst (HasDequeued ms taken.0) first.2 taken.1) h in
@@ -104,34 +104,40 @@ module _ (f : Facts) (ms : List Mark) (facts : AreFacts f ms) where
       let r = Precedes-returned ms before.0 e.id p in
       let k = done_entry before.0 u before.1 r in
       let s = stands_of ms (Returned before.0 r.0) r.1 in
-      let at : StandsAt ms s.0 (Returned k.0.id r.0) = subst (λ i. StandsAt ms s.0 (Returned i r.0)) (sym k.2) s.1 in
-      (s.0, record {
-        entry = k.0;
-        here = k.1;
-        value = k.3;
-        stays = untold_stays k.0 k.1 (subst (IsUntold ms) (sym k.3) untold);
-        answer = r.0;
-        stands = at;
-      }, ⊎_elim
-      (λ (lt : s.0 < e.since). lt)
-      (λ (le : e.since ≤ s.0). absurd (not_precedes ms facts.well before.0 e.id s.0 e.since r.0 is.op s.1 is.stands le p))
-      (cases_lt s.0 e.since))
+      let at : StandsAt ms s.0 (Returned k.0.id r.0) = subst (λ i. StandsAt ms s.0 (Returned i r.0)) (sym k.2) s.1 in (
+        s.0,
+        record {
+          entry = k.0;
+          here = k.1;
+          value = k.3;
+          stays = untold_stays k.0 k.1 (subst (IsUntold ms) (sym k.3) untold);
+          answer = r.0;
+          stands = at;
+        },
+        ⊎_elim
+            (λ (lt : s.0 < e.since). lt)
+            (λ (le : e.since ≤ s.0). absurd (not_precedes ms facts.well before.0 e.id s.0 e.since r.0 is.op s.1 is.stands le p))
+            (cases_lt s.0 e.since),
+      )
 
   -- the enqueue of a value that waits precedes each of another that was invoked after it
   pub waits_before : (u : ℤ) (n : ℕ) → Waits f.entered ms u n → (e : Enqueued) → Contains f.entered e → n < e.since → IsBefore ms u e.value
   waits_before u n w e h lt =
       let own = facts.entries.is w.entry w.here in
       let is = facts.entries.is e h in
-      let done : Contains ms (Returned w.entry.id w.answer) = stands_contains ms n (Returned w.entry.id w.answer) w.stands in
-      (w.entry.id, subst (IsEnqueueOf ms w.entry.id) w.value (is_entry w.entry w.here).0, λ b may.
-      let k = facts.entries.all b e.value may in
-      ⊎_elim
-      (λ i.
-      let one : k.0 ≡ e = one_entry f.entered facts.entries.by_value k.0 e i h k.3 in
-      let p : Precedes ms w.entry.id e.id = precedes_by ms w.entry.id e.id n e.since w.answer is.op w.stands is.stands lt in
-      subst (Precedes ms w.entry.id) (ap (λ (x : Enqueued). x.id) (sym one) ∙ k.2) p)
-      (λ i. subst (Precedes ms w.entry.id) k.2 ((facts.entries.is_late k.0 i).1 w.entry.id (w.answer, done)))
-      k.1)
+      let done : Contains ms (Returned w.entry.id w.answer) = stands_contains ms n (Returned w.entry.id w.answer) w.stands in (
+        w.entry.id,
+        subst (IsEnqueueOf ms w.entry.id) w.value (is_entry w.entry w.here).0,
+        λ b may.
+            let k = facts.entries.all b e.value may in
+            ⊎_elim
+            (λ i.
+            let one : k.0 ≡ e = one_entry f.entered facts.entries.by_value k.0 e i h k.3 in
+            let p : Precedes ms w.entry.id e.id = precedes_by ms w.entry.id e.id n e.since w.answer is.op w.stands is.stands lt in
+            subst (Precedes ms w.entry.id) (ap (λ (x : Enqueued). x.id) (sym one) ∙ k.2) p)
+            (λ i. subst (Precedes ms w.entry.id) k.2 ((facts.entries.is_late k.0 i).1 w.entry.id (w.answer, done)))
+            k.1,
+      )
 
   pub waits_untold : (u : ℤ) (n : ℕ) → Waits f.entered ms u n → IsUntold ms u
   waits_untold u n w = subst (IsUntold ms) w.value (stays_untold w.entry w.here w.stays)
@@ -152,13 +158,16 @@ module _ (f : Facts) (ms : List Mark) (facts : AreFacts f ms) where
   owed_is p h =
       let w = facts.owed.is p h in
       let passed = facts.owed.passed p h in
-      let t = facts.entries.taken passed.entry p.deadline passed.here passed.taken in
-      (t.0, record {
-        untold = waits_untold p.value p.by w;
-        v = passed.entry.value;
-        before = waits_before p.value p.by w passed.entry passed.here passed.after;
-        dequeued = t.1;
-      }, t.2)
+      let t = facts.entries.taken passed.entry p.deadline passed.here passed.taken in (
+        t.0,
+        record {
+          untold = waits_untold p.value p.by w;
+          v = passed.entry.value;
+          before = waits_before p.value p.by w passed.entry passed.here passed.after;
+          dequeued = t.1;
+        },
+        t.2,
+      )
 
   pub twins_late : TwinsAreLate ms
   twins_late a b v twins =

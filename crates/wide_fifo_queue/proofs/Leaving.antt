@@ -81,11 +81,15 @@ module _ (f : Facts) (ms : List Mark) (facts : AreFacts f ms) (p : Pending) (h :
       let does : Taking ms IsOwed MayStill t.0 = t.1 in
       record {
         added = λ d v i a. absurd (no_enqueue_of_call f ms facts p h dequeues v a);
-        taken = (t.0, record {
-          may = λ u d o. (does.may_take u (d, o)).0;
-          in_time = λ u d o. does.in_time u d (d, o) o;
-          apart = λ u w d e o q same. does.apart u w (d, o) (e, q) same;
-        }, λ u d o. (does.may_take u (d, o)).1);
+        taken = (
+          t.0,
+          record {
+            may = λ u d o. (does.may_take u (d, o)).0;
+            in_time = λ u d o. does.in_time u d (d, o) o;
+            apart = λ u w d e o q same. does.apart u w (d, o) (e, q) same;
+          },
+          λ u d o. (does.may_take u (d, o)).1,
+        );
       }
 
   pub served : MayFail ms p.id → IsServed others f.owed

@@ -17,3 +17,4 @@ pub mod Judging
 pub mod Places
 pub mod Splitting
 pub mod After
+pub mod Parts

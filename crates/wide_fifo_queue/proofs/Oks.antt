@@ -266,12 +266,13 @@ module _ (f : Facts) (ms : List Mark) (facts : AreFacts f ms) (no_late : f.late 
     waited u n w = ⊎_elim
         (λ q. (let s : None ≡ Some f.now = sym w.stays ∙ ap (λ (y : Enqueued). y.taken) q ∙ taken in cc))
         (λ k.
-        let now : Waits f.entered told u n = record { entry = w.entry; here = k.0; value = w.value; stays = w.stays; answer = w.answer; stands = w.stands } in
-        (⊎_elim
-        (λ x. x)
-        (λ q. absurd (no_enqueue_of_call f ms facts p h dequeues w.entry.value (subst (λ i. IsEnqueueOf ms i w.entry.value) (let r : p.id ≡ w.entry.id = cc in sym r) (is_entry f ms facts w.entry k.0).0)))
-        (waits_was ms last well f.entered u n now),
-        λ q. k.1 (w.value ∙ q)))
+        let now : Waits f.entered told u n = record { entry = w.entry; here = k.0; value = w.value; stays = w.stays; answer = w.answer; stands = w.stands } in (
+          ⊎_elim
+              (λ x. x)
+              (λ q. absurd (no_enqueue_of_call f ms facts p h dequeues w.entry.value (subst (λ i. IsEnqueueOf ms i w.entry.value) (let r : p.id ≡ w.entry.id = cc in sym r) (is_entry f ms facts w.entry k.0).0)))
+              (waits_was ms last well f.entered u n now),
+          λ q. k.1 (w.value ∙ q),
+        ))
         (was w.entry w.here)
 
     passed : (n t : ℕ) → IsPassed f.entered n t → IsPassed entered n t

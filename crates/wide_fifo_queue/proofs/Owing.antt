@@ -35,20 +35,22 @@ module _ (ms : List Mark) (well : AreWellFormed ms) (P : ℤ → Type 0) (may : 
   pub served_taking : IsServed takers owed → (taker : ℤ → ℕ) × Taking ms P may taker
   served_taking served =
       let take = served_take ms well may takers are owed due.in_order served in
-      let does : Take ms may owed take.0 = take.1 in
-      (take.0, record {
-        may_take = λ u p. (let k = due.has u p in subst (λ x. may (take.0 x)) k.2 (does.may_take k.0 k.1));
-        in_time = λ u d p i.
-            let k = due.has_by u d p i in
-            let m = are.all (take.0 k.0.value) (does.may_take k.0 k.2) in
-            let le : m.0 ≤ k.0.deadline = does.in_time k.0 m.0 m.1 k.2 m.3 in
-            let more : k.0.deadline ≤ k.1 = k.5 in
-            not_precedes ms well d (take.0 u) k.1 m.0 (Number i.v) m.1 k.4 (subst (λ x. StandsAt ms m.0 (Invoked (take.0 x) m.1)) k.3 m.3) (omega arith);
-        apart = λ u w p q same.
-            let k = due.has u p in
-            let j = due.has w q in
-            sym k.2 ∙ does.apart k.0 j.0 k.1 j.1 (ap take.0 k.2 ∙ same ∙ ap take.0 (sym j.2)) ∙ j.2;
-      })
+      let does : Take ms may owed take.0 = take.1 in (
+        take.0,
+        record {
+          may_take = λ u p. (let k = due.has u p in subst (λ x. may (take.0 x)) k.2 (does.may_take k.0 k.1));
+          in_time = λ u d p i.
+              let k = due.has_by u d p i in
+              let m = are.all (take.0 k.0.value) (does.may_take k.0 k.2) in
+              let le : m.0 ≤ k.0.deadline = does.in_time k.0 m.0 m.1 k.2 m.3 in
+              let more : k.0.deadline ≤ k.1 = k.5 in
+              not_precedes ms well d (take.0 u) k.1 m.0 (Number i.v) m.1 k.4 (subst (λ x. StandsAt ms m.0 (Invoked (take.0 x) m.1)) k.3 m.3) (omega arith);
+          apart = λ u w p q same.
+              let k = due.has u p in
+              let j = due.has w q in
+              sym k.2 ∙ does.apart k.0 j.0 k.1 j.1 (ap take.0 k.2 ∙ same ∙ ap take.0 (sym j.2)) ∙ j.2;
+        },
+      )
 
   pub taking_served : (taker : ℤ → ℕ) → Taking ms P may taker → IsServed takers owed
   taking_served taker taking = take_served ms well may takers are owed due.in_order taker (record {

@@ -171,14 +171,14 @@ module _ (xs : List Enqueued) (v : ℤ) (at : ℕ) (le : at ≤ length xs)
       pub has_with : (e : Enqueued) → Contains (take at xs ++ entry ∷ drop to xs) e ↔ ((e ≡ entry) ⊎ (Contains xs e × (e.value ≢ v)))
       has_with e = (
         (λ h. ⊎_elim
-        (λ i. inr (in_take xs at e i, not_below e i))
-        (λ i. ⊎_elim (λ r. inl (sym r)) (λ j. inr (in_behind e j, not_behind e j)) (Contains-cons_cases entry (drop to xs) e i))
-        (Contains-append_cases (take at xs) (entry ∷ drop to xs) e h)),
+            (λ i. inr (in_take xs at e i, not_below e i))
+            (λ i. ⊎_elim (λ r. inl (sym r)) (λ j. inr (in_behind e j, not_behind e j)) (Contains-cons_cases entry (drop to xs) e i))
+            (Contains-append_cases (take at xs) (entry ∷ drop to xs) e h)),
         (λ h. ⊎_elim
-        (λ r. Contains-append_right (take at xs) (entry ∷ drop to xs) e (subst (Contains (entry ∷ drop to xs)) (sym r) (Contains-head entry (drop to xs))))
-        (λ k. ⊎_elim
-        (λ i. Contains-append_left (take at xs) (entry ∷ drop to xs) e i)
-        (λ i. Contains-append_right (take at xs) (entry ∷ drop to xs) e (Contains-tail entry (drop to xs) e i))
-        (in_parts e k.0 k.1))
-        h),
+            (λ r. Contains-append_right (take at xs) (entry ∷ drop to xs) e (subst (Contains (entry ∷ drop to xs)) (sym r) (Contains-head entry (drop to xs))))
+            (λ k. ⊎_elim
+            (λ i. Contains-append_left (take at xs) (entry ∷ drop to xs) e i)
+            (λ i. Contains-append_right (take at xs) (entry ∷ drop to xs) e (Contains-tail entry (drop to xs) e i))
+            (in_parts e k.0 k.1))
+            h),
       )

@@ -168,7 +168,7 @@ module _ (takers : List ℕ) (owed : List Owed) (at t : ℕ) (o : Owed) (in_take
   served_next le = (
     (λ s. (first_and_rest s).1),
     (λ s. (let both : IsServed (t ∷ drop (at + 1) takers) (o ∷ drop (at + 1) owed) = (le, s) in
-      subst (IsServed (drop at takers)) (sym same_owed) (subst (λ l. IsServed l (o ∷ drop (at + 1) owed)) (sym same_takers) both))),
+        subst (IsServed (drop at takers)) (sym same_owed) (subst (λ l. IsServed l (o ∷ drop (at + 1) owed)) (sym same_takers) both))),
   )
 
   pub not_served_here : o.deadline < t → ¬ IsServed (drop at takers) (drop at owed)

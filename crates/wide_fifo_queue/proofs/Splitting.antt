@@ -41,17 +41,21 @@ module _ (f : Facts) (ms : List Mark) (facts : AreFacts f ms) (v : ℤ) where
       record {
         are = λ w h. ⊎_elim
             (λ i.
-            let k = in_take f.waiting at w i in
-            (k, λ q.
-            let sooner : w.by < x.0.by = Pairwise-across IsSooner (take at f.waiting) (drop at f.waiting) whole w x.0 i (it_is_first at lt x.0 x.1) in
-            let same : w.by ≡ x.0.by = waits_in_one_place w x.0 k here (q ∙ sym value) in
-            absurd (omega arith)))
+            let k = in_take f.waiting at w i in (
+              k,
+              λ q.
+                  let sooner : w.by < x.0.by = Pairwise-across IsSooner (take at f.waiting) (drop at f.waiting) whole w x.0 i (it_is_first at lt x.0 x.1) in
+                  let same : w.by ≡ x.0.by = waits_in_one_place w x.0 k here (q ∙ sym value) in
+                  absurd (omega arith),
+            ))
             (λ i.
-            let k = in_drop f.waiting (at + 1) w i in
-            (k, λ q.
-            let sooner : x.0.by < w.by = right.0 w i in
-            let same : w.by ≡ x.0.by = waits_in_one_place w x.0 k here (q ∙ sym value) in
-            absurd (omega arith)))
+            let k = in_drop f.waiting (at + 1) w i in (
+              k,
+              λ q.
+                  let sooner : x.0.by < w.by = right.0 w i in
+                  let same : w.by ≡ x.0.by = waits_in_one_place w x.0 k here (q ∙ sym value) in
+                  absurd (omega arith),
+            ))
             (Contains-append_cases (take at f.waiting) (drop (at + 1) f.waiting) w h);
         all = λ w h ne. ⊎_elim
             (λ i. Contains-append_left (take at f.waiting) (drop (at + 1) f.waiting) w i)

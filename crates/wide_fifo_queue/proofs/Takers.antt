@@ -20,22 +20,26 @@ pub chosen : (ts : List ℕ) (Q : ℕ → ℕ → Type 0) → ((t : ℕ) → Con
 chosen [] Q has = ((λ t. t), λ t h. absurd (Contains-nil t h))
 chosen (s ∷ ts) Q has =
     let rest = chosen ts Q (λ t h. has t (Contains-tail s ts t h)) in
-    let first = has s (Contains-head s ts) in
-    ((λ t. cond (nat_eq t s) first.0 (rest.0 t)), λ t h. ⊎_elim
-    (λ (e : nat_eq t s ≡ true). subst (Q t) (sym (ap (λ b. cond b first.0 (rest.0 t)) e)) (subst (λ x. Q x first.0) (sym (eqb-true t s e)) first.1))
-    (λ (e : nat_eq t s ≡ false). subst (Q t) (sym (ap (λ b. cond b first.0 (rest.0 t)) e)) (rest.1 t (⊎_elim (λ (same : s ≡ t). absurd (true≢false (sym (eq-eqb t s (sym same)) ∙ e))) (λ k. k) (Contains-cons_cases s ts t h))))
-    (cases_Bool (nat_eq t s)))
+    let first = has s (Contains-head s ts) in (
+      (λ t. cond (nat_eq t s) first.0 (rest.0 t)),
+      λ t h. ⊎_elim
+          (λ (e : nat_eq t s ≡ true). subst (Q t) (sym (ap (λ b. cond b first.0 (rest.0 t)) e)) (subst (λ x. Q x first.0) (sym (eqb-true t s e)) first.1))
+          (λ (e : nat_eq t s ≡ false). subst (Q t) (sym (ap (λ b. cond b first.0 (rest.0 t)) e)) (rest.1 t (⊎_elim (λ (same : s ≡ t). absurd (true≢false (sym (eq-eqb t s (sym same)) ∙ e))) (λ k. k) (Contains-cons_cases s ts t h))))
+          (cases_Bool (nat_eq t s)),
+    )
 
 -- the same for each owed value
 pub chosen_for : (os : List Owed) (Q : ℤ → ℕ → Type 0) → ((o : Owed) → Contains os o → (n : ℕ) × Q o.value n) → (pick : ℤ → ℕ) × ((o : Owed) → Contains os o → Q o.value (pick o.value))
 chosen_for [] Q has = ((λ u. 0), λ o h. absurd (Contains-nil o h))
 chosen_for (p ∷ os) Q has =
     let rest = chosen_for os Q (λ o h. has o (Contains-tail p os o h)) in
-    let first = has p (Contains-head p os) in
-    ((λ u. cond (int_eq u p.value) first.0 (rest.0 u)), λ o h. ⊎_elim
-    (λ (e : int_eq o.value p.value ≡ true). subst (Q o.value) (sym (ap (λ b. cond b first.0 (rest.0 o.value)) e)) (subst (λ x. Q x first.0) (sym ((Decides-int_eq o.value p.value).0 e)) first.1))
-    (λ (e : int_eq o.value p.value ≡ false). subst (Q o.value) (sym (ap (λ b. cond b first.0 (rest.0 o.value)) e)) (rest.1 o (⊎_elim (λ (same : p ≡ o). absurd (true≢false (sym ((Decides-int_eq o.value p.value).1 (ap (λ (x : Owed). x.value) (sym same))) ∙ e))) (λ k. k) (Contains-cons_cases p os o h))))
-    (cases_Bool (int_eq o.value p.value)))
+    let first = has p (Contains-head p os) in (
+      (λ u. cond (int_eq u p.value) first.0 (rest.0 u)),
+      λ o h. ⊎_elim
+          (λ (e : int_eq o.value p.value ≡ true). subst (Q o.value) (sym (ap (λ b. cond b first.0 (rest.0 o.value)) e)) (subst (λ x. Q x first.0) (sym ((Decides-int_eq o.value p.value).0 e)) first.1))
+          (λ (e : int_eq o.value p.value ≡ false). subst (Q o.value) (sym (ap (λ b. cond b first.0 (rest.0 o.value)) e)) (rest.1 o (⊎_elim (λ (same : p ≡ o). absurd (true≢false (sym ((Decides-int_eq o.value p.value).1 (ap (λ (x : Owed). x.value) (sym same))) ∙ e))) (λ k. k) (Contains-cons_cases p os o h))))
+          (cases_Bool (int_eq o.value p.value)),
+    )
 
 -- the operation may take a value, and was invoked at the moment
 abbrev pub StandsFor : List Mark → (ℕ → Type 0) → ℕ → ℕ → Type 0
@@ -59,19 +63,21 @@ module _ (ms : List Mark) (well : AreWellFormed ms) (may : ℕ → Type 0) (take
       let give = served_gives takers owed are.in_order turn served in
       let pick = chosen takers (StandsFor ms may) are.is in
       let serves : Serves takers owed give.0 = give.1 in
-      let is : (o : Owed) → Contains owed o → StandsFor ms may (give.0 o.value) (pick.0 (give.0 o.value)) = λ o h. pick.1 (give.0 o.value) (serves.among o h) in
-      ((λ u. pick.0 (give.0 u)), record {
-        may_take = λ o h. (is o h).1;
-        in_time = λ o n op h s.
-            let k = is o h in
-            let e : n ≡ give.0 o.value = invoked_at_once ms well (pick.0 (give.0 o.value)) n (give.0 o.value) op k.0 s k.2 in
-            subst (λ x. x ≤ o.deadline) (sym e) (serves.in_time o h);
-        apart = λ o p h k same.
-            let i = is o h in
-            let j = is p k in
-            let moved : StandsAt ms (give.0 p.value) (Invoked (pick.0 (give.0 o.value)) j.0) = subst (λ x. StandsAt ms (give.0 p.value) (Invoked x j.0)) (sym same) j.2 in
-            serves.apart o p h k (invoked_at_once ms well (pick.0 (give.0 o.value)) (give.0 o.value) (give.0 p.value) i.0 j.0 i.2 moved);
-      })
+      let is : (o : Owed) → Contains owed o → StandsFor ms may (give.0 o.value) (pick.0 (give.0 o.value)) = λ o h. pick.1 (give.0 o.value) (serves.among o h) in (
+        (λ u. pick.0 (give.0 u)),
+        record {
+          may_take = λ o h. (is o h).1;
+          in_time = λ o n op h s.
+              let k = is o h in
+              let e : n ≡ give.0 o.value = invoked_at_once ms well (pick.0 (give.0 o.value)) n (give.0 o.value) op k.0 s k.2 in
+              subst (λ x. x ≤ o.deadline) (sym e) (serves.in_time o h);
+          apart = λ o p h k same.
+              let i = is o h in
+              let j = is p k in
+              let moved : StandsAt ms (give.0 p.value) (Invoked (pick.0 (give.0 o.value)) j.0) = subst (λ x. StandsAt ms (give.0 p.value) (Invoked x j.0)) (sym same) j.2 in
+              serves.apart o p h k (invoked_at_once ms well (pick.0 (give.0 o.value)) (give.0 o.value) (give.0 p.value) i.0 j.0 i.2 moved);
+        },
+      )
 
   pub take_served : (taker : ℤ → ℕ) → Take ms may owed taker → IsServed takers owed
   take_served taker take =

@@ -1,6 +1,5 @@
 //! Queues that are judged live.
 ghost use Rattle.std.specs.Prelude.{◌≡◌, ◌↔◌, IfOk, IsTrue};
-ghost use Rattle.events.specs.Events.{act_by, mark_by_act};
 ghost use Rattle.judging.specs.Meaning.{Commits, IsCopy, IsStart, Observes, Prepares, mark_by};
 ghost use Rattle.wide_fifo_queue.specs.Counted.{counts_more, the_object};
 ghost use Rattle.wide_fifo_queue.specs.Judges.{is_an_ok, kills, step_by, step_of_dead};
@@ -85,9 +84,10 @@ impl WideFifoQueue {
     pub fn copy(&self) -> Result<WideFifoQueue, AllocError>
         ensures { IfOk result (λ queue. IsCopy (view_of self.now) (view_of queue)) }
     {
+        let known = copied(&self.known)?;
         Ok(WideFifoQueue {
             budget: self.budget,
-            known: copied(&self.known)?,
+            known,
             next: None,
         })
     }
@@ -104,7 +104,8 @@ impl WideFifoQueue {
         let Some(known) = &self.known else {
             return Ok(dead_step(kind));
         };
-        if is_ok(kind) && known.has_twins() {
+        let ends = is_ok(kind);
+        if ends && known.has_twins() {
             return Ok(Step::Over);
         }
         let next = known.after_event(id, kind, op)?;

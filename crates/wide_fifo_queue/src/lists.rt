@@ -37,11 +37,7 @@ pub fn with_call(
 }
 
 /// The open operations but this. O(open operations).
-pub fn without_call(
-    alloc: Global,
-    pending: &[Pending],
-    id: u32,
-) -> Result<Vec<Pending>, AllocError>
+pub fn without_call(alloc: Global, pending: &[Pending], id: u32) -> Result<Vec<Pending>, AllocError>
     ensures { IfOk result (λ calls. calls.items ≡ filter (is_other id) pending.now) }
 {
     let mut calls = Vec::from_slice(alloc, pending)?;
@@ -50,11 +46,7 @@ pub fn without_call(
 }
 
 /// The moments but this. O(moments).
-pub fn without_moment(
-    alloc: Global,
-    moments: &[u64],
-    moment: u64,
-) -> Result<Vec<u64>, AllocError>
+pub fn without_moment(alloc: Global, moments: &[u64], moment: u64) -> Result<Vec<u64>, AllocError>
     ensures { IfOk result (λ others. others.items ≡ filter (is_other_moment moment) moments.now) }
 {
     let mut others = Vec::from_slice(alloc, moments)?;
@@ -117,6 +109,17 @@ pub fn first_of(late: &[Enqueued], value: i64) -> Option<Enqueued>
         }
     }
     None
+}
+
+/// One of these enqueues, if there is any. O(1).
+pub fn some_of(late: &[Enqueued]) -> Option<Enqueued>
+    ensures found { IfSome result (λ e. Contains late.now e) }
+    ensures none { result ≡ None → late.now ≡ [] }
+{
+    if late.len() == 0 {
+        return None;
+    }
+    Some(late[0])
 }
 
 /// Whether each owed value can have a dequeue of its own that was invoked by its deadline: the first the first one, and so on. Both are

@@ -1,11 +1,11 @@
 //! What is known after an event.
-ghost use Rattle.std.specs.Prelude.{◌≡◌, ◌≢◌, [], None, true, false, IfOk, IsTrue};
+ghost use Rattle.std.specs.Prelude.{◌≡◌, ◌≢◌, ℕ, [], Some, None, true, false, IfOk, IsTrue};
 ghost use Rattle.std.specs.List.{Contains};
 ghost use Rattle.models.specs.Objects.{answer_of};
 ghost use Rattle.models.specs.declared.finding.Answer.{Answer};
 ghost use Rattle.models.specs.declared.finding.Answer.TheVariants.{Number};
 ghost use Rattle.models.specs.declared.operation.Op.{Op};
-ghost use Rattle.events.specs.Events.{act_by, mark_by_act};
+ghost use Rattle.judging.specs.Meaning.{mark_by};
 ghost use Rattle.events.specs.Events.Mark.{Invoked, Returned, Failed, Crashed};
 ghost use Rattle.wide_fifo_queue.specs.declared.known.Call.TheVariants as calls;
 ghost use Rattle.wide_fifo_queue.specs.Facts.{call_by, facts_of};
@@ -17,7 +17,7 @@ ghost use Rattle.wide_fifo_queue.specs.Queries.{IsDueOf, IsInTime, IsWaitingBut}
 use crate::entries::{entry_of, with_entry, without_entry};
 use crate::known::{Call, Enqueued, Known, Owed, Pending, Waiting, call_of};
 use crate::lists::{
-    first_of, is_in_time, is_served, owed_of, pending_of, with_call, without_call, without_enqueue,
+    first_of, is_in_time, is_served, owed_of, pending_of, some_of, with_call, without_call, without_enqueue,
     without_moment, without_owed,
 };
 use crate::waiting::{passed, put_owed, with_waiting, without_passed, without_waiting};
@@ -26,13 +26,27 @@ use models::{Op, Part};
 use persistent::Row;
 use std::alloc::AllocError;
 
+// Whether the value was dequeued.
+fn is_taken(entry: &Enqueued) -> bool
+    ensures taken { result ≡ true → (n : ℕ) × (entry.now.taken ≡ Some n) }
+    ensures stays { result ≡ false → entry.now.taken ≡ None }
+{
+    match entry.taken {
+        Some(_) => true,
+        None => false,
+    }
+}
+
 impl Known {
     /// Whether two enqueues that have not failed have one value. O(1).
     pub fn has_twins(&self) -> bool
         ensures none { result ≡ false → self.now.late.items ≡ [] }
         ensures some { result ≡ true → (e : Enqueued) × Contains self.now.late.items e }
     {
-        !self.late.is_empty()
+        match some_of(&self.late) {
+            Some(_) => true,
+            None => false,
+        }
     }
 
     // After the invocation of an enqueue.
@@ -48,12 +62,14 @@ impl Known {
             since: call.since,
             taken: None,
         };
-        let mut known = self.later(with_call(self.alloc, &self.pending, call)?)?;
-        if entry_of(&self.entered, value).is_some() {
-            known.late.push(entry)?;
+        let pending = with_call(self.alloc, &self.pending, call)?;
+        let mut known = self.later(pending)?;
+        let Some(first) = entry_of(&self.entered, value) else {
+            let entered = with_entry(self.alloc, &self.entered, entry)?;
+            known.entered = entered;
             return Ok(known);
-        }
-        known.entered = with_entry(self.alloc, &self.entered, entry)?;
+        };
+        known.late.push(entry)?;
         Ok(known)
     }
 
@@ -64,7 +80,8 @@ impl Known {
         ensures { (op : Op) → call_by op.name op.part ≡ call.call
             → IfOk result (LivesAfter (facts_of self.now) (Invoked call.id op)) }
     {
-        let mut known = self.later(with_call(self.alloc, &self.pending, call)?)?;
+        let pending = with_call(self.alloc, &self.pending, call)?;
+        let mut known = self.later(pending)?;
         known.takers.push(call.since)?;
         Ok(known)
     }
@@ -79,9 +96,19 @@ impl Known {
             since: self.moment,
         };
         match call.call {
-            Call::Enqueue(value) => self.after_enqueue(call, value),
-            Call::Dequeue => self.after_dequeue(call),
-            Call::Other => self.later(with_call(self.alloc, &self.pending, call)?),
+            Call::Enqueue(value) => {
+                let known = self.after_enqueue(call, value)?;
+                Ok(known)
+            }
+            Call::Dequeue => {
+                let known = self.after_dequeue(call)?;
+                Ok(known)
+            }
+            Call::Other => {
+                let pending = with_call(self.alloc, &self.pending, call)?;
+                let known = self.later(pending)?;
+                Ok(known)
+            }
         }
     }
 
@@ -92,16 +119,17 @@ impl Known {
         requires late { self.now.late.items ≡ [] }
         ensures { (answer : Answer) → IfOk result (LivesAfter (facts_of self.now) (Returned call.now.id answer)) }
     {
-        let mut known = self.later(without_call(self.alloc, &self.pending, call.id)?)?;
-        let is_out = match entry_of(&self.entered, value) {
-            Some(entry) => entry.taken.is_some(),
-            None => true,
+        let pending = without_call(self.alloc, &self.pending, call.id)?;
+        let mut known = self.later(pending)?;
+        let Some(entry) = entry_of(&self.entered, value) else {
+            return Ok(known);
         };
-        if is_out {
+        if is_taken(&entry) {
             return Ok(known);
         }
         let by = self.moment;
-        known.waiting = with_waiting(self.alloc, &self.waiting, Waiting { value, by })?;
+        let waiting = with_waiting(self.alloc, &self.waiting, Waiting { value, by })?;
+        known.waiting = waiting;
         Ok(known)
     }
 
@@ -109,10 +137,16 @@ impl Known {
     fn waiting_but(&self, value: i64, due: &Option<Owed>) -> Result<Row<Waiting>, AllocError>
         ensures { IfOk result (IsWaitingBut self.now.waiting value due.now) }
     {
-        if due.is_some() {
-            return self.waiting.copy();
+        match due {
+            Some(_) => {
+                let row = self.waiting.copy()?;
+                Ok(row)
+            }
+            None => {
+                let row = without_waiting(self.alloc, &self.waiting, value)?;
+                Ok(row)
+            }
         }
-        without_waiting(self.alloc, &self.waiting, value)
     }
 
     // After an ok of a dequeue with the value of this enqueue, which was not dequeued before.
@@ -143,9 +177,12 @@ impl Known {
             taken: Some(self.moment),
             ..entry
         };
-        let mut known = self.later(without_call(self.alloc, &self.pending, call.id)?)?;
-        known.entered = with_entry(self.alloc, &self.entered, taken)?;
-        known.waiting = without_passed(self.alloc, &waiting, many)?;
+        let pending = without_call(self.alloc, &self.pending, call.id)?;
+        let mut known = self.later(pending)?;
+        let entered = with_entry(self.alloc, &self.entered, taken)?;
+        let rest = without_passed(self.alloc, &waiting, many)?;
+        known.entered = entered;
+        known.waiting = rest;
         known.owed = owed;
         known.takers = takers;
         Ok(Some(known))
@@ -161,14 +198,15 @@ impl Known {
         let Some(entry) = entry_of(&self.entered, value) else {
             return Ok(None);
         };
-        if entry.taken.is_some() {
+        if is_taken(&entry) {
             return Ok(None);
         }
         let due = owed_of(&self.owed, value);
         if !is_in_time(call.since, &due) {
             return Ok(None);
         }
-        self.after_take(call, entry, &due)
+        let next = self.after_take(call, entry, &due)?;
+        Ok(next)
     }
 
     // After an ok.
@@ -179,10 +217,19 @@ impl Known {
         let Some(call) = pending_of(&self.pending, id) else {
             return Ok(None);
         };
-        match (call.call, part) {
-            (Call::Enqueue(value), _) => Ok(Some(self.after_put(&call, value)?)),
-            (Call::Dequeue, Part::Int(value)) => self.after_answer(&call, *value),
-            _ => Ok(None),
+        match call.call {
+            Call::Enqueue(value) => {
+                let known = self.after_put(&call, value)?;
+                Ok(Some(known))
+            }
+            Call::Dequeue => {
+                let Part::Int(value) = part else {
+                    return Ok(None);
+                };
+                let next = self.after_answer(&call, *value)?;
+                Ok(next)
+            }
+            Call::Other => Ok(None),
         }
     }
 
@@ -194,8 +241,10 @@ impl Known {
         requires other { first.now.id ≢ call.now.id }
         ensures { IfOk result (LivesAfter (facts_of self.now) (Failed call.now.id)) }
     {
-        let mut known = self.later(without_call(self.alloc, &self.pending, call.id)?)?;
-        known.late = without_enqueue(self.alloc, &self.late, call.id)?;
+        let pending = without_call(self.alloc, &self.pending, call.id)?;
+        let mut known = self.later(pending)?;
+        let late = without_enqueue(self.alloc, &self.late, call.id)?;
+        known.late = late;
         Ok(known)
     }
 
@@ -209,8 +258,10 @@ impl Known {
         requires none { (e : Enqueued) → Contains self.now.late.items e → e.value ≢ entry.now.value }
         ensures { IfOk result (LivesAfter (facts_of self.now) (Failed call.now.id)) }
     {
-        let mut known = self.later(without_call(self.alloc, &self.pending, call.id)?)?;
-        known.entered = without_entry(self.alloc, &self.entered, entry.value)?;
+        let pending = without_call(self.alloc, &self.pending, call.id)?;
+        let mut known = self.later(pending)?;
+        let entered = without_entry(self.alloc, &self.entered, entry.value)?;
+        known.entered = entered;
         Ok(known)
     }
 
@@ -230,9 +281,12 @@ impl Known {
         requires value { next.value ≡ entry.now.value }
         ensures { IfOk result (LivesAfter (facts_of self.now) (Failed call.now.id)) }
     {
-        let mut known = self.later(without_call(self.alloc, &self.pending, call.id)?)?;
-        known.late = without_enqueue(self.alloc, &self.late, next.id)?;
-        known.entered = with_entry(self.alloc, &self.entered, next)?;
+        let pending = without_call(self.alloc, &self.pending, call.id)?;
+        let mut known = self.later(pending)?;
+        let late = without_enqueue(self.alloc, &self.late, next.id)?;
+        known.late = late;
+        let entered = with_entry(self.alloc, &self.entered, next)?;
+        known.entered = entered;
         Ok(known)
     }
 
@@ -246,15 +300,18 @@ impl Known {
             return Ok(None);
         };
         if entry.id != call.id {
-            return Ok(Some(self.after_late_fail(call, &entry)?));
+            let known = self.after_late_fail(call, &entry)?;
+            return Ok(Some(known));
         }
-        if entry.taken.is_some() {
+        if is_taken(&entry) {
             return Ok(None);
         }
-        match first_of(&self.late, value) {
-            Some(next) => Ok(Some(self.after_first_fail(call, &entry, next)?)),
-            None => Ok(Some(self.after_only_fail(call, &entry)?)),
-        }
+        let Some(next) = first_of(&self.late, value) else {
+            let known = self.after_only_fail(call, &entry)?;
+            return Ok(Some(known));
+        };
+        let known = self.after_first_fail(call, &entry, next)?;
+        Ok(Some(known))
     }
 
     // After the fail of a dequeue.
@@ -267,7 +324,8 @@ impl Known {
         if !is_served(&takers, &self.owed) {
             return Ok(None);
         }
-        let mut known = self.later(without_call(self.alloc, &self.pending, call.id)?)?;
+        let pending = without_call(self.alloc, &self.pending, call.id)?;
+        let mut known = self.later(pending)?;
         known.takers = takers;
         Ok(Some(known))
     }
@@ -280,11 +338,18 @@ impl Known {
             return Ok(None);
         };
         match call.call {
-            Call::Enqueue(value) => self.after_lost(&call, value),
-            Call::Dequeue => self.after_no_take(&call),
+            Call::Enqueue(value) => {
+                let next = self.after_lost(&call, value)?;
+                Ok(next)
+            }
+            Call::Dequeue => {
+                let next = self.after_no_take(&call)?;
+                Ok(next)
+            }
             Call::Other => {
                 let pending = without_call(self.alloc, &self.pending, id)?;
-                Ok(Some(self.later(pending)?))
+                let known = self.later(pending)?;
+                Ok(Some(known))
             }
         }
     }
@@ -293,7 +358,9 @@ impl Known {
     fn after_info(&self, id: u32) -> Result<Known, AllocError>
         ensures { IfOk result (LivesAfter (facts_of self.now) (Crashed id)) }
     {
-        self.later(without_call(self.alloc, &self.pending, id)?)
+        let pending = without_call(self.alloc, &self.pending, id)?;
+        let known = self.later(pending)?;
+        Ok(known)
     }
 
     /// What is known after an event of the operation with this id, if the history is still linearizable. The part of an ok is the answer.
@@ -305,13 +372,25 @@ impl Known {
         op: &Op,
     ) -> Result<Option<Known>, AllocError>
         requires { IsTrue (is_an_ok kind) → self.now.late.items ≡ [] }
-        ensures { IfOk result (IsAfter (facts_of self.now) (mark_by_act id id (act_by kind op.now))) }
+        ensures { IfOk result (IsAfter (facts_of self.now) (mark_by id kind op.now)) }
     {
         match kind {
-            EventKind::Invoke => Ok(Some(self.after_invoke(id, op)?)),
-            EventKind::Ok => self.after_ok(id, &op.part),
-            EventKind::Fail => self.after_fail(id),
-            EventKind::Info => Ok(Some(self.after_info(id)?)),
+            EventKind::Invoke => {
+                let known = self.after_invoke(id, op)?;
+                Ok(Some(known))
+            }
+            EventKind::Ok => {
+                let next = self.after_ok(id, &op.part)?;
+                Ok(next)
+            }
+            EventKind::Fail => {
+                let next = self.after_fail(id)?;
+                Ok(next)
+            }
+            EventKind::Info => {
+                let known = self.after_info(id)?;
+                Ok(Some(known))
+            }
         }
     }
 }
