@@ -1,5 +1,8 @@
 //! Queues that are judged live.
-ghost use Rattle.std.specs.Prelude.{◌≡◌, ◌↔◌, IfOk, IsTrue};
+ghost use Rattle.std.specs.Prelude.{◌≡◌, [], true, false, IfOk, IsTrue};
+ghost use Rattle.std.specs.List.{Contains};
+ghost use Rattle.wide_fifo_queue.specs.declared.known.Enqueued.{Enqueued};
+ghost use Rattle.wide_fifo_queue.specs.Facts.{facts_of};
 ghost use Rattle.judging.specs.Meaning.{Commits, IsCopy, IsStart, Observes, Prepares, mark_by};
 ghost use Rattle.wide_fifo_queue.specs.Counted.{counts_more, the_object};
 ghost use Rattle.wide_fifo_queue.specs.Judges.{is_an_ok, kills, step_by, step_of_dead};
@@ -47,7 +50,19 @@ fn is_ok(kind: EventKind) -> bool
     matches!(kind, EventKind::Ok)
 }
 
-// The answer of an event of this kind after which this is known.
+// Whether the event is an ok, and two enqueues that have not failed have one value.
+fn is_over(known: &Known, kind: EventKind) -> bool
+    ensures over { result ≡ true → IsTrue (is_an_ok kind)
+        × ((e : Enqueued) × Contains (facts_of known.now).late e) }
+    ensures within { result ≡ false → IsTrue (is_an_ok kind) → (facts_of known.now).late ≡ [] }
+{
+    if is_ok(kind) {
+        return known.has_twins();
+    }
+    false
+}
+
+// The answer of an event after which this is known.
 fn step_of(next: &Option<Known>) -> Step
     ensures { result ≡ step_by next.now }
 {
@@ -104,8 +119,7 @@ impl WideFifoQueue {
         let Some(known) = &self.known else {
             return Ok(dead_step(kind));
         };
-        let ends = is_ok(kind);
-        if ends && known.has_twins() {
+        if is_over(known, kind) {
             return Ok(Step::Over);
         }
         let next = known.after_event(id, kind, op)?;

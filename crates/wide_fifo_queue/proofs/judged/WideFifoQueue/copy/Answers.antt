@@ -4,7 +4,7 @@ use Rattle.wide_fifo_queue.proofs.judged.WideFifoQueue.copy.Goals as goal
 
 pub returns : goal.returns
 returns c = record {
-  same = λ ms. same_stands c.args.self.now.known c.in_ok-copied.field-0 c.in_ok-copied.ensures ms;
+  same = λ ms. same_stands c.args.self.now.known c.in_ok-known.known c.in_ok-known.ensures ms;
   budget = refl;
   applied = refl;
 }

@@ -26,3 +26,43 @@ returns-in_default c =
       budget = refl;
       cost = no_step _ _ m refl refl;
     }
+
+pub returns-then-is_over : goal.returns-then-is_over
+returns-then-is_over c =
+    let m : Mark = mark_by c.args.id c.args.kind c.args.op.now in
+    let k = c.in-Some.known.now in
+    let e : c.args.self.now.known ≡ Some k = c.in-Some.is in
+    let over = c.is_over.ensures.over c.if-is_over.true in
+    record {
+      step = record {
+        right = λ ms st may. answer_of_twins c.args.self.now.budget (facts_of k) ms (subst (λ x. Stands x ms) e st) over.1.0 over.1.1 c.args.kind c.args.id c.args.op.now over.0;
+        over_at_ok = λ q. return_of_ok c.args.kind c.args.id c.args.op.now over.0;
+      };
+      now = λ ms st. st;
+      next = record { over = λ q ms st. st; taken = λ ne. absurd (ne refl) };
+      budget = refl;
+      cost = no_step _ _ m refl refl;
+    }
+
+pub returns : goal.returns
+returns c =
+    let m : Mark = mark_by c.args.id c.args.kind c.args.op.now in
+    let k = c.in-Some.known.now in
+    let e : c.args.self.now.known ≡ Some k = c.in-Some.is in
+    let next = c.in_ok-next.next in
+    let is = c.step_of-step.ensures in
+    record {
+      step = record {
+        right = λ ms st may. (let facts : AreFacts (facts_of k) ms = subst (λ x. Stands x ms) e st in
+          subst (IsAnswer counts_more the_object c.args.self.now.budget ms m) (sym is)
+          (answer_of_alive c.args.self.now.budget (facts_of k) ms facts c.args.id c.args.op.now c.args.kind next (c.is_over.ensures.within c.if-is_over.false) (c.in_ok-next.ensures ms facts may) may));
+        over_at_ok = λ q. absurd (never_over next (sym is ∙ q));
+      };
+      now = λ ms st. st;
+      next = record {
+        over = λ q. absurd (never_over next (sym is ∙ q));
+        taken = λ ne ms st may. c.in_ok-next.ensures ms (subst (λ x. Stands x ms) e st) may;
+      };
+      budget = refl;
+      cost = no_step _ _ m refl refl;
+    }

@@ -16,7 +16,7 @@ pub returns-in_ok-known-in-Other : goal.returns-in_ok-known-in-Other
 returns-in_ok-known-in-Other c ms facts may =
     let f = facts_of c.args.self.now in
     let p : Pending = record { id = c.args.id; call = c.call_of.result; since = c.args.self.now.moment } in
-    let pend : c.in_ok-pending-in-Other.pending.items ≡ f.pending ++ p ∷ [] = c.in_ok-pending-in-Other.ensures ∙ ap (λ l. l ++ p ∷ []) c.deref-in-Other.ensures.value in
+    let pend : c.in_ok-pending-in-Other.pending.items ≡ f.pending ++ p ∷ [] = c.in_ok-pending-in-Other.ensures ∙ ap (λ l. l ++ p ∷ []) c.deref.ensures.value in
     subst (λ (g : Facts). AreFacts g (ms ++ Invoked p.id c.args.op.now ∷ []))
     (sym (as_later f (facts_of c.in_ok-known-in-Other.known) c.in_ok-pending-in-Other.pending.items (f.pending ++ p ∷ []) c.in_ok-known-in-Other.ensures pend))
     (other_invoked f p refl c.args.op.now (sym c.call_of.ensures) c.in-Other.is ms facts may)

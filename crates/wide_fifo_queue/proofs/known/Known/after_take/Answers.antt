@@ -1,4 +1,4 @@
-use Rattle.std.proofs.Common.{◌≡◌, ◌≢◌, ◌↔◌, ℕ, ◌⊎◌, Some, List, [], ◌∷◌, ◌++◌, map, take, drop, IsTrue, sym, ap, ◌∙◌, subst, rules, to_z, of_z, w64}
+use Rattle.std.proofs.Common.{◌≡◌, ◌≢◌, ◌↔◌, ℕ, ℤ, ◌⊎◌, Some, List, [], ◌∷◌, ◌++◌, map, take, drop, IsTrue, sym, ap, ◌∙◌, subst, rules, to_z, of_z, w64}
 use Rattle.std.specs.List.{Contains, filter}
 use Rattle.std.proofs.lemmas.Bool.{true≢false}
 use Rattle.events.specs.Events.Mark.{Returned}
@@ -48,4 +48,5 @@ returns c ms facts may =
     (sym (with_all f (facts_of c.in_ok-known.known) c.in_ok-pending.pending.items (filter (is_other p.id) f.pending) c.in_ok-known.ensures pend
     c.in_ok-entered.entered c.in_ok-rest.rest (drop c.passed-many.result c.in_ok-waiting.waiting) c.put_owed.new.owed.items _ c.in_ok-takers.takers.items (filter (is_other_moment p.since) f.takers) c.in_ok-rest.ensures owed takers))
     (taken f p c.requires.pending c.requires.call c.requires.late e c.requires.entry c.requires.stays c.args.due.now c.requires.due c.in_ok-waiting.waiting but c.passed-many.result c.passed-many.ensures.before c.passed-many.ensures.behind
-    c.requires.in_time (is.0 c.if-not-is_served.false) c.in_ok-entered.entered c.in_ok-entered.ensures.ordered c.in_ok-entered.ensures.with ms facts may)
+    c.requires.in_time (is.0 c.if-not-is_served.false) c.in_ok-entered.entered c.in_ok-entered.ensures.ordered
+    (subst (λ (v : ℤ). IsByValue f.entered → (x : Enqueued) → Contains c.in_ok-entered.entered x ↔ ((x ≡ record { value = v; id = e.id; since = e.since; taken = Some f.now }) ⊎ (Contains f.entered x × (x.value ≢ v)))) same c.in_ok-entered.ensures.with) ms facts may)
