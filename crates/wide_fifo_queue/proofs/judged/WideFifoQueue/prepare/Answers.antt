@@ -5,6 +5,7 @@ use Rattle.wide_fifo_queue.specs.Facts.{Facts, AreFacts, facts_of}
 use Rattle.wide_fifo_queue.specs.Kept.{Stands}
 use Rattle.wide_fifo_queue.specs.Counted.{counts_more, the_object}
 use Rattle.wide_fifo_queue.specs.Judges.{kills, is_an_ok}
+use Rattle.wide_fifo_queue.specs.Views.{view_of}
 use Rattle.wide_fifo_queue.proofs.Judging.{still_dead, answer_of_dead, answer_of_alive, answer_of_twins, return_of_ok, never_over, never_over_dead, no_step}
 use Rattle.wide_fifo_queue.proofs.judged.WideFifoQueue.prepare.Goals as goal
 
@@ -24,13 +25,13 @@ returns-in_default c =
         taken = λ ne ms st may. subst (λ k. Stands k (ms ++ m ∷ [])) (sym e) (still_dead ms m (subst (λ k. Stands k ms) e st) may);
       };
       budget = refl;
-      cost = no_step _ _ m refl refl;
+      cost = no_step (view_of c.args.self.now) (view_of c.args.self.now) m refl refl;
     }
 
 pub returns-then-is_over : goal.returns-then-is_over
 returns-then-is_over c =
     let m : Mark = mark_by c.args.id c.args.kind c.args.op.now in
-    let k = c.in-Some.known.now in
+    let k = c.in-Some.known in
     let e : c.args.self.now.known ≡ Some k = c.in-Some.is in
     let over = c.is_over.ensures.over c.if-is_over.true in
     record {
@@ -41,13 +42,13 @@ returns-then-is_over c =
       now = λ ms st. st;
       next = record { over = λ q ms st. st; taken = λ ne. absurd (ne refl) };
       budget = refl;
-      cost = no_step _ _ m refl refl;
+      cost = no_step (view_of c.args.self.now) (view_of c.args.self.now) m refl refl;
     }
 
 pub returns : goal.returns
 returns c =
     let m : Mark = mark_by c.args.id c.args.kind c.args.op.now in
-    let k = c.in-Some.known.now in
+    let k = c.in-Some.known in
     let e : c.args.self.now.known ≡ Some k = c.in-Some.is in
     let next = c.in_ok-next.next in
     let is = c.step_of-step.ensures in
@@ -64,5 +65,5 @@ returns c =
         taken = λ ne ms st may. c.in_ok-next.ensures ms (subst (λ x. Stands x ms) e st) may;
       };
       budget = refl;
-      cost = no_step _ _ m refl refl;
+      cost = no_step (view_of c.args.self.now) (view_of c.args.self.now) m refl refl;
     }

@@ -35,7 +35,7 @@ returns-then-not-is_in_time c =
     let p = c.args.call.now in
     let same : to_z w64 (of_z w64 c.args.value) ≡ c.args.value = to_z-of_z w64 c.args.value c.ranges.value in
     let due : IsDueOf f.owed c.args.value c.owed_of-due.result = subst (λ v. IsDueOf f.owed v c.owed_of-due.result) same (subst (λ (l : List Owed). IsDueOf l (to_z w64 (of_z w64 c.args.value)) c.owed_of-due.result) c.deref.ensures.value c.owed_of-due.ensures) in
-    too_late f p c.requires.pending c.requires.call c.requires.late c.args.value c.owed_of-due.result due (λ t. true≢false (sym (c.is_in_time.ensures.1 t) ∙ c.if-not-is_in_time.true))
+    take_after f p c.requires.pending c.requires.call c.requires.late c.args.value c.owed_of-due.result due (λ t. true≢false (sym (c.is_in_time.ensures.1 t) ∙ c.if-not-is_in_time.true))
 
 pub returns : goal.returns
 returns c ms facts may =

@@ -34,4 +34,4 @@ pub after_first_fail-requires-clause-call : goal.after_first_fail-requires-claus
 after_first_fail-requires-clause-call c = c.requires.call ∙ ap calls.Enqueue (sym (c.in-Some.ensures.found.1 ∙ to_z-of_z w64 c.args.value c.ranges.value))
 
 pub after_only_fail-requires-clause-none : goal.after_only_fail-requires-clause-none
-after_only_fail-requires-clause-none c x h q = c.first_of.ensures.none c.in_default-2.is x (subst (λ (l : List Enqueued). Contains l x) (sym c.deref.ensures.value) h) (q ∙ c.in-Some.ensures.found.1)
+after_only_fail-requires-clause-none c x h q = c.first_of.ensures.none c.in_default-first_of.is x (subst (λ (l : List Enqueued). Contains l x) (sym c.deref.ensures.value) h) (q ∙ c.in-Some.ensures.found.1)
