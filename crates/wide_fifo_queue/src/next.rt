@@ -17,8 +17,8 @@ ghost use Rattle.wide_fifo_queue.specs.Queries.{IsDueOf, IsInTime, IsWaitingBut}
 use crate::entries::{entry_of, with_entry, without_entry};
 use crate::known::{Call, Enqueued, Known, Owed, Pending, Waiting, call_of};
 use crate::lists::{
-    first_of, is_in_time, is_served, owed_of, pending_of, some_of, with_call, without_call, without_enqueue,
-    without_moment, without_owed,
+    first_of, is_in_time, is_served, owed_of, pending_of, some_of, with_call, without_call,
+    without_enqueue, without_moment, without_owed,
 };
 use crate::waiting::{passed, put_owed, with_waiting, without_passed, without_waiting};
 use events::EventKind;

@@ -55,8 +55,8 @@ returns c =
     record {
       step = record {
         right = λ ms st may. (let facts : AreFacts (facts_of k) ms = subst (λ x. Stands x ms) e st in
-          subst (IsAnswer counts_more the_object c.args.self.now.budget ms m) (sym is)
-          (answer_of_alive c.args.self.now.budget (facts_of k) ms facts c.args.id c.args.op.now c.args.kind next (c.is_over.ensures.within c.if-is_over.false) (c.in_ok-next.ensures ms facts may) may));
+            subst (IsAnswer counts_more the_object c.args.self.now.budget ms m) (sym is)
+            (answer_of_alive c.args.self.now.budget (facts_of k) ms facts c.args.id c.args.op.now c.args.kind next (c.is_over.ensures.within c.if-is_over.false) (c.in_ok-next.ensures ms facts may) may));
         over_at_ok = λ q. absurd (never_over next (sym is ∙ q));
       };
       now = λ ms st. st;

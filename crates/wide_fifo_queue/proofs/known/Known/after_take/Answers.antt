@@ -22,10 +22,10 @@ returns-then-not-is_served c =
     let but : IsWaitingBut f.waiting e.value c.args.due.now c.in_ok-waiting.waiting = subst (λ v. IsWaitingBut f.waiting v c.args.due.now c.in_ok-waiting.waiting) same c.in_ok-waiting.ensures in
     let old : c.in_ok-owed.owed.items ≡ filter (is_other_value e.value) f.owed = c.in_ok-owed.ensures ∙ ap (filter (is_other_value (to_z w64 (of_z w64 c.args.entry.value)))) c.deref-2.ensures.value ∙ ap (λ v. filter (is_other_value v) f.owed) same in
     let owed : c.put_owed.new.owed.items ≡ owed_then f p c.requires.pending c.requires.call c.requires.late e c.requires.entry c.requires.stays c.args.due.now c.requires.due c.in_ok-waiting.waiting but c.passed-many.result c.passed-many.ensures.before c.passed-many.ensures.behind
-        = c.in_ok-put_owed.ensures ∙ ap (λ l. l ++ map (owed_by f.now) (take c.passed-many.result c.in_ok-waiting.waiting)) old in
+    = c.in_ok-put_owed.ensures ∙ ap (λ l. l ++ map (owed_by f.now) (take c.passed-many.result c.in_ok-waiting.waiting)) old in
     let is : IsTrue c.is_served.result ↔ IsServed (filter (is_other_moment p.since) f.takers) (owed_then f p c.requires.pending c.requires.call c.requires.late e c.requires.entry c.requires.stays c.args.due.now c.requires.due c.in_ok-waiting.waiting but c.passed-many.result c.passed-many.ensures.before c.passed-many.ensures.behind)
-        = subst (λ (l : List Owed). IsTrue c.is_served.result ↔ IsServed (filter (is_other_moment p.since) f.takers) l) (c.deref-4.ensures.value ∙ owed)
-        (subst (λ (l : List ℕ). IsTrue c.is_served.result ↔ IsServed l c.deref-4.result.now) (c.deref-3.ensures.value ∙ takers) c.is_served.ensures) in
+    = subst (λ (l : List Owed). IsTrue c.is_served.result ↔ IsServed (filter (is_other_moment p.since) f.takers) l) (c.deref-4.ensures.value ∙ owed)
+    (subst (λ (l : List ℕ). IsTrue c.is_served.result ↔ IsServed l c.deref-4.result.now) (c.deref-3.ensures.value ∙ takers) c.is_served.ensures) in
     take_unserved f p c.requires.pending c.requires.call c.requires.late e c.requires.entry c.requires.stays c.args.due.now c.requires.due c.in_ok-waiting.waiting but c.passed-many.result c.passed-many.ensures.before c.passed-many.ensures.behind
     (λ s. true≢false (sym (is.1 s) ∙ c.if-not-is_served.true))
 
@@ -39,10 +39,10 @@ returns c ms facts may =
     let but : IsWaitingBut f.waiting e.value c.args.due.now c.in_ok-waiting.waiting = subst (λ v. IsWaitingBut f.waiting v c.args.due.now c.in_ok-waiting.waiting) same c.in_ok-waiting.ensures in
     let old : c.in_ok-owed.owed.items ≡ filter (is_other_value e.value) f.owed = c.in_ok-owed.ensures ∙ ap (filter (is_other_value (to_z w64 (of_z w64 c.args.entry.value)))) c.deref-2.ensures.value ∙ ap (λ v. filter (is_other_value v) f.owed) same in
     let owed : c.put_owed.new.owed.items ≡ owed_then f p c.requires.pending c.requires.call c.requires.late e c.requires.entry c.requires.stays c.args.due.now c.requires.due c.in_ok-waiting.waiting but c.passed-many.result c.passed-many.ensures.before c.passed-many.ensures.behind
-        = c.in_ok-put_owed.ensures ∙ ap (λ l. l ++ map (owed_by f.now) (take c.passed-many.result c.in_ok-waiting.waiting)) old in
+    = c.in_ok-put_owed.ensures ∙ ap (λ l. l ++ map (owed_by f.now) (take c.passed-many.result c.in_ok-waiting.waiting)) old in
     let is : IsTrue c.is_served.result ↔ IsServed (filter (is_other_moment p.since) f.takers) (owed_then f p c.requires.pending c.requires.call c.requires.late e c.requires.entry c.requires.stays c.args.due.now c.requires.due c.in_ok-waiting.waiting but c.passed-many.result c.passed-many.ensures.before c.passed-many.ensures.behind)
-        = subst (λ (l : List Owed). IsTrue c.is_served.result ↔ IsServed (filter (is_other_moment p.since) f.takers) l) (c.deref-4.ensures.value ∙ owed)
-        (subst (λ (l : List ℕ). IsTrue c.is_served.result ↔ IsServed l c.deref-4.result.now) (c.deref-3.ensures.value ∙ takers) c.is_served.ensures) in
+    = subst (λ (l : List Owed). IsTrue c.is_served.result ↔ IsServed (filter (is_other_moment p.since) f.takers) l) (c.deref-4.ensures.value ∙ owed)
+    (subst (λ (l : List ℕ). IsTrue c.is_served.result ↔ IsServed l c.deref-4.result.now) (c.deref-3.ensures.value ∙ takers) c.is_served.ensures) in
     let pend : c.in_ok-pending.pending.items ≡ filter (is_other p.id) f.pending = c.in_ok-pending.ensures ∙ ap (filter (is_other p.id)) c.deref-5.ensures.value in
     subst (λ (g : Facts). AreFacts g (ms ++ Returned p.id (Number e.value) ∷ []))
     (sym (with_all f (facts_of c.in_ok-known.known) c.in_ok-pending.pending.items (filter (is_other p.id) f.pending) c.in_ok-known.ensures pend
