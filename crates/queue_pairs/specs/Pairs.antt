@@ -6,9 +6,12 @@ use Rattle.models.specs.declared.operation.Name.TheVariants.{Enqueue, Dequeue}
 use Rattle.models.specs.declared.operation.Part.TheVariants.{Nil, Int}
 use Rattle.models.specs.declared.operation.Op.{Op}
 use Rattle.models.specs.declared.finding.Answer.TheVariants.{Number}
+use Rattle.models.specs.Objects.{fifo_queue}
 use Rattle.events.specs.Events.{Mark, Entry, marks, IsFront}
 use Rattle.events.specs.Events.Mark.{Invoked, Returned, Failed}
 use Rattle.linspec.specs.Operations.{HasReturned, Precedes}
+use Rattle.linspec.specs.Orders.{IsLinearizable}
+use Rattle.linspec.specs.Ends.{Count}
 
 -- the operation enqueues v
 abbrev pub Enqueues : Op → ℤ → Type 0
@@ -31,7 +34,7 @@ pub record HasDequeued (marks : List Mark) (id : ℕ) (v : ℤ) : Type 0 where
   pub dequeues : Dequeues op
   pub answer : Contains marks (Returned id (Number v))
 
--- the operation is a dequeue that may take a value of which nobody was told: it is open, or has crashed
+-- the operation is a dequeue without an answer that may take a value: it is open, or has crashed
 pub record MayDequeue (marks : List Mark) (id : ℕ) : Type 0 where
   pub op : Op
   pub invoked : Contains marks (Invoked id op)
@@ -48,15 +51,15 @@ IsBefore marks u v =
 abbrev pub IsUntold : List Mark → ℤ → Type 0
 IsUntold marks v = (id : ℕ) → ¬ HasDequeued marks id v
 
--- a dequeue of which nobody was told must have taken u before d: nobody was told of u, and it came in before the value that d has
--- dequeued
+-- a dequeue without an answer must take u before d takes its value: no dequeue has answered u, and u came in before the value that
+-- d has dequeued
 pub record IsOwedTo (marks : List Mark) (u : ℤ) (d : ℕ) : Type 0 where
   pub untold : IsUntold marks u
   pub v : ℤ
   pub before : IsBefore marks u v
   pub dequeued : HasDequeued marks d v
 
--- each owed value is taken by a dequeue of its own that has no answer, and that none precedes to which the value is owed
+-- each owed value has a taker of its own: a dequeue without an answer, which no dequeue precedes that the value is owed to
 pub record AreTakers (marks : List Mark) (taker : ℤ → ℕ) : Type 0 where
   pub may : (u : ℤ) (d : ℕ) → IsOwedTo marks u d → MayDequeue marks (taker u)
   pub in_time : (u : ℤ) (d : ℕ) → IsOwedTo marks u d → ¬ Precedes marks d (taker u)
@@ -91,7 +94,7 @@ HasTwins marks = (a b : ℕ) × (v : ℤ) × AreTwins marks a b v
 abbrev pub IsLate : List Mark → ℕ → Type 0
 IsLate marks id = (done : ℕ) → HasReturned marks done → Precedes marks done id
 
--- of two twins one is late, so no answer tells of it yet
+-- of two twins one is late, so no answer depends on it yet
 abbrev pub TwinsAreLate : List Mark → Type 0
 TwinsAreLate marks = (a b : ℕ) (v : ℤ) → AreTwins marks a b v → IsLate marks a ⊎ IsLate marks b
 
@@ -100,7 +103,11 @@ abbrev pub TwinsAreAlwaysLate : List Entry → Type 0
 TwinsAreAlwaysLate entries =
     (front : List Entry) → IsFront front entries → TwinsAreLate (marks front)
 
--- u needs a taker once v is dequeued: it is another value, nobody was told of it, and it came in before v or is owed already
+-- more than any number is counted of a linearizable history that has twins
+abbrev pub CountsTwins : Count
+CountsTwins marks n = IsLinearizable fifo_queue marks × HasTwins marks
+
+-- u needs a taker once v is dequeued: it is another value, no dequeue has answered it, and it came in before v or is owed already
 abbrev pub IsOwedBeside : List Mark → ℤ → ℤ → Type 0
 IsOwedBeside marks v u =
     (u ≢ v) × IsUntold marks u × (IsBefore marks u v ⊎ ((d : ℕ) × IsOwedTo marks u d))

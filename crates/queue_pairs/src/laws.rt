@@ -9,8 +9,9 @@ ghost use Rattle.events.specs.Events.{Mark, Entry, marks, of_key, IsFront};
 ghost use Rattle.events.specs.Events.Mark.{Invoked, Returned, Failed, Crashed};
 ghost use Rattle.linspec.specs.MarkRule.{AreWellFormed};
 ghost use Rattle.linspec.specs.Orders.{IsLinearizable};
+ghost use Rattle.linspec.specs.Ends.{IsWithinBudgetBy};
 ghost use Rattle.linspec.specs.Verdicts.{EndsShortestBadFront};
-ghost use Rattle.queue_pairs.specs.Pairs.{Enqueues, IsEnqueueOf, Dequeues, IsPaired, HasTwins, TwinsAreLate, TwinsAreAlwaysLate, MayTake, MayFail};
+ghost use Rattle.queue_pairs.specs.Pairs.{Enqueues, IsEnqueueOf, Dequeues, IsPaired, HasTwins, TwinsAreLate, TwinsAreAlwaysLate, CountsTwins, MayTake, MayFail};
 
 /// A history of a queue whose values differ is linearizable exactly if it is paired: what was dequeued was enqueued in time, once and in
 /// turn, and what was passed over has a taker. So is the history of one key. An enqueue of a value that is there already may stand in it,
@@ -73,10 +74,16 @@ pub fn twins_law()
         → ¬ HasTwins (marks ++ Returned id answer ∷ []) }
 {}
 
-/// The history of a queue whose values differ becomes illegal at the event at which it stops being paired.
+/// The history of a queue becomes illegal at the event at which it stops being paired. This holds if twins were late after each event, and
+/// if no ok found the history linearizable with twins.
 pub fn illegal_at_law()
-    ensures { (entries : List Entry) (last : Entry) → AreWellFormed (marks entries)
+    ensures late { (entries : List Entry) (last : Entry) → AreWellFormed (marks entries)
         → TwinsAreAlwaysLate entries
+        → EndsShortestBadFront fifo_queue entries last
+        ↔ ((before : List Entry) × IsFront (before ++ last ∷ []) entries × IsPaired (marks before)
+        × (¬ IsPaired (marks (before ++ last ∷ [])))) }
+    ensures within { (entries : List Entry) (budget : ℕ) (last : Entry) → AreWellFormed (marks entries)
+        → IsWithinBudgetBy CountsTwins budget entries
         → EndsShortestBadFront fifo_queue entries last
         ↔ ((before : List Entry) × IsFront (before ++ last ∷ []) entries × IsPaired (marks before)
         × (¬ IsPaired (marks (before ++ last ∷ [])))) }
