@@ -1,37 +1,31 @@
 -- what each event makes of the facts, of whatever history they are
-use Rattle.std.proofs.Common.{◌≡◌, ◌≢◌, ◌↔◌, ℕ, ◌<◌, ◌≤◌, ℤ, ◌⊎◌, inl, inr, ⊎_elim, Option, Some, None, List, [], ◌∷◌, ◌++◌, length, take, drop, get_or, map, refl, sym, ap, ◌∙◌, subst, arith}
+use Rattle.std.proofs.Common.{◌≡◌, ◌≢◌, ◌↔◌, ℕ, ◌<◌, ◌≤◌, ℤ, ◌⊎◌, ⊎_elim, Option, Some, None, List, [], ◌∷◌, ◌++◌, length, take, drop, get_or, map, refl, sym, ◌∙◌, subst}
 use Rattle.std.specs.List.{Contains, filter}
 use Rattle.std.proofs.lemmas.List.{take-append-drop}
 use Rattle.models.specs.declared.operation.Op.{Op}
-use Rattle.models.specs.declared.operation.Part.{Part}
-use Rattle.models.specs.declared.operation.Part.TheVariants.{Int}
 use Rattle.models.specs.declared.finding.Answer.{Answer}
 use Rattle.models.specs.declared.finding.Answer.TheVariants.{Number}
-use Rattle.models.specs.Objects.{answer_of}
 use Rattle.events.specs.Events.{Mark}
 use Rattle.events.specs.Events.Mark.{Invoked, Returned, Failed, Crashed}
 use Rattle.linspec.specs.Operations.{IsOpen}
-use Rattle.linspec.specs.MarkRule.{MayFollow, AreWellFormed}
+use Rattle.linspec.specs.MarkRule.{MayFollow}
 use Rattle.linspec.specs.Orders.{Pairwise}
 use Rattle.linspec.proofs.Lists.{Contains-nil}
-use Rattle.queue_pairs.specs.Pairs.{Enqueues, Dequeues, MayDequeue, IsPaired, MayTake}
+use Rattle.queue_pairs.specs.Pairs.{MayTake}
 use Rattle.wide_fifo_queue.specs.declared.known.Call.TheVariants as calls
 use Rattle.wide_fifo_queue.specs.declared.known.Pending.{Pending}
 use Rattle.wide_fifo_queue.specs.declared.known.Enqueued.{Enqueued}
 use Rattle.wide_fifo_queue.specs.declared.known.Waiting.{Waiting}
 use Rattle.wide_fifo_queue.specs.declared.known.Owed.{Owed}
 use Rattle.wide_fifo_queue.specs.declared.known.Known.{Known}
-use Rattle.wide_fifo_queue.specs.Facts.{StandsAt, IsByValue, IsServed, Facts, AreFacts, call_by, later, is_other, is_other_moment, is_other_value, is_other_enqueue, owed_by}
+use Rattle.wide_fifo_queue.specs.Facts.{IsByValue, IsServed, Facts, AreFacts, call_by, later, is_other, is_other_moment, is_other_value, is_other_enqueue, owed_by}
 use Rattle.wide_fifo_queue.specs.Queries.{IsDueOf, IsInTime, IsWaitingBut}
-use Rattle.wide_fifo_queue.specs.Kept.{IsDead, Stands, IsAfter}
-use Rattle.wide_fifo_queue.proofs.Moments.{stands_contains}
+use Rattle.wide_fifo_queue.specs.Kept.{IsDead, IsAfter}
 use Rattle.wide_fifo_queue.proofs.Laws.{ok_of_dequeue, other_oks}
-use Rattle.wide_fifo_queue.proofs.Calls.{enqueue_by, dequeue_by, by_enqueues, by_dequeues, answer_number, op_of, same_call, enqueue_of_call, call_of_enqueue, dequeue_of_call}
+use Rattle.wide_fifo_queue.proofs.Calls.{enqueue_by, dequeue_by, by_enqueues, by_dequeues, op_of, same_call, enqueue_of_call, call_of_enqueue, dequeue_of_call}
 use Rattle.wide_fifo_queue.proofs.Carrying.{well_more}
-use Rattle.wide_fifo_queue.proofs.Knowing.{none_or_some}
 use Rattle.wide_fifo_queue.proofs.Judging.{dead_after_ok, dead_after_fail}
 use Rattle.wide_fifo_queue.proofs.Splitting.{IsBut, but_of, no_earlier}
-use Rattle.wide_fifo_queue.proofs.Places.{in_take}
 use Rattle.wide_fifo_queue.proofs.Dequeuing as deq
 use Rattle.wide_fifo_queue.proofs.Events as events
 use Rattle.wide_fifo_queue.proofs.Failing as fails

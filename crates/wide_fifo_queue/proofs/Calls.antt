@@ -1,5 +1,5 @@
 -- operations by what they do
-use Rattle.std.proofs.Common.{◌≡◌, ◌≢◌, ℕ, ℤ, List, refl, sym, ap, ◌∙◌, subst}
+use Rattle.std.proofs.Common.{◌≡◌, ℕ, ℤ, List, refl, sym, ap, ◌∙◌, subst}
 use Rattle.std.specs.List.{Contains}
 use Rattle.models.specs.declared.operation.Name.{Name}
 use Rattle.models.specs.declared.operation.Name.TheVariants.{Enqueue, Dequeue}
@@ -11,7 +11,7 @@ use Rattle.models.specs.Objects.{answer_of}
 use Rattle.events.specs.Events.{Mark}
 use Rattle.events.specs.Events.Mark.{Invoked}
 use Rattle.linspec.specs.MarkRule.{AreWellFormed}
-use Rattle.queue_pairs.specs.Pairs.{Enqueues, IsEnqueueOf, Dequeues, HasDequeued, MayDequeue}
+use Rattle.queue_pairs.specs.Pairs.{Enqueues, IsEnqueueOf, Dequeues, HasDequeued}
 use Rattle.wide_fifo_queue.specs.declared.known.Call.TheVariants as calls
 use Rattle.wide_fifo_queue.specs.declared.known.Pending.{Pending}
 use Rattle.wide_fifo_queue.specs.Facts.{call_by, Facts, AreFacts}

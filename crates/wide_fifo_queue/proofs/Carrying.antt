@@ -1,5 +1,5 @@
 -- what is known stays known with one more mark, apart from what that mark says
-use Rattle.std.proofs.Common.{◌≡◌, ◌≢◌, ℕ, ◌+◌, suc, ◌<◌, ◌≤◌, ℤ, ◌⊎◌, inl, inr, ⊎_elim, Option, Some, None, List, [], ◌∷◌, ◌++◌, length, refl, sym, ap, ◌∙◌, subst, append_assoc, nat_eq, not, true, arith, length-append}
+use Rattle.std.proofs.Common.{◌≡◌, ◌≢◌, ℕ, ◌+◌, ℤ, ◌⊎◌, inl, inr, ⊎_elim, List, [], ◌∷◌, ◌++◌, length, refl, sym, ap, ◌∙◌, subst, append_assoc, nat_eq, not, true, arith, length-append}
 use Rattle.std.specs.List.{Contains, filter}
 use Rattle.std.proofs.lemmas.List.Elements.{Contains-append_left, Contains-push, Contains-push_cases}
 use Rattle.std.proofs.lemmas.Bool.{cases_Bool, true≢false, eqb-true, eq-eqb, ne_eqb}
@@ -7,8 +7,8 @@ use Rattle.models.specs.declared.operation.Op.{Op}
 use Rattle.models.specs.declared.finding.Answer.{Answer}
 use Rattle.models.specs.declared.finding.Answer.TheVariants.{Number}
 use Rattle.events.specs.Events.{Mark}
-use Rattle.events.specs.Events.Mark.{Invoked, Returned, Failed, Crashed}
-use Rattle.linspec.specs.Operations.{IsInvoked, IsOpen, HasReturned, Precedes}
+use Rattle.events.specs.Events.Mark.{Invoked, Returned, Failed}
+use Rattle.linspec.specs.Operations.{IsInvoked, IsOpen}
 use Rattle.linspec.specs.MarkRule.{id_of, IsNew, MayFollow, AreWellFormed}
 use Rattle.linspec.proofs.Lists.{snoc_cut}
 use Rattle.linspec.proofs.Open.{IsCompletion, was_open, stays_open, open_with_new, open_without_new, new_is_open}
@@ -17,7 +17,7 @@ use Rattle.queue_pairs.specs.Pairs.{IsEnqueueOf, MayEnqueue, HasDequeued, MayDeq
 use Rattle.wide_fifo_queue.specs.declared.known.Pending.{Pending}
 use Rattle.wide_fifo_queue.specs.declared.known.Enqueued.{Enqueued}
 use Rattle.wide_fifo_queue.specs.Facts.{StandsAt, ArePending, IsEntry, IsTakenAt, Waits, call_by, is_other}
-use Rattle.wide_fifo_queue.proofs.Moments.{stands_contains, stands_on, stands_cases, stands_last, last_or_before}
+use Rattle.wide_fifo_queue.proofs.Moments.{stands_on, stands_cases, stands_last, last_or_before}
 use Rattle.linspec.proofs.Filters.{from_filter, to_filter}
 use Rattle.queue_pairs.proofs.Once.{returned_invoked}
 

@@ -1,31 +1,27 @@
 -- the ok of a dequeue: which values are owed then
-use Rattle.std.proofs.Common.{◌≡◌, ◌≢◌, ℕ, ◌<◌, ◌≤◌, ℤ, ◌⊎◌, inl, inr, ⊎_elim, Option, Some, None, Bool, not, true, List, [], ◌∷◌, ◌++◌, map, length, refl, sym, ap, ◌∙◌, subst, arith}
+use Rattle.std.proofs.Common.{◌≡◌, ◌≢◌, ℕ, ◌<◌, ◌≤◌, ℤ, inl, inr, ⊎_elim, Option, Some, None, not, true, List, [], ◌∷◌, ◌++◌, map, length, refl, sym, ap, ◌∙◌, subst, arith}
 use Rattle.std.specs.List.{Contains, filter}
 use Rattle.std.specs.Ordering.{int_eq}
 use Rattle.std.proofs.lemmas.Bool.{true≢false}
 use Rattle.std.proofs.lemmas.Bool.Decides.{Decides-int_eq}
 use Rattle.std.proofs.lemmas.List.Elements.{Contains-append_left, Contains-append_right, Contains-append_cases}
 use Rattle.models.specs.declared.operation.Op.{Op}
-use Rattle.models.specs.declared.finding.Answer.{Answer}
 use Rattle.models.specs.declared.finding.Answer.TheVariants.{Number}
 use Rattle.events.specs.Events.{Mark}
-use Rattle.events.specs.Events.Mark.{Invoked, Returned, Failed}
-use Rattle.linspec.specs.Operations.{Precedes}
+use Rattle.events.specs.Events.Mark.{Returned}
 use Rattle.linspec.specs.Orders.{Pairwise}
-use Rattle.linspec.specs.MarkRule.{AreWellFormed}
 use Rattle.linspec.proofs.Filters.{from_filter, to_filter, Pairwise-filter, to_map, from_map}
 use Rattle.linspec.proofs.Lists.{Pairwise-append, Pairwise-left, Contains-nil, Contains-head, Contains-tail}
-use Rattle.queue_pairs.specs.Pairs.{HasDequeued, IsBefore, IsOwedTo, IsOwedBeside, AreTakersBeside, MayDequeue, MayTake}
-use Rattle.wide_fifo_queue.specs.declared.known.Call.TheVariants as calls
+use Rattle.queue_pairs.specs.Pairs.{IsOwedBeside, AreTakersBeside, MayTake}
 use Rattle.wide_fifo_queue.specs.declared.known.Pending.{Pending}
 use Rattle.wide_fifo_queue.specs.declared.known.Enqueued.{Enqueued}
 use Rattle.wide_fifo_queue.specs.declared.known.Waiting.{Waiting}
 use Rattle.wide_fifo_queue.specs.declared.known.Owed.{Owed}
 use Rattle.wide_fifo_queue.specs.Facts.{StandsAt, IsServed, Waits, IsPassed, Facts, AreFacts, is_other_value, owed_by}
 use Rattle.wide_fifo_queue.specs.Queries.{IsDueOf, IsInTime}
-use Rattle.wide_fifo_queue.proofs.Moments.{returned_at_once, stands_below, stands_contains, not_precedes, no_later}
+use Rattle.wide_fifo_queue.proofs.Moments.{returned_at_once, stands_below, not_precedes, no_later}
 use Rattle.wide_fifo_queue.proofs.Serving.{IsInTurn, other_int}
-use Rattle.wide_fifo_queue.proofs.Knowing.{in_some_order, one_entry, is_entry, stays_untold, before_waits, waits_before, waits_untold, owed_has, owed_is, dequeued_entry}
+use Rattle.wide_fifo_queue.proofs.Knowing.{in_some_order, one_entry, is_entry, stays_untold, before_waits, waits_before, waits_untold, owed_has, owed_is}
 use Rattle.wide_fifo_queue.proofs.Leaving.{MayStill, others, others_are}
 use Rattle.wide_fifo_queue.proofs.Owing.{Taking, AreDue, served_taking, taking_served}
 

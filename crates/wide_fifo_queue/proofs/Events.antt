@@ -1,5 +1,5 @@
 -- the facts after each event but the ok of a dequeue
-use Rattle.std.proofs.Common.{◌≡◌, ◌≢◌, ◌↔◌, ℕ, ◌+◌, ◌<◌, ◌≤◌, ℤ, ◌⊎◌, inl, inr, ⊎_elim, Option, Some, None, List, [], ◌∷◌, ◌++◌, length, refl, sym, ap, ◌∙◌, subst, arith}
+use Rattle.std.proofs.Common.{◌≡◌, ◌≢◌, ◌↔◌, ℕ, ◌<◌, ℤ, ◌⊎◌, inl, inr, ⊎_elim, Some, None, List, [], ◌∷◌, ◌++◌, length, refl, sym, ap, ◌∙◌, subst, arith}
 use Rattle.std.specs.List.{Contains, filter}
 use Rattle.std.proofs.lemmas.List.Elements.{Contains-append_left, Contains-push, Contains-push_cases}
 use Rattle.models.specs.declared.operation.Op.{Op}
@@ -7,22 +7,20 @@ use Rattle.models.specs.declared.finding.Answer.{Answer}
 use Rattle.models.specs.declared.finding.Answer.TheVariants.{Number}
 use Rattle.events.specs.Events.{Mark}
 use Rattle.events.specs.Events.Mark.{Invoked, Returned, Failed, Crashed}
-use Rattle.linspec.specs.Operations.{IsInvoked, IsOpen, HasReturned, Precedes}
+use Rattle.linspec.specs.Operations.{IsInvoked}
 use Rattle.linspec.specs.MarkRule.{IsNew, AreWellFormed}
-use Rattle.linspec.specs.Orders.{Pairwise}
 use Rattle.linspec.proofs.Lists.{Contains-head, Contains-nil, Contains-cons_cases, Pairwise-append}
-use Rattle.queue_pairs.specs.Pairs.{Enqueues, IsEnqueueOf, MayEnqueue, Dequeues, HasDequeued, MayDequeue, IsPaired, IsLate}
+use Rattle.queue_pairs.specs.Pairs.{Enqueues, MayEnqueue, Dequeues, HasDequeued, MayDequeue, IsLate}
 use Rattle.wide_fifo_queue.specs.declared.known.Call.TheVariants as calls
 use Rattle.wide_fifo_queue.specs.declared.known.Pending.{Pending}
 use Rattle.wide_fifo_queue.specs.declared.known.Enqueued.{Enqueued}
 use Rattle.wide_fifo_queue.specs.declared.known.Waiting.{Waiting}
 use Rattle.wide_fifo_queue.specs.declared.known.Owed.{Owed}
-use Rattle.wide_fifo_queue.specs.Facts.{StandsAt, ArePending, IsEntry, IsTakenAt, IsByValue, AreEntries, Waits, IsPassed, AreWaiting, AreOwed, IsAmong, AreMoments, Facts, AreFacts, call_by, later, is_other, is_other_enqueue}
-use Rattle.wide_fifo_queue.proofs.Moments.{stands_contains, stands_below, stands_last, stands_on}
-use Rattle.queue_pairs.proofs.Once.{one_op}
+use Rattle.wide_fifo_queue.specs.Facts.{StandsAt, ArePending, IsEntry, IsByValue, AreEntries, Waits, IsPassed, AreWaiting, AreOwed, AreMoments, Facts, AreFacts, call_by, later, is_other}
+use Rattle.wide_fifo_queue.proofs.Moments.{stands_contains, stands_below, stands_last}
 use Rattle.wide_fifo_queue.proofs.Laws.{invocation, crash}
 use Rattle.wide_fifo_queue.proofs.Calls.{by_enqueues, by_dequeues}
-use Rattle.wide_fifo_queue.proofs.Carrying.{one_more, longer, kept, kept_at, invoked_was, enqueue_is, may_enqueue_was, entry_is, dequeued_is, dequeued_was, taken_is, may_dequeue_is, may_dequeue_was, waits_is, waits_was, late_is, pending_without, pending_with}
+use Rattle.wide_fifo_queue.proofs.Carrying.{one_more, kept_at, may_enqueue_was, entry_is, dequeued_was, taken_is, may_dequeue_is, may_dequeue_was, waits_is, waits_was, late_is, pending_without, pending_with}
 use Rattle.wide_fifo_queue.proofs.Knowing.{dequeued_entry}
 
 -- enqueues before and after a mark: the same values wait, and were passed over

@@ -1,5 +1,5 @@
 -- the facts after a fail
-use Rattle.std.proofs.Common.{◌≡◌, ◌≢◌, ◌↔◌, ℕ, ◌<◌, ◌≤◌, ℤ, ◌⊎◌, inl, inr, ⊎_elim, Option, Some, None, List, [], ◌∷◌, ◌++◌, length, refl, sym, ap, ◌∙◌, subst, arith}
+use Rattle.std.proofs.Common.{◌≡◌, ◌≢◌, ◌↔◌, ℕ, ℤ, ◌⊎◌, inl, inr, ⊎_elim, Some, None, List, [], ◌∷◌, ◌++◌, refl, sym, ap, ◌∙◌, subst}
 use Rattle.std.specs.List.{Contains, filter}
 use Rattle.std.proofs.lemmas.List.Elements.{Contains-push, Contains-push_cases}
 use Rattle.models.specs.declared.operation.Op.{Op}
@@ -13,13 +13,13 @@ use Rattle.queue_pairs.specs.Pairs.{IsEnqueueOf, MayEnqueue, HasDequeued, IsOwed
 use Rattle.wide_fifo_queue.specs.declared.known.Call.TheVariants as calls
 use Rattle.wide_fifo_queue.specs.declared.known.Pending.{Pending}
 use Rattle.wide_fifo_queue.specs.declared.known.Enqueued.{Enqueued}
-use Rattle.wide_fifo_queue.specs.Facts.{StandsAt, IsEntry, IsByValue, AreEntries, Waits, IsPassed, AreMoments, IsServed, Facts, AreFacts, later, is_other, is_other_enqueue}
+use Rattle.wide_fifo_queue.specs.Facts.{IsEntry, IsByValue, AreEntries, AreMoments, IsServed, Facts, AreFacts, later, is_other, is_other_enqueue}
 use Rattle.wide_fifo_queue.proofs.Moments.{stands_contains}
 use Rattle.queue_pairs.proofs.Once.{one_op, not_before_itself}
 use Rattle.wide_fifo_queue.proofs.Laws.{fail}
-use Rattle.wide_fifo_queue.proofs.Calls.{no_both, enqueue_of_call, no_enqueue_of_call}
-use Rattle.wide_fifo_queue.proofs.Carrying.{not_same, is_not_same, same_or_not, one_more, may_enqueue_was, entry_is, taken_is, may_dequeue_was, late_is, kept, kept_at, pending_without, invoked_was}
-use Rattle.wide_fifo_queue.proofs.Knowing.{same_value, one_entry, is_entry, entry_enqueues, dequeued_entry, twins_late}
+use Rattle.wide_fifo_queue.proofs.Calls.{no_both, no_enqueue_of_call}
+use Rattle.wide_fifo_queue.proofs.Carrying.{not_same, is_not_same, same_or_not, one_more, may_enqueue_was, entry_is, taken_is, may_dequeue_was, late_is, kept_at, pending_without}
+use Rattle.wide_fifo_queue.proofs.Knowing.{same_value, one_entry, is_entry, entry_enqueues, twins_late}
 use Rattle.wide_fifo_queue.proofs.Serving.{same_int_or_not}
 use Rattle.wide_fifo_queue.proofs.Leaving.{others, others_after, may_fail, served}
 use Rattle.wide_fifo_queue.proofs.Events.{WaitTheSame, waiting_carried, owed_carried, same_wait, still_dequeued, entries_carried, takers_carried}

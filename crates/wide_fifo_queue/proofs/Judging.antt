@@ -13,8 +13,8 @@ use Rattle.linspec.specs.MarkRule.{MayFollow, AreWellFormed}
 use Rattle.linspec.specs.Orders.{IsLinearizable}
 use Rattle.linspec.proofs.Fronts.{IsLinearizable-append}
 use Rattle.linspec.proofs.Lists.{Contains-nil}
-use Rattle.judging.specs.declared.step.Step.TheVariants.{Alive, Dead, Over}
-use Rattle.judging.specs.Meaning.{mark_by, IsAnswer, IsReturn, Blows, FrontierView, Costs}
+use Rattle.judging.specs.declared.step.Step.TheVariants.{Alive, Over}
+use Rattle.judging.specs.Meaning.{mark_by, IsAnswer, IsReturn, FrontierView, Costs}
 use Rattle.queue_pairs.specs.Pairs.{MayEnqueue, HasTwins, AreTwins, IsPaired}
 use Rattle.wide_fifo_queue.specs.declared.known.Known.{Known}
 use Rattle.wide_fifo_queue.specs.declared.known.Enqueued.{Enqueued}

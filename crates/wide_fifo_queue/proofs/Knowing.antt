@@ -1,27 +1,23 @@
 -- what the facts say of values that are owed
-use Rattle.std.proofs.Common.{◌≡◌, ◌≢◌, ℕ, ◌<◌, ◌≤◌, ℤ, ◌<ℤ◌, ◌⊎◌, inl, inr, ⊎_elim, Option, Some, None, List, [], ◌∷◌, ◌++◌, refl, sym, ap, ◌∙◌, subst, arith}
+use Rattle.std.proofs.Common.{◌≡◌, ℕ, ◌<◌, ◌≤◌, ℤ, ◌<ℤ◌, ◌⊎◌, inl, inr, ⊎_elim, Option, Some, None, List, [], ◌∷◌, refl, sym, ap, ◌∙◌, subst, arith}
 use Rattle.std.specs.List.{Contains}
 use Rattle.std.proofs.lemmas.Bool.{cases_lt}
 use Rattle.std.proofs.lemmas.Int.{ints}
 use Rattle.models.specs.declared.operation.Op.{Op}
-use Rattle.models.specs.declared.operation.Part.{Part}
 use Rattle.models.specs.declared.operation.Part.TheVariants.{Int}
-use Rattle.models.specs.declared.finding.Answer.{Answer}
 use Rattle.models.specs.declared.finding.Answer.TheVariants.{Number}
 use Rattle.events.specs.Events.{Mark}
-use Rattle.events.specs.Events.Mark.{Invoked, Returned, Failed}
+use Rattle.events.specs.Events.Mark.{Invoked, Returned}
 use Rattle.linspec.specs.Operations.{HasReturned, Precedes}
-use Rattle.linspec.specs.MarkRule.{AreWellFormed}
 use Rattle.linspec.specs.Orders.{Pairwise}
 use Rattle.linspec.proofs.Lists.{Contains-nil, Contains-cons_cases}
 use Rattle.linspec.proofs.Marks.{Precedes-returned}
-use Rattle.queue_pairs.specs.Pairs.{Enqueues, IsEnqueueOf, MayEnqueue, HasDequeued, IsBefore, IsUntold, IsOwedTo, IsLate, IsPaired, AreTwins, TwinsAreLate}
+use Rattle.queue_pairs.specs.Pairs.{Enqueues, IsEnqueueOf, MayEnqueue, HasDequeued, IsBefore, IsUntold, IsOwedTo, IsLate, TwinsAreLate}
 use Rattle.wide_fifo_queue.specs.declared.known.Enqueued.{Enqueued}
-use Rattle.wide_fifo_queue.specs.declared.known.Waiting.{Waiting}
 use Rattle.wide_fifo_queue.specs.declared.known.Owed.{Owed}
-use Rattle.wide_fifo_queue.specs.Facts.{StandsAt, IsEntry, IsTakenAt, IsByValue, Waits, IsPassed, Facts, AreFacts}
+use Rattle.wide_fifo_queue.specs.Facts.{StandsAt, IsEntry, IsByValue, Waits, IsPassed, Facts, AreFacts}
 use Rattle.wide_fifo_queue.proofs.Moments.{stands_contains, stands_of, precedes_by, not_precedes}
-use Rattle.queue_pairs.proofs.Once.{returned_not_failed, not_before_itself, one_op}
+use Rattle.queue_pairs.proofs.Once.{returned_not_failed, not_before_itself}
 
 -- of two elements one is the other, or they are related
 pub in_some_order : {X : Type 0} (R : X → X → Type 0) (xs : List X) → Pairwise R xs → (x y : X) → Contains xs x → Contains xs y → (x ≡ y) ⊎ (R x y ⊎ R y x)

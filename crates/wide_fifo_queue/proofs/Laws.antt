@@ -1,5 +1,5 @@
 -- laws of queues whose values differ
-use Rattle.std.proofs.Common.{◌≡◌, ◌≢◌, ◌↔◌, ℕ, ℤ, List, [], ◌∷◌, ◌++◌}
+use Rattle.std.proofs.Common.{◌≢◌, ◌↔◌, ℕ, ℤ, List, [], ◌∷◌, ◌++◌}
 use Rattle.std.specs.List.{Contains}
 use Rattle.models.specs.Objects.{fifo_queue}
 use Rattle.models.specs.declared.operation.Op.{Op}

@@ -1,26 +1,22 @@
 -- a dequeue that is open no longer: the other takers
-use Rattle.std.proofs.Common.{◌≡◌, ◌≢◌, ℕ, ◌<◌, ◌≤◌, ℤ, ◌⊎◌, inl, inr, ⊎_elim, List, [], ◌∷◌, ◌++◌, length, refl, sym, ap, ◌∙◌, subst, arith}
+use Rattle.std.proofs.Common.{◌≡◌, ◌≢◌, ℕ, ℤ, inl, List, [], ◌∷◌, ◌++◌, subst}
 use Rattle.std.specs.List.{Contains, filter}
 use Rattle.models.specs.declared.operation.Op.{Op}
 use Rattle.models.specs.declared.finding.Answer.{Answer}
-use Rattle.models.specs.declared.finding.Answer.TheVariants.{Number}
 use Rattle.events.specs.Events.{Mark}
 use Rattle.events.specs.Events.Mark.{Invoked, Returned, Failed}
-use Rattle.linspec.specs.Operations.{Precedes}
-use Rattle.linspec.specs.Orders.{Pairwise}
 use Rattle.linspec.specs.MarkRule.{AreWellFormed}
 use Rattle.linspec.proofs.Filters.{from_filter, to_filter, Pairwise-filter}
-use Rattle.queue_pairs.specs.Pairs.{HasDequeued, IsOwedTo, MayDequeue, AreTakers, MayFail}
+use Rattle.queue_pairs.specs.Pairs.{IsOwedTo, MayDequeue, AreTakers, MayFail}
 use Rattle.wide_fifo_queue.specs.declared.known.Call.TheVariants as calls
 use Rattle.wide_fifo_queue.specs.declared.known.Pending.{Pending}
-use Rattle.wide_fifo_queue.specs.declared.known.Owed.{Owed}
 use Rattle.wide_fifo_queue.specs.Facts.{StandsAt, IsServed, AreMoments, Facts, AreFacts, is_other_moment}
-use Rattle.wide_fifo_queue.proofs.Moments.{invoked_at_once, stands_once, stands_on, stands_contains}
+use Rattle.wide_fifo_queue.proofs.Moments.{invoked_at_once, stands_once, stands_on}
 use Rattle.wide_fifo_queue.proofs.Serving.{IsLess}
 use Rattle.wide_fifo_queue.proofs.Takers.{AreMomentsOf}
 use Rattle.wide_fifo_queue.proofs.Knowing.{owed_has, owed_is}
-use Rattle.wide_fifo_queue.proofs.Calls.{enqueue_no_dequeue, no_enqueue_of_call}
-use Rattle.wide_fifo_queue.proofs.Carrying.{not_same, is_not_same, may_dequeue_is, may_dequeue_was}
+use Rattle.wide_fifo_queue.proofs.Calls.{no_enqueue_of_call}
+use Rattle.wide_fifo_queue.proofs.Carrying.{not_same, is_not_same, may_dequeue_is}
 use Rattle.wide_fifo_queue.proofs.Owing.{Taking, AreDue, served_taking, taking_served}
 
 module _ (f : Facts) (ms : List Mark) (facts : AreFacts f ms) (p : Pending) (h : Contains f.pending p) where

@@ -1,7 +1,6 @@
 -- the facts after an ok
 use Rattle.std.proofs.Common.{◌≡◌, ◌≢◌, ◌↔◌, ℕ, ◌<◌, ◌≤◌, ℤ, ◌⊎◌, inl, inr, ⊎_elim, Option, Some, None, List, [], ◌∷◌, ◌++◌, length, refl, sym, ap, ◌∙◌, subst, arith}
 use Rattle.std.specs.List.{Contains, filter}
-use Rattle.std.proofs.lemmas.Bool.{cases_lt}
 use Rattle.std.proofs.lemmas.List.Elements.{Contains-append_left, Contains-append_right, Contains-append_cases, Contains-push, Contains-push_cases}
 use Rattle.models.specs.declared.operation.Op.{Op}
 use Rattle.models.specs.declared.operation.Part.TheVariants.{Int}
@@ -9,12 +8,12 @@ use Rattle.models.specs.declared.finding.Answer.{Answer}
 use Rattle.models.specs.declared.finding.Answer.TheVariants.{Number}
 use Rattle.events.specs.Events.{Mark}
 use Rattle.events.specs.Events.Mark.{Invoked, Returned, Failed}
-use Rattle.linspec.specs.Operations.{IsInvoked, IsOpen, HasReturned}
+use Rattle.linspec.specs.Operations.{IsInvoked}
 use Rattle.linspec.specs.MarkRule.{AreWellFormed}
 use Rattle.linspec.specs.Orders.{Pairwise}
 use Rattle.linspec.proofs.Lists.{Contains-nil, Contains-cons_cases, Pairwise-append, Pairwise-right}
 use Rattle.linspec.proofs.Filters.{from_map}
-use Rattle.queue_pairs.specs.Pairs.{IsEnqueueOf, MayEnqueue, Dequeues, HasDequeued, MayDequeue, IsPaired, MayTake}
+use Rattle.queue_pairs.specs.Pairs.{IsEnqueueOf, HasDequeued, MayDequeue, IsPaired, MayTake}
 use Rattle.wide_fifo_queue.specs.declared.known.Call.TheVariants as calls
 use Rattle.wide_fifo_queue.specs.declared.known.Pending.{Pending}
 use Rattle.wide_fifo_queue.specs.declared.known.Enqueued.{Enqueued}
@@ -22,13 +21,13 @@ use Rattle.wide_fifo_queue.specs.declared.known.Waiting.{Waiting}
 use Rattle.wide_fifo_queue.specs.declared.known.Owed.{Owed}
 use Rattle.wide_fifo_queue.specs.Facts.{StandsAt, IsEntry, IsTakenAt, IsByValue, AreEntries, Waits, IsPassed, AreWaiting, AreOwed, IsAmong, AreMoments, IsServed, Facts, AreFacts, later, is_other, owed_by}
 use Rattle.wide_fifo_queue.specs.Queries.{IsDueOf, IsInTime}
-use Rattle.wide_fifo_queue.proofs.Moments.{stands_contains, stands_below, stands_last}
+use Rattle.wide_fifo_queue.proofs.Moments.{stands_below, stands_last}
 use Rattle.queue_pairs.proofs.Once.{one_op}
 use Rattle.wide_fifo_queue.proofs.Laws.{ok_of_enqueue, ok_of_dequeue}
 use Rattle.wide_fifo_queue.proofs.Calls.{no_both, op_of, dequeue_of_call, no_enqueue_of_call}
-use Rattle.wide_fifo_queue.proofs.Carrying.{one_more, may_enqueue_was, entry_is, dequeued_is, dequeued_was, taken_is, may_dequeue_is, may_dequeue_was, waits_is, waits_was, kept, kept_at, pending_without}
-use Rattle.wide_fifo_queue.proofs.Knowing.{same_value, one_entry, is_entry, none_or_some}
-use Rattle.wide_fifo_queue.proofs.Serving.{IsInTurn, same_int_or_not}
+use Rattle.wide_fifo_queue.proofs.Carrying.{one_more, may_enqueue_was, entry_is, dequeued_was, taken_is, may_dequeue_is, may_dequeue_was, waits_is, waits_was, kept, kept_at, pending_without}
+use Rattle.wide_fifo_queue.proofs.Knowing.{same_value, one_entry, is_entry}
+use Rattle.wide_fifo_queue.proofs.Serving.{same_int_or_not}
 use Rattle.wide_fifo_queue.proofs.Leaving.{others, others_after}
 use Rattle.wide_fifo_queue.proofs.Dequeuing as deq
 

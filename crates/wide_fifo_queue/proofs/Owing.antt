@@ -1,17 +1,16 @@
 -- owed values are served exactly if operations that may take them do so in time
-use Rattle.std.proofs.Common.{◌≡◌, ◌≢◌, ℕ, ◌<◌, ◌≤◌, ℤ, ◌⊎◌, inl, inr, ⊎_elim, List, length, refl, sym, ap, ◌∙◌, subst, arith}
+use Rattle.std.proofs.Common.{◌≡◌, ℕ, ◌<◌, ◌≤◌, ℤ, ◌⊎◌, ⊎_elim, List, length, sym, ap, ◌∙◌, subst, arith}
 use Rattle.std.specs.List.{Contains}
-use Rattle.models.specs.declared.operation.Op.{Op}
 use Rattle.models.specs.declared.finding.Answer.TheVariants.{Number}
 use Rattle.events.specs.Events.{Mark}
 use Rattle.events.specs.Events.Mark.{Invoked, Returned}
 use Rattle.linspec.specs.Operations.{Precedes}
 use Rattle.linspec.specs.Orders.{Pairwise}
 use Rattle.linspec.specs.MarkRule.{AreWellFormed}
-use Rattle.queue_pairs.specs.Pairs.{HasDequeued, IsOwedTo, MayDequeue}
+use Rattle.queue_pairs.specs.Pairs.{IsOwedTo}
 use Rattle.wide_fifo_queue.specs.declared.known.Owed.{Owed}
 use Rattle.wide_fifo_queue.specs.Facts.{StandsAt, IsServed}
-use Rattle.wide_fifo_queue.proofs.Moments.{stands_of, stands_below, not_precedes, no_later}
+use Rattle.wide_fifo_queue.proofs.Moments.{stands_below, not_precedes, no_later}
 use Rattle.wide_fifo_queue.proofs.Serving.{IsInTurn}
 use Rattle.wide_fifo_queue.proofs.Takers.{Take, AreMomentsOf, served_take, take_served}
 

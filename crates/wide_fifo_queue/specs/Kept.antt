@@ -1,12 +1,10 @@
 -- Invariant: the histories that what is known stands for
-use Rattle.std.specs.Prelude.{◌≡◌, ◌≢◌, ℕ, ℤ, Option, Some, None, List, [], ◌∷◌, ◌++◌}
-use Rattle.std.specs.List.{Contains}
+use Rattle.std.specs.Prelude.{◌≡◌, Option, Some, None, List, [], ◌∷◌, ◌++◌}
 use Rattle.models.specs.Objects.{fifo_queue}
 use Rattle.events.specs.Events.{Mark}
 use Rattle.linspec.specs.MarkRule.{MayFollow, AreWellFormed}
 use Rattle.linspec.specs.Orders.{IsLinearizable}
 use Rattle.wide_fifo_queue.specs.declared.known.Known.{Known}
-use Rattle.wide_fifo_queue.specs.declared.known.Pending.{Pending}
 use Rattle.wide_fifo_queue.specs.Facts.{Facts, AreFacts, facts_of}
 
 -- the history is linearizable no longer

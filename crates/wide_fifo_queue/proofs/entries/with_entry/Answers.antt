@@ -1,6 +1,5 @@
 use Rattle.std.proofs.Common.{◌≡◌, ◌≢◌, ◌↔◌, ℤ, ◌⊎◌, ◌∷◌, ◌++◌, take, drop, sym, subst, rules, to_z, of_z, w64}
 use Rattle.std.specs.List.{Contains}
-use Rattle.wide_fifo_queue.specs.declared.known.Enqueued.{Enqueued}
 use Rattle.wide_fifo_queue.specs.Facts.{IsByValue}
 use Rattle.wide_fifo_queue.proofs.Places.{ordered_with, has_with}
 use Rattle.wide_fifo_queue.proofs.entries.with_entry.Goals as goal

@@ -1,7 +1,6 @@
-use Rattle.std.proofs.Common.{◌≡◌, ◌≢◌, ◌↔◌, ℕ, suc, ◌+◌, ℤ, ◌⊎◌, ⊎_elim, ◌∷◌, ◌++◌, take, drop, sym, ap, ◌∙◌, subst, arith, rules, to_z, of_z, w64}
+use Rattle.std.proofs.Common.{◌≡◌, ◌≢◌, ◌↔◌, suc, ◌+◌, ℤ, ⊎_elim, ◌++◌, take, drop, sym, ap, ◌∙◌, subst, arith, rules, to_z, of_z, w64}
 use Rattle.std.specs.List.{Contains}
 use Rattle.std.proofs.lemmas.List.{take-append-drop}
-use Rattle.wide_fifo_queue.specs.declared.known.Enqueued.{Enqueued}
 use Rattle.wide_fifo_queue.specs.Facts.{IsByValue}
 use Rattle.wide_fifo_queue.proofs.Places.{ordered_without, has_without}
 use Rattle.wide_fifo_queue.proofs.entries.without_entry.Goals as goal

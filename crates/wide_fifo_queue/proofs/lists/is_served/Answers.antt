@@ -1,6 +1,6 @@
 use Rattle.std.proofs.Common.{◌<◌, ◌≤◌, length, sym, arith}
 use Rattle.std.proofs.lemmas.Bool.{true≢false}
-use Rattle.wide_fifo_queue.proofs.Serving.{served_no_longer, served_next, not_served_here, served_at_end}
+use Rattle.wide_fifo_queue.proofs.Serving.{served_no_longer}
 use Rattle.wide_fifo_queue.proofs.lists.is_served.Goals as goal
 
 pub returns-then-owed-takers : goal.returns-then-owed-takers

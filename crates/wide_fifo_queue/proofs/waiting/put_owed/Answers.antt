@@ -1,4 +1,4 @@
-use Rattle.std.proofs.Common.{◌≡◌, ◌<◌, ◌≤◌, List, [], ◌∷◌, ◌++◌, length, map, take, sym, ap, ◌∙◌, append_assoc, arith, rules, to_z, of_z, w64}
+use Rattle.std.proofs.Common.{◌≡◌, ◌<◌, List, [], ◌∷◌, ◌++◌, length, map, take, sym, ap, ◌∙◌, append_assoc, arith, rules, to_z, of_z, w64}
 use Rattle.wide_fifo_queue.specs.declared.known.Waiting.{Waiting}
 use Rattle.wide_fifo_queue.specs.declared.known.Owed.{Owed}
 use Rattle.wide_fifo_queue.specs.Facts.{owed_by}

@@ -1,6 +1,5 @@
-use Rattle.std.proofs.Common.{◌≡◌, ◌<◌, ◌≤◌, length, drop, ap, ◌∙◌, rules, arith, length-drop}
+use Rattle.std.proofs.Common.{◌≡◌, length, drop, ap, ◌∙◌, rules, arith, length-drop}
 use Rattle.std.proofs.lemmas.List.{drop-drop}
-use Rattle.wide_fifo_queue.specs.declared.known.Waiting.{Waiting}
 use Rattle.wide_fifo_queue.proofs.waiting.without_passed.Goals as goal
 
 pub without-requires : goal.without-requires

@@ -1,10 +1,10 @@
-use Rattle.std.proofs.Common.{◌≡◌, ◌≢◌, Some, None, List, [], ◌∷◌, ◌++◌, IsTrue, refl, sym, ◌∙◌, subst}
+use Rattle.std.proofs.Common.{◌≡◌, Some, None, [], ◌∷◌, ◌++◌, refl, sym, ◌∙◌, subst}
 use Rattle.events.specs.Events.{Mark}
 use Rattle.judging.specs.Meaning.{IsAnswer, mark_by}
-use Rattle.wide_fifo_queue.specs.Facts.{Facts, AreFacts, facts_of}
+use Rattle.wide_fifo_queue.specs.Facts.{AreFacts, facts_of}
 use Rattle.wide_fifo_queue.specs.Kept.{Stands}
 use Rattle.wide_fifo_queue.specs.Counted.{counts_more, the_object}
-use Rattle.wide_fifo_queue.specs.Judges.{kills, is_an_ok}
+use Rattle.wide_fifo_queue.specs.Judges.{kills}
 use Rattle.wide_fifo_queue.specs.Views.{view_of}
 use Rattle.wide_fifo_queue.proofs.Judging.{still_dead, answer_of_dead, answer_of_alive, answer_of_twins, return_of_ok, never_over, never_over_dead, no_step}
 use Rattle.wide_fifo_queue.proofs.judged.WideFifoQueue.prepare.Goals as goal

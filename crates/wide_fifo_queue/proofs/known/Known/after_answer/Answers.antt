@@ -1,16 +1,13 @@
-use Rattle.std.proofs.Common.{◌≡◌, Some, None, List, [], ◌∷◌, ◌++◌, refl, sym, ap, ◌∙◌, subst, to_z, of_z, w64}
-use Rattle.std.specs.List.{Contains}
+use Rattle.std.proofs.Common.{◌≡◌, None, List, [], ◌∷◌, ◌++◌, sym, ◌∙◌, subst, to_z, of_z, w64}
 use Rattle.std.proofs.lemmas.Bool.{true≢false}
 use Rattle.std.proofs.lemmas.Int.{to_z-of_z}
 use Rattle.events.specs.Events.Mark.{Returned}
 use Rattle.linspec.specs.MarkRule.{MayFollow}
 use Rattle.models.specs.declared.finding.Answer.TheVariants.{Number}
-use Rattle.wide_fifo_queue.specs.declared.known.Pending.{Pending}
-use Rattle.wide_fifo_queue.specs.declared.known.Enqueued.{Enqueued}
 use Rattle.wide_fifo_queue.specs.declared.known.Owed.{Owed}
 use Rattle.wide_fifo_queue.specs.Kept.{IsAfter, Stands}
-use Rattle.wide_fifo_queue.specs.Facts.{Facts, AreFacts, IsByValue, facts_of}
-use Rattle.wide_fifo_queue.specs.Queries.{IsDueOf, IsInTime}
+use Rattle.wide_fifo_queue.specs.Facts.{facts_of}
+use Rattle.wide_fifo_queue.specs.Queries.{IsDueOf}
 use Rattle.wide_fifo_queue.proofs.After.{take_of_none, take_of_taken, take_after}
 use Rattle.wide_fifo_queue.proofs.known.Known.after_answer.Goals as goal
 

@@ -1,6 +1,5 @@
-use Rattle.std.proofs.Common.{◌≡◌, List, [], ◌∷◌, ◌++◌, sym, ap, ◌∙◌, subst}
+use Rattle.std.proofs.Common.{◌≡◌, [], ◌∷◌, ◌++◌, sym, ap, ◌∙◌, subst}
 use Rattle.events.specs.Events.Mark.{Invoked}
-use Rattle.wide_fifo_queue.specs.declared.known.Pending.{Pending}
 use Rattle.wide_fifo_queue.specs.Facts.{Facts, AreFacts, facts_of}
 use Rattle.wide_fifo_queue.proofs.After.{dequeue_invoked}
 use Rattle.wide_fifo_queue.proofs.Parts.{with_takers}

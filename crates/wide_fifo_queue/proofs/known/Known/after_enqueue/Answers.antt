@@ -1,11 +1,8 @@
-use Rattle.std.proofs.Common.{◌≡◌, None, List, [], ◌∷◌, ◌++◌, sym, ap, ◌∙◌, subst, to_z, of_z, w64}
-use Rattle.std.specs.List.{Contains}
+use Rattle.std.proofs.Common.{◌≡◌, [], ◌∷◌, ◌++◌, sym, ap, ◌∙◌, subst, to_z, of_z, w64}
 use Rattle.std.proofs.lemmas.Int.{to_z-of_z}
 use Rattle.events.specs.Events.Mark.{Invoked}
 use Rattle.wide_fifo_queue.specs.declared.known.Call.TheVariants as calls
-use Rattle.wide_fifo_queue.specs.declared.known.Pending.{Pending}
-use Rattle.wide_fifo_queue.specs.declared.known.Enqueued.{Enqueued}
-use Rattle.wide_fifo_queue.specs.Facts.{Facts, AreFacts, IsByValue, facts_of}
+use Rattle.wide_fifo_queue.specs.Facts.{Facts, AreFacts, facts_of}
 use Rattle.wide_fifo_queue.proofs.After.{entry_by, first_invoked, twin_invoked}
 use Rattle.wide_fifo_queue.proofs.Parts.{with_late, with_entered}
 use Rattle.wide_fifo_queue.proofs.known.Known.after_enqueue.Goals as goal

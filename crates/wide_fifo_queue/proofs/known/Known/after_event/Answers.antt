@@ -1,6 +1,6 @@
 use Rattle.std.proofs.Common.{sym, subst, Some}
 use Rattle.judging.specs.Meaning.{mark_by}
-use Rattle.wide_fifo_queue.specs.Kept.{IsAfter, Stands}
+use Rattle.wide_fifo_queue.specs.Kept.{IsAfter}
 use Rattle.wide_fifo_queue.specs.Facts.{facts_of}
 use Rattle.wide_fifo_queue.proofs.known.Known.after_event.Goals as goal
 

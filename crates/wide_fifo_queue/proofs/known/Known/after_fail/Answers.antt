@@ -2,7 +2,7 @@ use Rattle.std.proofs.Common.{◌≡◌, ◌≢◌, None, List, [], ◌∷◌, �
 use Rattle.std.specs.List.{Contains, filter}
 use Rattle.events.specs.Events.Mark.{Failed}
 use Rattle.wide_fifo_queue.specs.declared.known.Pending.{Pending}
-use Rattle.wide_fifo_queue.specs.Kept.{IsAfter, Stands}
+use Rattle.wide_fifo_queue.specs.Kept.{IsAfter}
 use Rattle.wide_fifo_queue.specs.Facts.{Facts, AreFacts, facts_of, later, is_other}
 use Rattle.wide_fifo_queue.proofs.After.{Becomes, not_pending, other_failed}
 use Rattle.wide_fifo_queue.proofs.Parts.{as_later}

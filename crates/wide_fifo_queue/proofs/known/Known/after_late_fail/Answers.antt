@@ -1,7 +1,6 @@
-use Rattle.std.proofs.Common.{◌≡◌, List, [], ◌∷◌, ◌++◌, sym, ap, ◌∙◌, subst}
+use Rattle.std.proofs.Common.{◌≡◌, [], ◌∷◌, ◌++◌, sym, ap, ◌∙◌, subst}
 use Rattle.std.specs.List.{filter}
 use Rattle.events.specs.Events.Mark.{Failed}
-use Rattle.wide_fifo_queue.specs.declared.known.Pending.{Pending}
 use Rattle.wide_fifo_queue.specs.Facts.{Facts, AreFacts, facts_of, is_other, is_other_enqueue}
 use Rattle.wide_fifo_queue.proofs.After.{late_failed}
 use Rattle.wide_fifo_queue.proofs.Parts.{with_late}

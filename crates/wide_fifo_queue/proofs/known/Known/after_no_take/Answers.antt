@@ -2,7 +2,6 @@ use Rattle.std.proofs.Common.{◌≡◌, ◌↔◌, ℕ, List, [], ◌∷◌, �
 use Rattle.std.specs.List.{filter}
 use Rattle.std.proofs.lemmas.Bool.{true≢false}
 use Rattle.events.specs.Events.Mark.{Failed}
-use Rattle.wide_fifo_queue.specs.declared.known.Pending.{Pending}
 use Rattle.wide_fifo_queue.specs.declared.known.Owed.{Owed}
 use Rattle.wide_fifo_queue.specs.Facts.{IsServed, Facts, AreFacts, facts_of, is_other, is_other_moment}
 use Rattle.wide_fifo_queue.proofs.After.{dequeue_failed, dequeue_kills}

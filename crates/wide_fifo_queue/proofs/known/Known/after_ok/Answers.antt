@@ -1,4 +1,4 @@
-use Rattle.std.proofs.Common.{◌≡◌, ◌≢◌, Some, None, ℤ, List, [], ◌∷◌, ◌++◌, sym, ap, ◌∙◌, subst, rules, to_z, of_z, w64}
+use Rattle.std.proofs.Common.{◌≡◌, ◌≢◌, Some, None, ℤ, List, [], ◌∷◌, ◌++◌, sym, ◌∙◌, subst, rules, to_z, of_z, w64}
 use Rattle.std.specs.List.{Contains}
 use Rattle.events.specs.Events.Mark.{Returned}
 use Rattle.linspec.specs.MarkRule.{MayFollow}
@@ -8,7 +8,6 @@ use Rattle.wide_fifo_queue.specs.declared.known.Call.TheVariants as calls
 use Rattle.wide_fifo_queue.specs.declared.known.Pending.{Pending}
 use Rattle.wide_fifo_queue.specs.Kept.{IsAfter, Stands}
 use Rattle.models.specs.declared.operation.Part.{Part}
-use Rattle.models.specs.declared.operation.Part.TheVariants.{Int}
 use Rattle.wide_fifo_queue.specs.Facts.{facts_of}
 use Rattle.wide_fifo_queue.proofs.Calls.{answer_number}
 use Rattle.wide_fifo_queue.proofs.After.{not_pending, foreign}

@@ -1,9 +1,8 @@
-use Rattle.std.proofs.Common.{◌≡◌, List, [], ◌∷◌, ◌++◌, sym, ap, ◌∙◌, subst, to_z, of_z, w64}
+use Rattle.std.proofs.Common.{◌≡◌, [], ◌∷◌, ◌++◌, sym, ap, ◌∙◌, subst, to_z, of_z, w64}
 use Rattle.std.specs.List.{filter}
 use Rattle.std.proofs.lemmas.Int.{to_z-of_z}
 use Rattle.events.specs.Events.Mark.{Returned}
 use Rattle.wide_fifo_queue.specs.declared.known.Call.TheVariants as calls
-use Rattle.wide_fifo_queue.specs.declared.known.Pending.{Pending}
 use Rattle.wide_fifo_queue.specs.declared.known.Waiting.{Waiting}
 use Rattle.wide_fifo_queue.specs.Facts.{Facts, AreFacts, facts_of, is_other}
 use Rattle.wide_fifo_queue.proofs.After.{put_out, put_waiting, put_entered}

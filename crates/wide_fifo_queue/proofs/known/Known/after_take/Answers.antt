@@ -3,7 +3,6 @@ use Rattle.std.specs.List.{Contains, filter}
 use Rattle.std.proofs.lemmas.Bool.{true≢false}
 use Rattle.events.specs.Events.Mark.{Returned}
 use Rattle.models.specs.declared.finding.Answer.TheVariants.{Number}
-use Rattle.wide_fifo_queue.specs.declared.known.Pending.{Pending}
 use Rattle.wide_fifo_queue.specs.declared.known.Enqueued.{Enqueued}
 use Rattle.wide_fifo_queue.specs.declared.known.Owed.{Owed}
 use Rattle.wide_fifo_queue.specs.Facts.{IsByValue, IsServed, Facts, AreFacts, facts_of, is_other, is_other_moment, is_other_value, owed_by}

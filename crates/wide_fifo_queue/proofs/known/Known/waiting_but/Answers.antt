@@ -1,4 +1,4 @@
-use Rattle.std.proofs.Common.{sym, subst, to_z, of_z, w64, ◌≡◌, None}
+use Rattle.std.proofs.Common.{sym, subst, to_z, of_z, w64, ◌≡◌}
 use Rattle.std.proofs.lemmas.Int.{to_z-of_z}
 use Rattle.wide_fifo_queue.specs.Queries.{IsWithoutFirst, IsWaitingBut}
 use Rattle.wide_fifo_queue.proofs.known.Known.waiting_but.Goals as goal
