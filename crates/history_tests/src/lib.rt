@@ -1,5 +1,5 @@
-//! Worked rows of texts, sequential objects, histories, orders of histories, wide sets, wide registers, and wide unordered queues. Each
-//! answer is compared with one that follows from the grammar, the tables and the definitions by hand. It has tests alone.
+//! Worked rows of texts, sequential objects, histories, orders of histories, wide sets, wide registers, and wide queues. Each answer is
+//! compared with one that follows from the grammar, the tables and the definitions by hand. It has tests alone.
 #![tactic(auto)]
 
 #[cfg(test)]
@@ -10,6 +10,8 @@ mod histories;
 mod objects;
 #[cfg(test)]
 mod orders;
+#[cfg(test)]
+mod queues;
 #[cfg(test)]
 mod registers;
 #[cfg(test)]

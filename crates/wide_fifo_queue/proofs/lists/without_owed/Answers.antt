@@ -1,0 +1,8 @@
+use Rattle.std.proofs.Common.{rules, ap, ◌∙◌}
+use Rattle.std.specs.List.{filter}
+use Rattle.std.proofs.lemmas.Fn.{filter_same}
+use Rattle.wide_fifo_queue.specs.Facts.{is_other_value}
+use Rattle.wide_fifo_queue.proofs.lists.without_owed.Goals as goal
+
+pub returns : goal.returns
+returns c = filter_same _ _ _ (λ x b f' k. search rules) _ _ c.retain.ensures.filtered ∙ ap (filter (is_other_value c.args.value)) c.in_ok-others.ensures.items

@@ -1,0 +1,34 @@
+-- Invariant: what is asked of the facts
+use Rattle.std.specs.Prelude.{◌≡◌, ◌≢◌, ℕ, ◌+◌, ◌<◌, ◌≤◌, ℤ, ◌⊎◌, Option, Some, None, List, get_or, length}
+use Rattle.std.specs.List.{Contains, remove}
+use Rattle.wide_fifo_queue.specs.declared.known.Enqueued.{Enqueued}
+use Rattle.wide_fifo_queue.specs.declared.known.Waiting.{Waiting}
+use Rattle.wide_fifo_queue.specs.declared.known.Owed.{Owed}
+
+-- the place behind the enqueue of the value, where that has this place, or else this place
+abbrev pub IsEndOf : List Enqueued → ℕ → ℤ → ℕ → Type 0
+IsEndOf entered at v to =
+    ((to ≡ at + 1) × (at < length entered) × ((e : Enqueued) → e ≡ get_or entered at e → e.value ≡ v))
+    ⊎ ((to ≡ at) × ((e : Enqueued) → at < length entered → e ≡ get_or entered at e → e.value ≢ v))
+
+-- the values but the first of this value, if there is one
+abbrev pub IsWithoutFirst : List Waiting → ℤ → List Waiting → Type 0
+IsWithoutFirst waiting v others =
+    ((at : ℕ) × (at < length waiting) × ((w : Waiting) → w ≡ get_or waiting at w → w.value ≡ v)
+    × (others ≡ remove waiting at))
+    ⊎ ((others ≡ waiting) × ((w : Waiting) → Contains waiting w → w.value ≢ v))
+
+-- the owed value, if it is one
+abbrev pub IsDueOf : List Owed → ℤ → Option Owed → Type 0
+IsDueOf owed v None = (o : Owed) → Contains owed o → o.value ≢ v
+IsDueOf owed v (Some o) = Contains owed o × (o.value ≡ v)
+
+-- invoked by the deadline, if there is one
+abbrev pub IsInTime : ℕ → Option Owed → Type 0
+IsInTime since None = Unit {0}
+IsInTime since (Some o) = since ≤ o.deadline
+
+-- the values that wait but this one, which does not wait where it is owed
+abbrev pub IsWaitingBut : List Waiting → ℤ → Option Owed → List Waiting → Type 0
+IsWaitingBut waiting v None others = IsWithoutFirst waiting v others
+IsWaitingBut waiting v (Some o) others = others ≡ waiting

@@ -1,0 +1,14 @@
+//! Fifo queues that are judged by what was dequeued, live: a history of a queue whose values differ is linearizable exactly if it is paired
+//! (`queue_pairs`). The order of enqueues that overlap is never chosen, so an event costs no more for many clients.
+//!
+//! A call takes memory only where its result can be `AllocError`.
+#![tactic(auto)]
+
+pub mod entries;
+pub mod judged;
+pub mod known;
+pub mod lists;
+pub mod next;
+pub mod waiting;
+
+pub use judged::WideFifoQueue;
