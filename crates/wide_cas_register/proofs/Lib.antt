@@ -1,0 +1,13 @@
+pub mod Loops
+pub mod Ends
+pub mod Moves
+pub mod Lists
+pub mod Others
+pub mod Reading
+pub mod Pending
+pub mod AtMost
+pub mod Retained
+pub mod Finding
+pub mod Keeping
+pub mod Copies
+pub mod Fronting
