@@ -50,8 +50,15 @@ module _ (marks : List Mark) (well : AreWellFormed marks) (calls : List Call) (a
   step_by c h (Sets a b) q f next left can steps = (
     c.id,
     inl (
-      ((λ n. can.0 (needed_from calls f.row c.id n)), (a, b, is_cas marks well calls are f.row left c a b h q,
-      is_set_behind marks well calls are f.row left c.id b next.row a can.1 steps.0 (no_door c a b h q))),
+      (
+        (λ n. can.0 (needed_from calls f.row c.id n)),
+        (
+          a,
+          b,
+          is_cas marks well calls are f.row left c a b h q,
+          is_set_behind marks well calls are f.row left c.id b next.row a can.1 steps.0 (no_door c a b h q),
+        ),
+      ),
       steps.1,
     ),
   )
@@ -133,9 +140,11 @@ module _ (marks : List Mark) (well : AreWellFormed marks) (calls : List Call) (a
         let is : front_of calls m.0 ≡ g = c.3 m.0 m.1 in
         let q = m.2 in
         let left_m : Left m.0 = left_next d.0 (front_of calls m.0) (left d.0 d.1) (step_is c.0 d.0 m.0 c.1 (left d.0 d.1) m.1) in
-        let there_is : map (front_of calls) (there ++ next) ≡ ends there ++ ends next = map-append (front_of calls) there next in
-        (front_of calls q.0, subst (λ xs. Contains xs (front_of calls q.0)) there_is (map_to (front_of calls) (there ++ next) q.0 q.1),
-        subst (λ x. IsLess marks x (front_of calls q.0)) is (less_is m.0 q.0 left_m q.2)));
+        let there_is : map (front_of calls) (there ++ next) ≡ ends there ++ ends next = map-append (front_of calls) there next in (
+          front_of calls q.0,
+          subst (λ xs. Contains xs (front_of calls q.0)) there_is (map_to (front_of calls) (there ++ next) q.0 q.1),
+          subst (λ x. IsLess marks x (front_of calls q.0)) is (less_is m.0 q.0 left_m q.2),
+        ));
     apart = Pairwise-map (front_of calls) (λ e f. (¬ IsLess marks e f) × (¬ IsLess marks f e)) next
         (Pairwise-weaker (λ x y. (¬ IsLessBy calls x y) × (¬ IsLessBy calls y x)) (λ x y. (¬ IsLess marks (front_of calls x) (front_of calls y)) × (¬ IsLess marks (front_of calls y) (front_of calls x))) next
         (λ x y h j n. ((λ p. n.0 (less_of x y p)), (λ p. n.1 (less_of y x p))))

@@ -177,7 +177,6 @@ module _ (marks : List Mark) (calls : List Call) (are : AreCalls calls marks) wh
       not_returned = λ r. ⊎_elim (λ k. w.not_returned (r.0, k)) (λ e. cc) (Contains-push_cases marks (Invoked id op) _ r.1);
       not_failed = λ f. ⊎_elim w.not_failed (λ e. cc) (Contains-push_cases marks (Invoked id op) _ f);
     }
-
     begun_is i (Sets a b) w = record {
       cas = (w.cas.0, Contains-append_left marks (Invoked id op ∷ []) _ w.cas.1, w.cas.2);
       not_returned = λ r. ⊎_elim (λ k. w.not_returned (r.0, k)) (λ e. cc) (Contains-push_cases marks (Invoked id op) _ r.1);
@@ -194,7 +193,6 @@ module _ (marks : List Mark) (calls : List Call) (are : AreCalls calls marks) wh
       not_returned = λ r. w.not_returned (r.0, Contains-append_left marks (Invoked id op ∷ []) _ r.1);
       not_failed = λ f. w.not_failed (Contains-append_left marks (Invoked id op ∷ []) _ f);
     }
-
     begun_was i (Sets a b) ne w = record {
       cas = (w.cas.0, invoked_was i w.cas.0 ne w.cas.1, w.cas.2);
       not_returned = λ r. w.not_returned (r.0, Contains-append_left marks (Invoked id op ∷ []) _ r.1);
@@ -214,7 +212,6 @@ module _ (marks : List Mark) (calls : List Call) (are : AreCalls calls marks) wh
     new_call (Writes v) e =
         let o = new_is_open marks id op new in
         record { write = (op, Contains-push marks _, writes_by op.name op.part v e); not_returned = o.not_returned; not_failed = o.not_failed }
-
     new_call (Sets a b) e =
         let o = new_is_open marks id op new in
         record { cas = (op, Contains-push marks _, sets_by op.name op.part a b e); not_returned = o.not_returned; not_failed = o.not_failed }

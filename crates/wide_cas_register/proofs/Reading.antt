@@ -17,4 +17,3 @@ reads_by _ _ e = cc
 
 pub by_reads : (op : Op) → ReadsBy op → what_by op.name op.part ≡ Some Reads
 by_reads op r = ap (λ n. what_by n op.part) r.0 ∙ ap (what_by Read) r.1
-

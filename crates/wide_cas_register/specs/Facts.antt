@@ -212,6 +212,36 @@ OfFront calls now (EndsRead r v) f new = (f.row.state ≡ Some v) × IsWithoutId
 OfFront calls now (EndsNil id) f new = IsWithoutId id f.row new
 OfFront calls now _ f new = ⊥
 
+-- all that the deed makes of a row is made, and P holds of it
+abbrev pub AllOfRow : List Call → Deed → Row → (Row → Type 0) → Type 0
+AllOfRow calls Keeps row P = (new : Row) × IsSame row new × P new
+AllOfRow calls (Begins id) row P = (new : Row) × IsBegun id row new × P new
+AllOfRow calls (Leaves id) row P = (new : Row) × IsWithoutId id row new × P new
+AllOfRow calls (Fails id) row P =
+    (¬ Contains row.needed.items id) → (new : Row) × IsWithoutId id row new × P new
+AllOfRow calls (EndsWrite w v) row P =
+    (Contains row.needed.items w.id → (new : Row) × IsWithoutId w.id row new × P new)
+    × ((¬ Contains row.needed.items w.id) → HasDoor row w → (new : Row) × IsPutBefore calls w v w.id row new × P new)
+AllOfRow calls (EndsCas c a b) row P =
+    Contains row.needed.items c.id → (new : Row) × IsWithoutId c.id row new × P new
+AllOfRow calls (EndsRead r v) row P =
+    (Contains row.finds.items (found_by r v) → (new : Row) × IsWithoutId r.id row new × P new)
+    × ((¬ Contains row.finds.items (found_by r v)) → HasDoor row r → (c : Call) → Contains calls c → IsFree row v c
+    → (new : Row) × IsPutBefore calls c v r.id row new × P new)
+AllOfRow calls (EndsNil id) row P = Unit {0}
+AllOfRow calls Dies row P = Unit {0}
+
+-- so is what it makes of a front
+abbrev pub AllOfFront : List Call → ℕ → Deed → Front → (Row → Type 0) → Type 0
+AllOfFront calls now (EndsWrite w v) f P =
+    CanStep f w w.what → (new : Row) × IsDoneBy calls now w f new × P new
+AllOfFront calls now (EndsCas c a b) f P =
+    CanStep f c c.what → (new : Row) × IsDoneBy calls now c f new × P new
+AllOfFront calls now (EndsRead r v) f P =
+    f.row.state ≡ Some v → (new : Row) × IsWithoutId r.id f.row new × P new
+AllOfFront calls now (EndsNil id) f P = (new : Row) × IsWithoutId id f.row new × P new
+AllOfFront calls now _ f P = Unit {0}
+
 abbrev pub is_read : What → Bool
 is_read Reads = true
 is_read (Writes v) = false

@@ -9,11 +9,10 @@ use Rattle.wide_cas_register.specs.declared.fronts.Front.{Front}
 use Rattle.wide_cas_register.specs.declared.next.Deed.{Deed}
 use Rattle.events.specs.declared.event.EventKind.{EventKind}
 use Rattle.events.specs.declared.event.EventKind.TheVariants.{Ok}
-use Rattle.wide_cas_register.specs.declared.row.Found.{Found}
 use Rattle.wide_cas_register.specs.declared.fronts.Reached.{Reached}
 use Rattle.wide_cas_register.specs.declared.fronts.Reached.TheVariants.{All, Over}
 use Rattle.wide_cas_register.specs.declared.kept.Kept.{Kept}
-use Rattle.wide_cas_register.specs.Facts.{AreApart, CanStep, IsAtMostBy, IsDeed, IsKeptIn, IsSame, IsStepBy, OfFront, OfRow, calls_after}
+use Rattle.wide_cas_register.specs.Facts.{AreApart, CanStep, IsAtMostBy, IsDeed, IsKeptIn, IsSame, IsStepBy, AllOfFront, AllOfRow, OfFront, OfRow, calls_after}
 
 -- the other front may become all that this one may
 abbrev pub IsLessBy : List Call → Front → Front → Type 0
@@ -85,16 +84,6 @@ IsReachedBy Ok calls now rows budget reached = IsReached calls now rows budget r
 IsReachedBy _ calls now rows budget (All fronts) = fronts.items ≡ []
 IsReachedBy _ calls now rows budget (Over tried) = ⊥
 
--- this one is among these, but for the order of what it needs and finds
-pub record IsAlike (row new : Row) : Type 0 where
-  pub state : new.state ≡ row.state
-  pub needed : (i : ℕ) → Contains new.needed.items i ↔ Contains row.needed.items i
-  pub door : new.door ≡ row.door
-  pub finds : (f : Found) → Contains new.finds.items f ↔ Contains row.finds.items f
-
-abbrev pub HasAlike : List Row → Row → Type 0
-HasAlike made row = (new : Row) × Contains made new × IsAlike row new
-
 -- the mark makes the second of the first, and these are the fronts that it meets
 pub record IsAfter (m : Mark) (fronts : List Front) (k new : Kept) : Type 0 where
   pub moment : new.moment ≡ k.moment + 1
@@ -102,5 +91,8 @@ pub record IsAfter (m : Mark) (fronts : List Front) (k new : Kept) : Type 0 wher
   pub deed : Deed
   pub is_deed : IsDeed k.calls.items m deed
   pub each : (r : Row) → Contains new.rows.items r → IsMade k.calls.items k.moment deed k.rows.items fronts r
-  pub all : (r : Row) → IsMade k.calls.items k.moment deed k.rows.items fronts r → IsKeptIn new.calls.items new.rows.items r
+  pub all_rows : (row : Row) → Contains k.rows.items row
+      → AllOfRow k.calls.items deed row (IsKeptIn new.calls.items new.rows.items)
+  pub all_fronts : (f : Front) → Contains fronts f
+      → AllOfFront k.calls.items k.moment deed f (IsKeptIn new.calls.items new.rows.items)
   pub apart : AreApart new.calls.items new.rows.items

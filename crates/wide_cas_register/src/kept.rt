@@ -2,10 +2,11 @@
 ghost use Rattle.std.specs.Prelude.{◌≡◌, ◌≢◌, ◌↔◌, ◌⊎◌, ◌+◌, [], List, map, IfOk, IsTrue, OnOk};
 ghost use Rattle.std.specs.List.{Contains, filter};
 ghost use Rattle.events.specs.Events.{act_by, mark_by_act};
-ghost use Rattle.wide_cas_register.specs.Facts.{AreApart, AreFacts, AreSame, IsKeptIn};
+ghost use Rattle.wide_cas_register.specs.Facts.{AllOfFront, AllOfRow, AreApart, AreFacts, AreSame, IsKeptIn};
 ghost use Rattle.wide_cas_register.specs.Fronts.{IsAfter, IsMade, IsReachedBy};
 ghost use Rattle.wide_cas_register.specs.Facts.{calls_after, calls_with, crashed, is_other, outlives, what_by};
 ghost use Rattle.wide_cas_register.specs.declared.row.Row.{Row};
+ghost use Rattle.wide_cas_register.specs.declared.fronts.Front.{Front};
 
 use crate::calls::{Call, What, what_of};
 use crate::fronts::{Front, Reached, fronts_of};
@@ -157,8 +158,10 @@ impl Kept {
     ) -> Result<Vec<Row>, AllocError>
         ensures each { IfOk result (λ left. (r : Row) → Contains left.items r
             → IsMade self.now.calls.items self.now.moment deed.now self.now.rows.items fronts.now r) }
-        ensures all { IfOk result (λ left. (r : Row) → IsMade self.now.calls.items self.now.moment deed.now self.now.rows.items fronts.now r
-            → IsKeptIn later.now left.items r) }
+        ensures all_rows { IfOk result (λ left. (row : Row) → Contains self.now.rows.items row
+            → AllOfRow self.now.calls.items deed.now row (IsKeptIn later.now left.items)) }
+        ensures all_fronts { IfOk result (λ left. (f : Front) → Contains fronts.now f
+            → AllOfFront self.now.calls.items self.now.moment deed.now f (IsKeptIn later.now left.items)) }
         ensures apart { IfOk result (λ left. AreApart later.now left.items) }
     {
         let mut left = Vec::new(alloc);

@@ -4,8 +4,7 @@ ghost use Rattle.std.specs.List.{Contains};
 ghost use Rattle.models.specs.Objects.{answer_of};
 ghost use Rattle.events.specs.Events.{act_by, mark_by_act};
 ghost use Rattle.events.specs.Events.Mark.{Crashed, Invoked, Returned};
-ghost use Rattle.wide_cas_register.specs.Facts.{HasDoor, IsDeed, IsDeedOfAnswer, IsFree, IsPutBefore, IsWithoutId, OfFront, OfRow};
-ghost use Rattle.wide_cas_register.specs.Fronts.{HasAlike, IsAlike};
+ghost use Rattle.wide_cas_register.specs.Facts.{AllOfFront, AllOfRow, HasDoor, IsDeed, IsDeedOfAnswer, IsFree, IsPutBefore, IsWithoutId, OfFront, OfRow};
 ghost use Rattle.wide_cas_register.specs.declared.row.Row.{Row};
 
 use crate::calls::{Call, What, call_of, what_of};
@@ -208,7 +207,7 @@ pub fn rows_of_row(
     deed: &Deed,
 ) -> Result<Vec<Row>, AllocError>
     ensures each { IfOk result (λ made. (new : Row) → Contains made.items new → OfRow calls.now deed.now row.now new) }
-    ensures all { IfOk result (λ made. (new : Row) → OfRow calls.now deed.now row.now new → HasAlike made.items new) }
+    ensures all { IfOk result (λ made. AllOfRow calls.now deed.now row.now (Contains made.items)) }
 {
     match deed {
         Deed::Keeps => one(alloc, row.copy()?),
@@ -256,8 +255,7 @@ pub fn row_of_front(
     deed: &Deed,
 ) -> Result<Option<Row>, AllocError>
     ensures each { IfOk result (λ (made : Option Row). IfSome made (OfFront calls.now moment deed.now front.now)) }
-    ensures all { IfOk result (λ made. (new : Row) → OfFront calls.now moment deed.now front.now new
-        → (row : Row) × (made ≡ Some row) × IsAlike new row) }
+    ensures all { IfOk result (λ (made : Option Row). AllOfFront calls.now moment deed.now front.now (λ new. made ≡ Some new)) }
 {
     match deed {
         Deed::EndsWrite(call, _) | Deed::EndsCas(call, _, _) => {
