@@ -32,7 +32,7 @@ module _ (marks : List Mark) (well : AreWellFormed marks) (calls : List Call) (a
   Left f = IsLeft marks (end_of calls f.row)
 
   -- of two operations with one id, if one sets a value, so does the other
-  no_door : (c : Call) (a b : ℤ) → Contains calls c → c.what ≡ Sets a b → (d : Call) → Contains calls d → is_set d.what ≡ false → ¬ (d.id ≡ c.id)
+  pub no_door : (c : Call) (a b : ℤ) → Contains calls c → c.what ≡ Sets a b → (d : Call) → Contains calls d → is_set d.what ≡ false → ¬ (d.id ≡ c.id)
   no_door c a b h q d k n e =
       let same : d ≡ c = same_call calls are.once d c k h e in
       true≢false (sym (ap is_set q) ∙ sym (ap (λ (x : Call). is_set x.what) same) ∙ n)
