@@ -1,5 +1,5 @@
 -- a row is at most another one exactly if its end is
-use Rattle.std.proofs.Common.{◌≡◌, ℕ, ◌<◌, ⊎_elim, true, List, refl, sym, ◌∙◌, subst}
+use Rattle.std.proofs.Common.{◌≡◌, ℕ, ◌<◌, ⊎_elim, true, IsTrue, List, refl, sym, ◌∙◌, subst}
 use Rattle.std.specs.List.{Contains}
 use Rattle.events.specs.Events.{Mark}
 use Rattle.linspec.specs.Operations.{IsOpen}
@@ -35,12 +35,12 @@ module _ (marks : List Mark) (calls : List Call) (are : AreCalls calls marks) (r
       (λ k. (let c = are.all i (Sets k.0 k.1) (record { cas = k.2; not_returned = o.not_returned; not_failed = o.not_failed }) in (c.0, c.1, c.2)))
       u
 
-  pub end_at_most : IsLeft marks (end_of calls row) → IsAtMostBy calls row other → IsAtMost marks (end_of calls row) (end_of calls other)
-  end_at_most left a = record {
+  pub end_at_most_by : ((i : ℕ) → IsTrue ((end_of calls row).needed i) → IsUpdate marks i) → IsAtMostBy calls row other → IsAtMost marks (end_of calls row) (end_of calls other)
+  end_at_most_by updates a = record {
     state = a.state;
     needed = λ i h. needed_to calls row i (a.needed i (needed_from calls other i h));
     open_ones = λ i h o.
-        (let c = call_for i o (left.2.needed i h).1 in
+        (let c = call_for i o (updates i h) in
         let same : c.0.id ≡ i = c.2 in
         let n : Contains row.needed.items c.0.id = subst (Contains row.needed.items) (sym same) (needed_from calls row i h) in
         let is_open : c.0.is_open ≡ true = (are.is_open c.0 c.1).1 (subst (IsOpen marks) (sym same) o) in
@@ -49,6 +49,9 @@ module _ (marks : List Mark) (calls : List Call) (are : AreCalls calls marks) (r
         door_to calls other i (k.0, k.1, k.2, ((a.fits k.0 k.1).door k.3, (λ n. k.3.1 (a.needed k.0.id n)), k.3.2)));
     finds = λ r v h. finds_to calls other r v (a.finds (record { read = r; value = v }) (finds_from calls row r v h));
   }
+
+  pub end_at_most : IsLeft marks (end_of calls row) → IsAtMostBy calls row other → IsAtMost marks (end_of calls row) (end_of calls other)
+  end_at_most left a = end_at_most_by (λ i h. (left.2.needed i h).1) a
 
   pub row_at_most : IsAtMost marks (end_of calls row) (end_of calls other) → IsAtMostBy calls row other
   row_at_most a = record {

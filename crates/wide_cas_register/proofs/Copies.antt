@@ -17,7 +17,7 @@ use Rattle.wide_cas_register.specs.declared.row.Found.{Found}
 use Rattle.wide_cas_register.specs.declared.row.Row.{Row}
 use Rattle.wide_cas_register.specs.declared.kept.Kept.{Kept}
 use Rattle.wide_cas_register.specs.Facts.{AreCalls, AreFacts, AreSame, IsCall, IsFirst, IsFoundBy, IsPut, IsSame, IsSet, IsWithoutId, end_of, is_set}
-use Rattle.wide_cas_register.proofs.Lists.{was_in, passes, stays_in}
+use Rattle.wide_cas_register.proofs.Lists.{was_in, passes, stays_in, zip_from}
 
 not_from : (a b : ℕ) → not (nat_eq a b) ≡ true → a ≢ b
 not_from a b h = grind (arith, nat_tests)
@@ -79,15 +79,6 @@ copied_more xs zs ys i x y e h is before s =
 pub copied_all : (xs zs ys : List Row) (i : ℕ) → zs ≡ xs → length zs ≤ i → AllZip IsSame (take i xs) ys → AllZip IsSame xs ys
 copied_all xs zs ys i e h before = subst (λ l. AllZip IsSame l ys) (take_all i xs (subst (λ l. length l ≤ i) e h)) before
 
-zip_from : (xs ys : List Row) → AllZip IsSame xs ys → (y : Row) → Contains ys y → (x : Row) × Contains xs x × IsSame x y
-zip_from [] [] z y h = absurd (Contains-nil y h)
-zip_from [] (b ∷ ys) z y h = absurd z
-zip_from (a ∷ xs) [] z y h = absurd z
-zip_from (a ∷ xs) (b ∷ ys) z y h = ⊎_elim
-    (λ e. (a, Contains-head a xs, subst (IsSame a) e z.0))
-    (λ k. (let r = zip_from xs ys z.1 y k in (r.0, Contains-tail a xs r.0 r.1, r.2)))
-    (Contains-cons_cases b ys y h)
-
 same_back : (x y : Row) → IsSame x y → IsSame y x
 same_back x y s = record { state = sym s.state; needed = sym s.needed; door = sym s.door; finds = sym s.finds }
 
@@ -97,7 +88,7 @@ zip_back [] (b ∷ ys) z = absurd z
 zip_back (a ∷ xs) [] z = absurd z
 zip_back (a ∷ xs) (b ∷ ys) z = (same_back a b z.0, zip_back xs ys z.1)
 
-end_same : (calls : List Call) (x y : Row) → IsSame x y → end_of calls y ≡ end_of calls x
+pub end_same : (calls : List Call) (x y : Row) → IsSame x y → end_of calls y ≡ end_of calls x
 end_same calls x y s = λ t. record {
   state = s.state t;
   needed = λ i. list_any (nat_eq i) (s.needed t);
@@ -116,7 +107,7 @@ facts_same k new s marks f = record {
   well = f.well;
   now = s.moment ∙ f.now;
   calls = subst (λ c. AreCalls c marks) (sym s.calls) f.calls;
-  doors = λ row h. (let r = zip_from k.rows.items new.rows.items s.rows row h in
+  doors = λ row h. (let r = zip_from IsSame k.rows.items new.rows.items s.rows row h in
       let d : r.0.door ≤ k.moment = f.doors r.0 r.1 in
       let e : row.door ≡ r.0.door = r.2.door in
       let m : new.moment ≡ k.moment = s.moment in

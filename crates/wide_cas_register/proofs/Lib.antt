@@ -14,3 +14,5 @@ pub mod Fronting
 pub mod Marks
 pub mod Walked
 pub mod Oks
+pub mod Meeting
+pub mod Steps
