@@ -16,3 +16,5 @@ pub mod Walked
 pub mod Oks
 pub mod Meeting
 pub mod Steps
+pub mod Costs
+pub mod Judging
