@@ -11,3 +11,6 @@ pub mod Finding
 pub mod Keeping
 pub mod Copies
 pub mod Fronting
+pub mod Makings
+pub mod Layering
+pub mod Gathering
