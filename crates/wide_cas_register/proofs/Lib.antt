@@ -18,3 +18,7 @@ pub mod Meeting
 pub mod Steps
 pub mod Costs
 pub mod Judging
+pub mod Makings
+pub mod Layering
+pub mod Gathering
+pub mod Crossing

@@ -187,6 +187,17 @@ abbrev pub IsPutBefore : List Call → Call → ℤ → ℕ → Row → Row → 
 IsPutBefore calls w v out row new =
     (mid : Row) × IsPut calls w.id v row.door row.state row mid × IsWithoutId out mid new
 
+-- one of these writes of v takes place just before the last write, where the read finds it
+abbrev pub IsFoundWith : List Call → List Call → Row → Call → ℤ → Row → Type 0
+IsFoundWith calls these row r v new =
+    (c : Call) × Contains these c × IsFree row v c × IsPutBefore calls c v r.id row new
+
+-- each of them is made
+abbrev pub AllFoundWith : List Call → List Call → Row → Call → ℤ → List Row → Type 0
+AllFoundWith calls these row r v made =
+    (c : Call) → Contains these c → IsFree row v c
+    → (new : Row) × IsPutBefore calls c v r.id row new × Contains made new
+
 -- what the deed makes of a row
 abbrev pub OfRow : List Call → Deed → Row → Row → Type 0
 OfRow calls Keeps row new = IsSame row new

@@ -18,6 +18,10 @@ use Rattle.wide_cas_register.specs.Facts.{AreApart, CanStep, IsAtMostBy, IsDeed,
 abbrev pub IsLessBy : List Call → Front → Front → Type 0
 IsLessBy calls f g = IsAtMostBy calls f.row g.row × (g.writes ≡ true → f.writes ≡ true)
 
+-- the same, as one fact
+pub record IsLess (calls : List Call) (f g : Front) : Type 0 where
+  pub is : IsLessBy calls f g
+
 abbrev pub IsCovered : List Call → List Front → Front → Type 0
 IsCovered calls fronts f = (g : Front) × Contains fronts g × IsLessBy calls f g
 
@@ -29,6 +33,22 @@ pub record AreLeftOut (calls : List Call) (f : Front) (fronts left : List Front)
   pub each : (g : Front) → Contains left g → Contains fronts g × (¬ IsLessBy calls g f)
   pub others : (g : Front) → Contains fronts g → Contains left g ⊎ IsLessBy calls g f
   pub apart : AreApartBy calls fronts → AreApartBy calls left
+
+-- the front is put into the layer, unless one that is there or of the layer is no less, in place of those that are less than it
+pub record IsPutIn (calls : List Call) (there : List Front) (f : Front) (layer next : List Front) : Type 0 where
+  pub each : (g : Front) → Contains next g → Contains layer g ⊎ ((g ≡ f) × (¬ IsCovered calls there f))
+  pub still : (g : Front) → Contains layer g → IsCovered calls next g
+  pub kept : IsCovered calls (there ++ next) f
+  pub apart : AreApartBy calls layer → AreApartBy calls next
+
+-- what these operations make of a front is put into the layer
+pub record AreStepped (calls : List Call) (now : ℕ) (there : List Front) (e : Front) (these : List Call) (layer next : List Front) : Type 0 where
+  pub each : (f : Front) → Contains next f
+      → Contains layer f ⊎ ((¬ IsCovered calls there f) × ((c : Call) × Contains these c × IsStepBy calls now c e f))
+  pub still : (f : Front) → Contains layer f → IsCovered calls next f
+  pub all : (c : Call) → Contains these c → CanStep e c c.what
+      → (f : Front) × IsStepBy calls now c e f × IsCovered calls (there ++ next) f
+  pub apart : AreApartBy calls layer → AreApartBy calls next
 
 -- what operations make of a layer of fronts is in the next one, or less than what is there
 pub record IsLayerOf (calls : List Call) (now : ℕ) (there layer : List Front) (calls_of : Front → Call → Type 0) (next : List Front)
@@ -83,6 +103,13 @@ abbrev pub IsReachedBy : EventKind → List Call → ℕ → List Row → ℕ �
 IsReachedBy Ok calls now rows budget reached = IsReached calls now rows budget reached
 IsReachedBy _ calls now rows budget (All fronts) = fronts.items ≡ []
 IsReachedBy _ calls now rows budget (Over tried) = ⊥
+
+-- what the deed makes of these rows and fronts, without those that are at most another one
+pub record AreGathered (k : Kept) (deed : Deed) (later : List Call) (rows : List Row) (fronts : List Front) (left : List Row) : Type 0 where
+  pub each : (r : Row) → Contains left r → IsMade k.calls.items k.moment deed rows fronts r
+  pub all_rows : (row : Row) → Contains rows row → AllOfRow k.calls.items deed row (IsKeptIn later left)
+  pub all_fronts : (f : Front) → Contains fronts f → AllOfFront k.calls.items k.moment deed f (IsKeptIn later left)
+  pub apart : AreApart later left
 
 -- the mark makes the second of the first, and these are the fronts that it meets
 pub record IsAfter (m : Mark) (fronts : List Front) (k new : Kept) : Type 0 where

@@ -1,8 +1,8 @@
 //! What walks make of the ends: the fronts, layer upon layer.
 ghost use Rattle.std.specs.Prelude.{◌≡◌, ◌≤◌, ◌↔◌, ◌⊎◌, Option, None, drop, length, IfOk, IfSome, IsTrue, OnOk};
-ghost use Rattle.std.specs.List.{Contains};
+ghost use Rattle.std.specs.List.{AllZip, Contains};
 ghost use Rattle.wide_cas_register.specs.Facts.{CanStep, IsStepBy};
-ghost use Rattle.wide_cas_register.specs.Fronts.{AreLeftOut, IsCovered, IsFirstFront, IsLayerBy, IsLessBy, IsReached};
+ghost use Rattle.wide_cas_register.specs.Fronts.{AreLeftOut, AreStepped, IsCovered, IsFirstFront, IsLayerBy, IsLess, IsPutIn, IsReached};
 ghost use Rattle.wide_cas_register.specs.declared.fronts.Front.{Front};
 
 use crate::calls::{Call, What};
@@ -19,7 +19,7 @@ pub struct Front {
 
 // Whether the other front may become all that this one may.
 fn is_less(calls: &[Call], front: &Front, other: &Front) -> bool
-    ensures { IsTrue result ↔ IsLessBy calls.now front.now other.now }
+    ensures { IsTrue result ↔ IsLess calls.now front.now other.now }
 {
     (front.writes || !other.writes) && is_at_most(calls, &front.row, &other.row)
 }
@@ -76,8 +76,13 @@ fn keep(
     layer: &mut Vec<Front>,
     calls: &[Call],
     front: Front,
-) -> Result<(), AllocError> {
-    if is_covered(there, calls, &front) || is_covered(layer, calls, &front) {
+) -> Result<(), AllocError>
+    ensures { OnOk result (IsPutIn calls.now there.now front layer.old.items layer.new.items) }
+{
+    if is_covered(there, calls, &front) {
+        return Ok(());
+    }
+    if is_covered(layer, calls, &front) {
         return Ok(());
     }
     leave_out(layer, calls, &front);
@@ -92,7 +97,9 @@ fn step_all(
     calls: &[Call],
     moment: u64,
     front: &Front,
-) -> Result<(), AllocError> {
+) -> Result<(), AllocError>
+    ensures { OnOk result (AreStepped calls.now moment there.now front.now calls.now layer.old.items layer.new.items) }
+{
     for call in calls {
         if let Some(next) = step(front, calls, moment, call)? {
             keep(there, layer, calls, next)?;
@@ -120,11 +127,14 @@ fn next_layer(
 }
 
 // The front of the empty walk, of each row.
-fn first_fronts(alloc: Global, rows: &[Row]) -> Result<Vec<Front>, AllocError> {
+fn first_fronts(alloc: Global, rows: &[Row]) -> Result<Vec<Front>, AllocError>
+    ensures { IfOk result (λ fronts. AllZip IsFirstFront rows.now fronts.items) }
+{
     let mut fronts = Vec::new(alloc);
     for row in rows {
+        let same = row.copy()?;
         fronts.push(Front {
-            row: row.copy()?,
+            row: same,
             writes: false,
         })?;
     }

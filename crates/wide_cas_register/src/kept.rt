@@ -2,11 +2,9 @@
 ghost use Rattle.std.specs.Prelude.{◌≡◌, ◌≢◌, ◌↔◌, ◌⊎◌, ◌+◌, [], List, map, IfOk, IsTrue, OnOk};
 ghost use Rattle.std.specs.List.{Contains, filter};
 ghost use Rattle.events.specs.Events.{act_by, mark_by_act};
-ghost use Rattle.wide_cas_register.specs.Facts.{AllOfFront, AllOfRow, AreApart, AreFacts, AreSame, IsKeptIn};
-ghost use Rattle.wide_cas_register.specs.Fronts.{IsAfter, IsMade, IsReachedBy};
+ghost use Rattle.wide_cas_register.specs.Facts.{AreFacts, AreSame};
+ghost use Rattle.wide_cas_register.specs.Fronts.{AreGathered, IsAfter, IsReachedBy};
 ghost use Rattle.wide_cas_register.specs.Facts.{calls_after, calls_with, crashed, is_other, outlives, what_by};
-ghost use Rattle.wide_cas_register.specs.declared.row.Row.{Row};
-ghost use Rattle.wide_cas_register.specs.declared.fronts.Front.{Front};
 
 use crate::calls::{Call, What, what_of};
 use crate::fronts::{Front, Reached, fronts_of};
@@ -156,13 +154,7 @@ impl Kept {
         fronts: &[Front],
         later: &[Call],
     ) -> Result<Vec<Row>, AllocError>
-        ensures each { IfOk result (λ left. (r : Row) → Contains left.items r
-            → IsMade self.now.calls.items self.now.moment deed.now self.now.rows.items fronts.now r) }
-        ensures all_rows { IfOk result (λ left. (row : Row) → Contains self.now.rows.items row
-            → AllOfRow self.now.calls.items deed.now row (IsKeptIn later.now left.items)) }
-        ensures all_fronts { IfOk result (λ left. (f : Front) → Contains fronts.now f
-            → AllOfFront self.now.calls.items self.now.moment deed.now f (IsKeptIn later.now left.items)) }
-        ensures apart { IfOk result (λ left. AreApart later.now left.items) }
+        ensures { IfOk result (λ left. AreGathered self.now deed.now later.now self.now.rows.items fronts.now left.items) }
     {
         let mut left = Vec::new(alloc);
         for row in &self.rows {
@@ -170,7 +162,8 @@ impl Kept {
             keep_all(&mut left, later, made)?;
         }
         for front in fronts {
-            if let Some(row) = row_of_front(front, &self.calls, self.moment, deed)? {
+            let found = row_of_front(front, &self.calls, self.moment, deed)?;
+            if let Some(row) = found {
                 keep(&mut left, later, row)?;
             }
         }

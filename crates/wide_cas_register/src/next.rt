@@ -4,7 +4,7 @@ ghost use Rattle.std.specs.List.{Contains};
 ghost use Rattle.models.specs.Objects.{answer_of};
 ghost use Rattle.events.specs.Events.{act_by, mark_by_act};
 ghost use Rattle.events.specs.Events.Mark.{Crashed, Invoked, Returned};
-ghost use Rattle.wide_cas_register.specs.Facts.{AllOfFront, AllOfRow, HasDoor, IsDeed, IsDeedOfAnswer, IsFree, IsPutBefore, IsWithoutId, OfFront, OfRow};
+ghost use Rattle.wide_cas_register.specs.Facts.{AllFoundWith, AllOfFront, AllOfRow, CanStep, HasDoor, IsDeed, IsDeedOfAnswer, IsDoneBy, IsFoundWith, IsFree, IsPutBefore, IsWithoutId, OfFront, OfRow};
 ghost use Rattle.wide_cas_register.specs.declared.row.Row.{Row};
 
 use crate::calls::{Call, What, call_of, what_of};
@@ -129,11 +129,17 @@ fn one(alloc: Global, row: Row) -> Result<Vec<Row>, AllocError>
 }
 
 // The operation has failed.
-fn fail(alloc: Global, row: &Row, id: u32) -> Result<Vec<Row>, AllocError> {
-    if has_id(&row.needed, id) {
+fn fail(alloc: Global, row: &Row, id: u32) -> Result<Vec<Row>, AllocError>
+    ensures each { IfOk result (λ made. (new : Row) → Contains made.items new → OfRow [] (Deed.Fails id) row.now new) }
+    ensures all { IfOk result (λ made. AllOfRow [] (Deed.Fails id) row.now (Contains made.items)) }
+{
+    let needed = has_id(&row.needed, id);
+    if needed {
         return Ok(Vec::new(alloc));
     }
-    one(alloc, row.without(id)?)
+    let out = row.without(id)?;
+    let made = one(alloc, out)?;
+    Ok(made)
 }
 
 // The write is done, and was in the row or takes place just before the last write.
@@ -143,20 +149,38 @@ fn end_write(
     calls: &[Call],
     write: &Call,
     value: i64,
-) -> Result<Vec<Row>, AllocError> {
-    if has_id(&row.needed, write.id) {
-        return one(alloc, row.without(write.id)?);
+) -> Result<Vec<Row>, AllocError>
+    ensures each { IfOk result (λ made. (new : Row) → Contains made.items new
+        → OfRow calls.now (Deed.EndsWrite write.now value) row.now new) }
+    ensures all { IfOk result (λ made. AllOfRow calls.now (Deed.EndsWrite write.now value) row.now (Contains made.items)) }
+{
+    let needed = has_id(&row.needed, write.id);
+    if needed {
+        let out = row.without(write.id)?;
+        let made = one(alloc, out)?;
+        return Ok(made);
     }
-    if row.has_door(write) {
-        return one(alloc, put_before(row, calls, write, value, write.id)?);
+    let may_before = row.has_door(write);
+    if may_before {
+        let put = put_before(row, calls, write, value, write.id)?;
+        let made_before = one(alloc, put)?;
+        return Ok(made_before);
     }
     Ok(Vec::new(alloc))
 }
 
 // The cas is done, and was in the row.
-fn end_cas(alloc: Global, row: &Row, cas: &Call) -> Result<Vec<Row>, AllocError> {
-    if has_id(&row.needed, cas.id) {
-        return one(alloc, row.without(cas.id)?);
+fn end_cas(alloc: Global, row: &Row, cas: &Call) -> Result<Vec<Row>, AllocError>
+    ensures each { IfOk result (λ made. (new : Row) → Contains made.items new
+        → Contains row.now.needed.items cas.now.id × IsWithoutId cas.now.id row.now new) }
+    ensures all { IfOk result (λ made. Contains row.now.needed.items cas.now.id
+        → (new : Row) × IsWithoutId cas.now.id row.now new × Contains made.items new) }
+{
+    let needed = has_id(&row.needed, cas.id);
+    if needed {
+        let out = row.without(cas.id)?;
+        let made = one(alloc, out)?;
+        return Ok(made);
     }
     Ok(Vec::new(alloc))
 }
@@ -168,11 +192,16 @@ fn write_for_read(
     calls: &[Call],
     read: &Call,
     value: i64,
-) -> Result<Vec<Row>, AllocError> {
+) -> Result<Vec<Row>, AllocError>
+    ensures each { IfOk result (λ made. (new : Row) → Contains made.items new
+        → IsFoundWith calls.now calls.now row.now read.now value new) }
+    ensures all { IfOk result (λ made. AllFoundWith calls.now calls.now row.now read.now value made.items) }
+{
     let mut made = Vec::new(alloc);
     for call in calls {
         if is_free(row, call, value) {
-            made.push(put_before(row, calls, call, value, read.id)?)?;
+            let put = put_before(row, calls, call, value, read.id)?;
+            made.push(put)?;
         }
     }
     Ok(made)
@@ -185,16 +214,25 @@ fn end_read(
     calls: &[Call],
     read: &Call,
     value: i64,
-) -> Result<Vec<Row>, AllocError> {
+) -> Result<Vec<Row>, AllocError>
+    ensures each { IfOk result (λ made. (new : Row) → Contains made.items new
+        → OfRow calls.now (Deed.EndsRead read.now value) row.now new) }
+    ensures all { IfOk result (λ made. AllOfRow calls.now (Deed.EndsRead read.now value) row.now (Contains made.items)) }
+{
     let found = Found {
         read: read.id,
         value,
     };
-    if has_found(&row.finds, found) {
-        return one(alloc, row.without(read.id)?);
+    let may_find = has_found(&row.finds, found);
+    if may_find {
+        let out = row.without(read.id)?;
+        let made = one(alloc, out)?;
+        return Ok(made);
     }
-    if row.has_door(read) {
-        return write_for_read(alloc, row, calls, read, value);
+    let may_before = row.has_door(read);
+    if may_before {
+        let written = write_for_read(alloc, row, calls, read, value)?;
+        return Ok(written);
     }
     Ok(Vec::new(alloc))
 }
@@ -210,14 +248,27 @@ pub fn rows_of_row(
     ensures all { IfOk result (λ made. AllOfRow calls.now deed.now row.now (Contains made.items)) }
 {
     match deed {
-        Deed::Keeps => one(alloc, row.copy()?),
-        Deed::Begins(id) => one(alloc, row.with_read(*id)?),
-        Deed::Leaves(id) => one(alloc, row.without(*id)?),
+        Deed::Keeps => {
+            let same = row.copy()?;
+            let alone_same = one(alloc, same)?;
+            Ok(alone_same)
+        }
+        Deed::Begins(id) => {
+            let begun = row.with_read(*id)?;
+            let alone_begun = one(alloc, begun)?;
+            Ok(alone_begun)
+        }
+        Deed::Leaves(id) => {
+            let out = row.without(*id)?;
+            let alone_out = one(alloc, out)?;
+            Ok(alone_out)
+        }
         Deed::Fails(id) => fail(alloc, row, *id),
         Deed::EndsWrite(write, value) => end_write(alloc, row, calls, write, *value),
         Deed::EndsCas(cas, _, _) => end_cas(alloc, row, cas),
         Deed::EndsRead(read, value) => end_read(alloc, row, calls, read, *value),
-        Deed::EndsNil(_) | Deed::Dies => Ok(Vec::new(alloc)),
+        Deed::EndsNil(_) => Ok(Vec::new(alloc)),
+        Deed::Dies => Ok(Vec::new(alloc)),
     }
 }
 
@@ -227,7 +278,11 @@ fn done_behind(
     calls: &[Call],
     moment: u64,
     call: &Call,
-) -> Result<Option<Row>, AllocError> {
+) -> Result<Option<Row>, AllocError>
+    ensures each { IfOk result (λ (made : Option Row). IfSome made (IsDoneBy calls.now moment call.now front.now)) }
+    ensures all { IfOk result (λ (made : Option Row). CanStep front.now call.now call.now.what
+        → (new : Row) × IsDoneBy calls.now moment call.now front.now new × (made ≡ Some new)) }
+{
     match step(front, calls, moment, call)? {
         None => Ok(None),
         Some(next) => {
@@ -239,12 +294,17 @@ fn done_behind(
 }
 
 // The read has answered the value, which is the state of the front.
-fn read_behind(front: &Front, id: u32, value: i64) -> Result<Option<Row>, AllocError> {
-    if front.row.state == Some(value) {
-        Ok(Some(front.row.without(id)?))
-    } else {
-        Ok(None)
+fn read_behind(front: &Front, id: u32, value: i64) -> Result<Option<Row>, AllocError>
+    ensures each { IfOk result (λ (made : Option Row). IfSome made
+        (λ new. (front.now.row.state ≡ Some value) × IsWithoutId id front.now.row new)) }
+    ensures all { IfOk result (λ (made : Option Row). front.now.row.state ≡ Some value
+        → (new : Row) × IsWithoutId id front.now.row new × (made ≡ Some new)) }
+{
+    if front.row.state != Some(value) {
+        return Ok(None);
     }
+    let out = front.row.without(id)?;
+    Ok(Some(out))
 }
 
 /// The row that the deed makes of a front, if it makes one. Takes the time of the operations, each with what the front finds.
@@ -258,11 +318,26 @@ pub fn row_of_front(
     ensures all { IfOk result (λ (made : Option Row). AllOfFront calls.now moment deed.now front.now (λ new. made ≡ Some new)) }
 {
     match deed {
-        Deed::EndsWrite(call, _) | Deed::EndsCas(call, _, _) => {
-            done_behind(front, calls, moment, call)
+        Deed::EndsWrite(write, _) => {
+            let written = done_behind(front, calls, moment, write)?;
+            Ok(written)
         }
-        Deed::EndsRead(read, value) => read_behind(front, read.id, *value),
-        Deed::EndsNil(id) => Ok(Some(front.row.without(*id)?)),
-        _ => Ok(None),
+        Deed::EndsCas(cas, _, _) => {
+            let set = done_behind(front, calls, moment, cas)?;
+            Ok(set)
+        }
+        Deed::EndsRead(read, value) => {
+            let answered = read_behind(front, read.id, *value)?;
+            Ok(answered)
+        }
+        Deed::EndsNil(id) => {
+            let out = front.row.without(*id)?;
+            Ok(Some(out))
+        }
+        Deed::Keeps => Ok(None),
+        Deed::Begins(_) => Ok(None),
+        Deed::Leaves(_) => Ok(None),
+        Deed::Fails(_) => Ok(None),
+        Deed::Dies => Ok(None),
     }
 }
