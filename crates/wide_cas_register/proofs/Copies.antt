@@ -7,7 +7,7 @@ use Rattle.std.proofs.lemmas.List.{take_all, take_more}
 use Rattle.std.proofs.lemmas.List.Elements.{AllZip-push, Contains-push, Contains-append_left, Contains-push_cases}
 use Rattle.events.specs.Events.{Mark}
 use Rattle.linspec.specs.MarkRule.{AreWellFormed}
-use Rattle.linspec.proofs.Lists.{Contains-nil, Contains-head, Contains-tail, Contains-cons_cases}
+use Rattle.linspec.proofs.Lists.{Contains-nil, Contains-cons_cases}
 use Rattle.linspec.specs.LeanEnds.{start}
 use Rattle.cas_ends.specs.CasEnds.{AreCasEnds}
 use Rattle.wide_cas_register.specs.declared.calls.Call.{Call}

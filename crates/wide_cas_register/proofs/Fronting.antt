@@ -1,23 +1,21 @@
 -- the fronts of rows are those of their ends
-use Rattle.std.proofs.Common.{◌≡◌, ◌≢◌, ℕ, ℤ, ◌⊎◌, inl, inr, ⊎_elim, Bool, true, false, IsTrue, Option, Some, List, [], ◌∷◌, ◌++◌, length, map, refl, sym, ap, ◌∙◌, subst}
-use Rattle.std.specs.List.{AllZip, Contains}
+use Rattle.std.proofs.Common.{◌≡◌, ℕ, ℤ, inl, inr, ⊎_elim, false, List, [], ◌∷◌, ◌++◌, length, map, refl, sym, ap, ◌∙◌, subst}
+use Rattle.std.specs.List.{Contains}
 use Rattle.std.proofs.lemmas.Bool.{true≢false}
 use Rattle.std.proofs.lemmas.List.{map-append}
 use Rattle.std.proofs.lemmas.List.Elements.{Contains-append_cases}
 use Rattle.events.specs.Events.{Mark}
 use Rattle.linspec.specs.MarkRule.{AreWellFormed}
-use Rattle.linspec.specs.Orders.{Pairwise}
 use Rattle.linspec.proofs.Lists.{Pairwise-weaker}
-use Rattle.linspec.specs.LeanEnds.{LeanEnd, IsPutBehind}
-use Rattle.cas_ends.specs.CasEnds.{IsSetBehind, Front as EndFront, IsLess, IsNext, IsLayer, AreLayers, stays}
+use Rattle.linspec.specs.LeanEnds.{IsPutBehind}
+use Rattle.cas_ends.specs.CasEnds.{IsSetBehind, Front as EndFront, IsLess, IsNext, IsLayer, AreLayers}
 use Rattle.cas_ends.proofs.Stands.{IsLeft, left_set, left_put}
 use Rattle.wide_cas_register.specs.declared.calls.Call.{Call}
 use Rattle.wide_cas_register.specs.declared.calls.What.{What}
 use Rattle.wide_cas_register.specs.declared.calls.What.TheVariants.{Writes, Sets, Reads}
-use Rattle.wide_cas_register.specs.declared.row.Row.{Row}
 use Rattle.wide_cas_register.specs.declared.fronts.Front.{Front}
-use Rattle.wide_cas_register.specs.Facts.{AreCalls, CanStep, IsAtMostBy, IsPut, IsSame, IsSet, IsStepBy, StepsTo, end_of, is_set}
-use Rattle.wide_cas_register.specs.Fronts.{AreLayersBy, IsCovered, IsFirstFront, IsLayerBy, IsLessBy}
+use Rattle.wide_cas_register.specs.Facts.{AreCalls, CanStep, IsStepBy, StepsTo, end_of, is_set}
+use Rattle.wide_cas_register.specs.Fronts.{AreLayersBy, IsLayerBy, IsLessBy}
 use Rattle.wide_cas_register.proofs.AtMost.{end_at_most, row_at_most}
 use Rattle.wide_cas_register.proofs.Ends.{needed_from, needed_to, behind_once, set_once}
 use Rattle.wide_cas_register.proofs.Moves.{same_call, is_behind, is_set_behind, is_write, is_cas}

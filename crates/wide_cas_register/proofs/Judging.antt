@@ -1,11 +1,11 @@
 -- the answer of an event, and its cost
-use Rattle.std.proofs.Common.{◌≡◌, ◌≢◌, ℕ, ◌<◌, ◌≤◌, ◌⊎◌, inl, inr, ⊎_elim, true, false, IsTrue, List, [], ◌∷◌, ◌++◌, length, map, Vec, Global, refl, sym, ap, ◌∙◌, subst, arith}
+use Rattle.std.proofs.Common.{◌≡◌, ◌≢◌, ℕ, ◌<◌, ◌≤◌, ◌⊎◌, inl, inr, ⊎_elim, true, false, List, [], ◌∷◌, ◌++◌, length, map, Vec, Global, refl, sym, ap, ◌∙◌, subst, arith}
 use Rattle.std.specs.Prelude.{Result}
 use Rattle.std.specs.declared.alloc.AllocError.{AllocError}
 use Rattle.std.specs.List.{Contains}
 use Rattle.std.proofs.lemmas.Bool.{true≢false}
 use Rattle.models.specs.declared.operation.Op.{Op}
-use Rattle.models.specs.Objects.{cas_register, answer_of}
+use Rattle.models.specs.Objects.{cas_register}
 use Rattle.events.specs.declared.event.EventKind.{EventKind}
 use Rattle.events.specs.declared.event.EventKind.TheVariants.{Invoke, Ok, Fail, Info}
 use Rattle.events.specs.Events.{Mark, act_by, mark_by_act}
@@ -21,10 +21,8 @@ use Rattle.judging.specs.declared.step.Step.{Step}
 use Rattle.judging.specs.declared.step.Step.TheVariants.{Alive, Dead, Over}
 use Rattle.judging.specs.Meaning.{Answers, Blows, Costs, IsAnswer, IsStep, FrontierView, Prepares, StepsOfOk, mark_by}
 use Rattle.judging.proofs.Marks.{same_mark}
-use Rattle.wide_cas_register.specs.declared.calls.Call.{Call}
 use Rattle.wide_cas_register.specs.declared.row.Row.{Row}
 use Rattle.wide_cas_register.specs.declared.fronts.Front.{Front}
-use Rattle.wide_cas_register.specs.declared.fronts.Reached.{Reached}
 use Rattle.wide_cas_register.specs.declared.fronts.Reached.TheVariants.{All, Over as OverBudget}
 use Rattle.wide_cas_register.specs.declared.kept.Kept.{Kept}
 use Rattle.wide_cas_register.specs.declared.judged.WideCasRegister.{WideCasRegister}

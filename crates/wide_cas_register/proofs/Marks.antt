@@ -1,5 +1,5 @@
 -- what the deed makes of a row is what the mark makes of its end: an invocation, a fail and a crash
-use Rattle.std.proofs.Common.{◌≡◌, ◌≢◌, ◌↔◌, ℕ, ◌≤◌, ℤ, ◌⊎◌, inl, inr, ⊎_elim, Bool, true, false, IsTrue, nat_eq, map, Some, None, List, length, refl, sym, ap, ◌∙◌, subst}
+use Rattle.std.proofs.Common.{◌≡◌, ◌≢◌, ◌↔◌, ℕ, ◌≤◌, ◌⊎◌, inl, inr, ⊎_elim, Bool, false, IsTrue, nat_eq, map, None, List, length, refl, sym, ap, ◌∙◌, subst}
 use Rattle.std.specs.List.{Contains, filter, list_any}
 use Rattle.std.proofs.lemmas.Bool.{true≢false}
 use Rattle.models.specs.declared.operation.Op.{Op}
@@ -13,7 +13,7 @@ use Rattle.cas_ends.proofs.Stands.{IsLeft}
 use Rattle.wide_cas_register.specs.declared.calls.Call.{Call}
 use Rattle.wide_cas_register.specs.declared.calls.What.TheVariants.{Reads}
 use Rattle.wide_cas_register.specs.declared.next.Deed.{Deed}
-use Rattle.wide_cas_register.specs.declared.next.Deed.TheVariants.{Keeps, Fails}
+use Rattle.wide_cas_register.specs.declared.next.Deed.TheVariants.{Fails}
 use Rattle.wide_cas_register.specs.declared.row.Row.{Row}
 use Rattle.wide_cas_register.specs.Facts.{AllOfRow, AreCalls, HasCall, IsBegun, IsDeed, IsSame, IsWithoutId, OfRow, calls_with, crashed, end_of, is_other, is_read, outlives, what_by}
 use Rattle.wide_cas_register.proofs.Ends.{needed_from, needed_to, finds_from, finds_to, same_end, without_once, with_read_once}

@@ -1,18 +1,18 @@
 -- the fronts that are reached are fronts of the ends
-use Rattle.std.proofs.Common.{◌≡◌, ℕ, ◌≤◌, ◌⊎◌, inl, inr, ⊎_elim, true, List, [], ◌∷◌, ◌++◌, length, map, refl, sym, ap, ◌∙◌, subst, arith}
+use Rattle.std.proofs.Common.{◌≡◌, ℕ, ◌≤◌, ⊎_elim, List, [], ◌∷◌, ◌++◌, length, map, refl, sym, subst, arith}
 use Rattle.std.specs.List.{AllZip, Contains}
 use Rattle.std.proofs.lemmas.List.Elements.{Contains-append_cases}
 use Rattle.events.specs.Events.{Mark}
 use Rattle.linspec.specs.MarkRule.{AreWellFormed}
 use Rattle.linspec.specs.LeanEnds.{LeanEnd}
-use Rattle.cas_ends.specs.CasEnds.{Front as EndFront, AreLayers, AreSomeFronts, AreFronts, IsLayer, stays}
+use Rattle.cas_ends.specs.CasEnds.{AreLayers, AreSomeFronts, AreFronts, stays}
 use Rattle.cas_ends.proofs.Stands.{IsLeft}
 use Rattle.wide_cas_register.specs.declared.calls.Call.{Call}
 use Rattle.wide_cas_register.specs.declared.calls.What.{What}
 use Rattle.wide_cas_register.specs.declared.calls.What.TheVariants.{Writes, Sets, Reads}
 use Rattle.wide_cas_register.specs.declared.row.Row.{Row}
 use Rattle.wide_cas_register.specs.declared.fronts.Front.{Front}
-use Rattle.wide_cas_register.specs.Facts.{AreCalls, IsSame, StepsTo, end_of}
+use Rattle.wide_cas_register.specs.Facts.{AreCalls, StepsTo, end_of}
 use Rattle.wide_cas_register.specs.Fronts.{AreAllBy, AreLayersBy, AreSomeBy, IsFirstFront}
 use Rattle.wide_cas_register.proofs.Copies.{end_same}
 use Rattle.wide_cas_register.proofs.Fronting.{front_of, AllLeft, layer_is, layers_are}
@@ -46,8 +46,7 @@ module _ (marks : List Mark) (well : AreWellFormed marks) (calls : List Call) (a
     pub some_are : (fronts last : List Front) → AreSomeBy calls (length marks) rows fronts last → Some_are fronts last
     some_are fronts last s =
         let l = first_left s.first s.are_first in
-        let k = layers_are marks well calls are s.first s.first s.layers fronts last l l s.are in
-        (
+        let k = layers_are marks well calls are s.first s.first s.layers fronts last l l s.are in (
           record {
             layers = map (map (front_of calls)) s.layers;
             are = subst (λ x. AreLayers marks x x (map (map (front_of calls)) s.layers) (map (front_of calls) fronts) (map (front_of calls) last)) (first_are rows s.first s.are_first) k.0;

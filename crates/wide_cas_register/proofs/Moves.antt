@@ -1,11 +1,11 @@
 -- what is made of a row is made of its end
-use Rattle.std.proofs.Common.{◌≡◌, ◌≢◌, ◌↔◌, ℕ, ◌<◌, ◌≤◌, ℤ, ◌⊎◌, inl, inr, ⊎_elim, true, false, IsTrue, Some, List, [], ◌∷◌, length, refl, sym, ap, ◌∙◌, subst}
+use Rattle.std.proofs.Common.{◌≡◌, ◌≢◌, ◌↔◌, ℕ, ◌<◌, ℤ, ◌⊎◌, inl, inr, ⊎_elim, true, false, IsTrue, Some, List, [], ◌∷◌, length, refl, sym, ap, ◌∙◌, subst}
 use Rattle.std.specs.List.{Contains}
 use Rattle.events.specs.Events.{Mark}
 use Rattle.linspec.specs.MarkRule.{AreWellFormed}
 use Rattle.linspec.specs.Orders.{Pairwise}
 use Rattle.linspec.proofs.Lists.{Contains-nil, Contains-cons_cases}
-use Rattle.linspec.specs.LeanEnds.{LeanEnd, MayRead, MayWrite, IsRead, IsPutBehind, IsPutBefore, IsWithout}
+use Rattle.linspec.specs.LeanEnds.{LeanEnd, MayRead, MayWrite, IsPutBehind, IsPutBefore, IsWithout}
 use Rattle.cas_ends.specs.CasEnds.{MayCas, IsSetBehind}
 use Rattle.cas_ends.proofs.Puts.{no_read_update}
 use Rattle.cas_ends.proofs.Stands.{IsLeft}

@@ -1,5 +1,5 @@
 -- what the deed of an ok makes of a row is what the ok makes of its end
-use Rattle.std.proofs.Common.{◌≡◌, ◌≢◌, ℕ, ◌≤◌, ℤ, ◌⊎◌, inl, inr, ⊎_elim, Bool, true, false, IsTrue, Some, List, ◌∷◌, [], ◌++◌, length, map, refl, sym, ap, ◌∙◌, subst}
+use Rattle.std.proofs.Common.{◌≡◌, ◌≢◌, ℕ, ℤ, ◌⊎◌, inl, inr, ⊎_elim, Bool, false, IsTrue, Some, List, ◌∷◌, [], ◌++◌, length, map, refl, sym, ap, ◌∙◌, subst}
 use Rattle.std.specs.List.{Contains, filter}
 use Rattle.std.proofs.lemmas.Bool.{true≢false, cases_Bool}
 use Rattle.models.specs.declared.finding.Answer.{Answer}
@@ -12,19 +12,17 @@ use Rattle.linspec.proofs.Open.{was_open}
 use Rattle.linspec.specs.LeanEnds.{LeanEnd, IsWriteOf, IsRead, IsPutBehind, IsPutBefore, IsWithout, IsAtMost}
 use Rattle.lean_ends.proofs.Left.{at_most_itself}
 use Rattle.lean_ends.proofs.Once.{read_no_write, same_value}
-use Rattle.cas_ends.specs.CasEnds.{IsCasOf, IsSetBehind, Walks, EndsWrite as EndsWriteBy, EndsCas as EndsCasBy, EndsRead as EndsReadBy, Answers, Becomes, Front as EndFront, IsLess, IsNext, AreFronts}
-use Rattle.cas_ends.proofs.Layers.{walk_is_less, next_of_greater}
-use Rattle.cas_ends.proofs.Left.{at_most_then}
+use Rattle.cas_ends.specs.CasEnds.{IsCasOf, IsSetBehind, Walks, EndsWrite as EndsWriteBy, EndsCas as EndsCasBy, EndsRead as EndsReadBy, Becomes, IsLess, AreFronts}
+use Rattle.cas_ends.proofs.Layers.{walk_is_less}
 use Rattle.cas_ends.proofs.Once.{cas_no_read, cas_no_write, same_pair}
 use Rattle.cas_ends.proofs.Stands.{IsLeft}
 use Rattle.wide_cas_register.specs.declared.calls.Call.{Call}
-use Rattle.wide_cas_register.specs.declared.calls.What.{What}
 use Rattle.wide_cas_register.specs.declared.calls.What.TheVariants.{Writes, Sets, Reads}
 use Rattle.wide_cas_register.specs.declared.next.Deed.{Deed}
-use Rattle.wide_cas_register.specs.declared.next.Deed.TheVariants.{EndsWrite, EndsCas, EndsRead, EndsNil, Dies}
+use Rattle.wide_cas_register.specs.declared.next.Deed.TheVariants.{EndsWrite, EndsCas, EndsRead, EndsNil}
 use Rattle.wide_cas_register.specs.declared.row.Row.{Row}
 use Rattle.wide_cas_register.specs.declared.fronts.Front.{Front}
-use Rattle.wide_cas_register.specs.Facts.{AllOfFront, AllOfRow, AreCalls, CanStep, HasCall, HasDoor, IsDeed, IsDoneBy, IsPutBefore as IsBefore, IsStepBy, IsWithoutId, OfFront, OfRow, StepsTo, end_of, is_other, is_set}
+use Rattle.wide_cas_register.specs.Facts.{AllOfFront, AllOfRow, AreCalls, CanStep, HasCall, HasDoor, IsDeed, IsDoneBy, IsPutBefore as IsBefore, IsStepBy, IsWithoutId, OfFront, OfRow, StepsTo, end_of, is_other}
 use Rattle.wide_cas_register.proofs.Ends.{needed_from, needed_to, door_from, door_to, finds_from, finds_to, without_once, before_once}
 use Rattle.wide_cas_register.proofs.Fronting.{front_of, no_door}
 use Rattle.wide_cas_register.proofs.Moves.{same_call, without_is, is_behind, is_set_behind, is_before, is_read, is_write, is_cas}

@@ -1,5 +1,5 @@
 -- what is kept after an event is that of the history with its mark
-use Rattle.std.proofs.Common.{◌≡◌, ℕ, ◌+◌, ◌≤◌, ◌⊎◌, inl, inr, ⊎_elim, Bool, true, Some, List, [], ◌∷◌, ◌++◌, length, map, sym, ap, ◌∙◌, subst, arith, length-append, append-nil}
+use Rattle.std.proofs.Common.{◌≡◌, ℕ, ◌+◌, ◌≤◌, ⊎_elim, List, [], ◌∷◌, ◌++◌, length, map, sym, ap, ◌∙◌, subst, arith, length-append, append-nil}
 use Rattle.std.specs.List.{Contains}
 use Rattle.models.specs.declared.finding.Answer.{Answer}
 use Rattle.events.specs.Events.{Mark}
@@ -19,10 +19,10 @@ use Rattle.wide_cas_register.specs.declared.next.Deed.TheVariants.{Keeps, Begins
 use Rattle.wide_cas_register.specs.declared.row.Row.{Row}
 use Rattle.wide_cas_register.specs.declared.fronts.Front.{Front}
 use Rattle.wide_cas_register.specs.declared.kept.Kept.{Kept}
-use Rattle.wide_cas_register.specs.Facts.{AllOfFront, AllOfRow, AreCalls, AreFacts, IsAtMostBy, IsDeed, IsDoneBy, IsKeptIn, IsPutBefore, OfFront, OfRow, calls_after, end_of}
+use Rattle.wide_cas_register.specs.Facts.{AllOfFront, AllOfRow, AreCalls, AreFacts, IsAtMostBy, IsDeed, IsDoneBy, IsKeptIn, OfFront, OfRow, calls_after, end_of}
 use Rattle.wide_cas_register.specs.Fronts.{AreAllBy, IsAfter, IsMade}
 use Rattle.wide_cas_register.proofs.AtMost.{end_at_most_by, row_at_most}
-use Rattle.wide_cas_register.proofs.Fronting.{AllLeft, front_of}
+use Rattle.wide_cas_register.proofs.Fronting.{front_of}
 use Rattle.wide_cas_register.proofs.Marks.{Hits, invoke_each, invoke_all, fail_each, fail_all, crash_each, crash_all}
 use Rattle.wide_cas_register.proofs.Meeting.{AllLow, all_are, some_are, some_low, step_low}
 use Rattle.wide_cas_register.proofs.Oks.{row_each, front_each, ok_all}

@@ -1,5 +1,5 @@
 -- Invariant: the lean ends of the history of a register as rows, where the moment of a mark is how many marks come before it
-use Rattle.std.specs.Prelude.{◌≡◌, ◌≢◌, ◌↔◌, ℕ, ◌+◌, ◌<◌, ◌≤◌, ℤ, ◌⊎◌, Bool, true, false, not, nat_eq, nat_lt, ◌&&◌, ◌||◌, Option, Some, None, List, [], ◌∷◌, ◌++◌, length, map}
+use Rattle.std.specs.Prelude.{◌≡◌, ◌≢◌, ◌↔◌, ℕ, ◌<◌, ◌≤◌, ℤ, ◌⊎◌, Bool, true, false, not, nat_eq, nat_lt, ◌&&◌, ◌||◌, Option, Some, None, List, [], ◌∷◌, ◌++◌, length, map}
 use Rattle.std.specs.List.{AllZip, Contains, list_any, filter}
 use Rattle.std.specs.Ordering.{int_eq}
 use Rattle.models.specs.declared.operation.Name.{Name}

@@ -1,4 +1,4 @@
-use Rattle.std.proofs.Common.{◌≡◌, ◌∙◌, length, refl, rules, sym, subst}
+use Rattle.std.proofs.Common.{◌≡◌, length, refl, rules, subst}
 use Rattle.events.specs.Events.{Mark, act_by, mark_by_act}
 use Rattle.wide_cas_register.specs.Counts.{IsCounted}
 use Rattle.wide_cas_register.specs.Fronts.{IsAfter, IsReachedBy}
