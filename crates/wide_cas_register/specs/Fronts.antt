@@ -1,0 +1,125 @@
+-- Invariant: the fronts of what is kept, layer upon layer, and what comes after an event
+use Rattle.std.specs.Prelude.{◌≡◌, ℕ, ◌+◌, ◌<◌, ◌≤◌, ◌⊎◌, true, false, List, [], ◌∷◌, ◌++◌, length}
+use Rattle.std.specs.List.{AllZip, Contains}
+use Rattle.events.specs.Events.{Mark}
+use Rattle.linspec.specs.Orders.{Pairwise}
+use Rattle.wide_cas_register.specs.declared.calls.Call.{Call}
+use Rattle.wide_cas_register.specs.declared.row.Row.{Row}
+use Rattle.wide_cas_register.specs.declared.fronts.Front.{Front}
+use Rattle.wide_cas_register.specs.declared.next.Deed.{Deed}
+use Rattle.events.specs.declared.event.EventKind.{EventKind}
+use Rattle.events.specs.declared.event.EventKind.TheVariants.{Ok}
+use Rattle.wide_cas_register.specs.declared.fronts.Reached.{Reached}
+use Rattle.wide_cas_register.specs.declared.fronts.Reached.TheVariants.{All, Over}
+use Rattle.wide_cas_register.specs.declared.kept.Kept.{Kept}
+use Rattle.wide_cas_register.specs.Facts.{AreApart, CanStep, IsAtMostBy, IsDeed, IsKeptIn, IsSame, IsStepBy, AllOfFront, AllOfRow, OfFront, OfRow, calls_after}
+
+-- the other front may become all that this one may
+abbrev pub IsLessBy : List Call → Front → Front → Type 0
+IsLessBy calls f g = IsAtMostBy calls f.row g.row × (g.writes ≡ true → f.writes ≡ true)
+
+-- the same, as one fact
+pub record IsLess (calls : List Call) (f g : Front) : Type 0 where
+  pub is : IsLessBy calls f g
+
+abbrev pub IsCovered : List Call → List Front → Front → Type 0
+IsCovered calls fronts f = (g : Front) × Contains fronts g × IsLessBy calls f g
+
+abbrev pub AreApartBy : List Call → List Front → Type 0
+AreApartBy calls fronts = Pairwise (λ f g. (¬ IsLessBy calls f g) × (¬ IsLessBy calls g f)) fronts
+
+-- those that are less than the front are left out
+pub record AreLeftOut (calls : List Call) (f : Front) (fronts left : List Front) : Type 0 where
+  pub each : (g : Front) → Contains left g → Contains fronts g × (¬ IsLessBy calls g f)
+  pub others : (g : Front) → Contains fronts g → Contains left g ⊎ IsLessBy calls g f
+  pub apart : AreApartBy calls fronts → AreApartBy calls left
+
+-- the front is put into the layer, unless one that is there or of the layer is no less, in place of those that are less than it
+pub record IsPutIn (calls : List Call) (there : List Front) (f : Front) (layer next : List Front) : Type 0 where
+  pub each : (g : Front) → Contains next g → Contains layer g ⊎ ((g ≡ f) × (¬ IsCovered calls there f))
+  pub still : (g : Front) → Contains layer g → IsCovered calls next g
+  pub kept : IsCovered calls (there ++ next) f
+  pub apart : AreApartBy calls layer → AreApartBy calls next
+
+-- what these operations make of a front is put into the layer
+pub record AreStepped (calls : List Call) (now : ℕ) (there : List Front) (e : Front) (these : List Call) (layer next : List Front) : Type 0 where
+  pub each : (f : Front) → Contains next f
+      → Contains layer f ⊎ ((¬ IsCovered calls there f) × ((c : Call) × Contains these c × IsStepBy calls now c e f))
+  pub still : (f : Front) → Contains layer f → IsCovered calls next f
+  pub all : (c : Call) → Contains these c → CanStep e c c.what
+      → (f : Front) × IsStepBy calls now c e f × IsCovered calls (there ++ next) f
+  pub apart : AreApartBy calls layer → AreApartBy calls next
+
+-- what operations make of a layer of fronts is in the next one, or less than what is there
+pub record IsLayerOf (calls : List Call) (now : ℕ) (there layer : List Front) (calls_of : Front → Call → Type 0) (next : List Front)
+    : Type 0 where
+  pub each : (f : Front) → Contains next f
+      → (e : Front) × Contains layer e × ((c : Call) × Contains calls c × IsStepBy calls now c e f)
+  pub new : (f : Front) → Contains next f → ¬ IsCovered calls there f
+  pub all : (e : Front) (c : Call) → calls_of e c → CanStep e c c.what
+      → (f : Front) × IsStepBy calls now c e f × IsCovered calls (there ++ next) f
+  pub apart : AreApartBy calls next
+
+abbrev pub IsLayerBy : List Call → ℕ → List Front → List Front → List Front → Type 0
+IsLayerBy calls now there layer next =
+    IsLayerOf calls now there layer (λ e c. Contains layer e × Contains calls c) next
+
+abbrev pub AreLayersBy : List Call → ℕ → List Front → List Front → List (List Front) → List Front → List Front → Type 0
+AreLayersBy calls now there layer [] fronts last = (there ≡ fronts) × (layer ≡ last)
+AreLayersBy calls now there layer (next ∷ more) fronts last =
+    IsLayerBy calls now there layer next × AreLayersBy calls now (there ++ next) next more fronts last
+
+-- the front of the empty walk
+pub record IsFirstFront (row : Row) (f : Front) : Type 0 where
+  pub same : IsSame row f.row
+  pub writes : f.writes ≡ false
+
+-- these are fronts of the rows, of some layers
+pub record AreSomeBy (calls : List Call) (now : ℕ) (rows : List Row) (fronts last : List Front) : Type 0 where
+  pub first : List Front
+  pub are_first : AllZip IsFirstFront rows first
+  pub layers : List (List Front)
+  pub are : AreLayersBy calls now first first layers fronts last
+
+-- these are all fronts of the rows
+abbrev pub AreAllBy : List Call → ℕ → List Row → List Front → Type 0
+AreAllBy calls now rows fronts =
+    (last : List Front) × AreSomeBy calls now rows fronts last × IsLayerBy calls now fronts last []
+
+-- what the deed makes of a row or of a front
+abbrev pub IsMade : List Call → ℕ → Deed → List Row → List Front → Row → Type 0
+IsMade calls now deed rows fronts new =
+    ((row : Row) × Contains rows row × OfRow calls deed row new)
+    ⊎ ((f : Front) × Contains fronts f × OfFront calls now deed f new)
+
+-- all fronts; or more than the budget, of some layers, once operations were tried at some of them
+abbrev pub IsReached : List Call → ℕ → List Row → ℕ → Reached → Type 0
+IsReached calls now rows budget (All fronts) = AreAllBy calls now rows fronts.items × (length fronts.items ≤ budget)
+IsReached calls now rows budget (Over tried) =
+    (tried ≤ budget) × ((fronts : List Front) × (last : List Front) × AreSomeBy calls now rows fronts last × (budget < length fronts))
+
+-- the same at an ok
+abbrev pub IsReachedBy : EventKind → List Call → ℕ → List Row → ℕ → Reached → Type 0
+IsReachedBy Ok calls now rows budget reached = IsReached calls now rows budget reached
+IsReachedBy _ calls now rows budget (All fronts) = fronts.items ≡ []
+IsReachedBy _ calls now rows budget (Over tried) = ⊥
+
+-- what the deed makes of these rows and fronts, without those that are at most another one
+pub record AreGathered (k : Kept) (deed : Deed) (later : List Call) (rows : List Row) (fronts : List Front) (left : List Row) : Type 0 where
+  pub each : (r : Row) → Contains left r → IsMade k.calls.items k.moment deed rows fronts r
+  pub all_rows : (row : Row) → Contains rows row → AllOfRow k.calls.items deed row (IsKeptIn later left)
+  pub all_fronts : (f : Front) → Contains fronts f → AllOfFront k.calls.items k.moment deed f (IsKeptIn later left)
+  pub apart : AreApart later left
+
+-- the mark makes the second of the first, and these are the fronts that it meets
+pub record IsAfter (m : Mark) (fronts : List Front) (k new : Kept) : Type 0 where
+  pub moment : new.moment ≡ k.moment + 1
+  pub calls : new.calls.items ≡ calls_after k.calls.items k.moment m
+  pub deed : Deed
+  pub is_deed : IsDeed k.calls.items m deed
+  pub each : (r : Row) → Contains new.rows.items r → IsMade k.calls.items k.moment deed k.rows.items fronts r
+  pub all_rows : (row : Row) → Contains k.rows.items row
+      → AllOfRow k.calls.items deed row (IsKeptIn new.calls.items new.rows.items)
+  pub all_fronts : (f : Front) → Contains fronts f
+      → AllOfFront k.calls.items k.moment deed f (IsKeptIn new.calls.items new.rows.items)
+  pub apart : AreApart new.calls.items new.rows.items

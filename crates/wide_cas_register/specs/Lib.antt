@@ -1,0 +1,4 @@
+pub mod Facts
+pub mod Counts
+pub mod Views
+pub mod Fronts

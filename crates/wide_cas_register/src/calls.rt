@@ -1,0 +1,53 @@
+//! The operations of a register with compare and set that may still take place.
+ghost use Rattle.std.specs.Prelude.{◌≡◌, ◌≢◌, ℕ, IfSome, None};
+ghost use Rattle.std.specs.List.{Contains};
+ghost use Rattle.wide_cas_register.specs.Facts.{what_by};
+ghost use Rattle.wide_cas_register.specs.declared.calls.Call.{Call};
+
+use models::{Name, Part};
+
+/// What an operation does to a register.
+#[derive(Clone, Copy, Debug, PartialEq, Eq)]
+pub enum What {
+    /// It writes the value.
+    Writes(i64),
+    /// It sets the first value to the second.
+    Sets(i64, i64),
+    /// It finds the state.
+    Reads,
+}
+
+/// An operation that may still take place, since it is open or is a write or a cas that has crashed: its id, what it does, how many marks
+/// came before its invocation, and whether it is open.
+#[derive(Clone, Copy)]
+pub struct Call {
+    pub id: u32,
+    pub what: What,
+    pub since: u64,
+    pub is_open: bool,
+}
+
+/// What an operation of this name and part does to a register; none if a register has no such operation. Takes constant time.
+pub fn what_of(name: Name, part: &Part) -> Option<What>
+    ensures { result ≡ what_by name part.now }
+{
+    match (name, part) {
+        (Name::Write, Part::Int(value)) => Some(What::Writes(*value)),
+        (Name::Cas, Part::Pair(from, to)) => Some(What::Sets(*from, *to)),
+        (Name::Read, Part::Nil) => Some(What::Reads),
+        _ => None,
+    }
+}
+
+/// The operation with this id that may still take place, if it is one. Takes the time of the operations.
+pub fn call_of(calls: &[Call], id: u32) -> Option<Call>
+    ensures found { IfSome result (λ c. Contains calls.now c × (c.id ≡ id)) }
+    ensures none { result ≡ None → (c : Call) → Contains calls.now c → c.id ≢ id }
+{
+    for call in calls {
+        if call.id == id {
+            return Some(*call);
+        }
+    }
+    None
+}

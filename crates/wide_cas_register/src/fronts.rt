@@ -1,0 +1,175 @@
+//! What walks make of the ends: the fronts, layer upon layer.
+ghost use Rattle.std.specs.Prelude.{◌≡◌, ◌≤◌, ◌↔◌, ◌⊎◌, Option, None, drop, length, IfOk, IfSome, IsTrue, OnOk};
+ghost use Rattle.std.specs.List.{AllZip, Contains};
+ghost use Rattle.wide_cas_register.specs.Facts.{CanStep, IsStepBy};
+ghost use Rattle.wide_cas_register.specs.Fronts.{AreLeftOut, AreStepped, IsCovered, IsFirstFront, IsLayerBy, IsLess, IsPutIn, IsReached};
+ghost use Rattle.wide_cas_register.specs.declared.fronts.Front.{Front};
+
+use crate::calls::{Call, What};
+use crate::left::is_at_most;
+use crate::row::{Row, has_id};
+use std::alloc::{AllocError, Global};
+
+/// An end that a walk made, and whether the walk ends with a write.
+#[derive(Drop)]
+pub struct Front {
+    pub row: Row,
+    pub writes: bool,
+}
+
+// Whether the other front may become all that this one may.
+fn is_less(calls: &[Call], front: &Front, other: &Front) -> bool
+    ensures { IsTrue result ↔ IsLess calls.now front.now other.now }
+{
+    (front.writes || !other.writes) && is_at_most(calls, &front.row, &other.row)
+}
+
+// Whether the front is less than one of these.
+fn is_covered(fronts: &[Front], calls: &[Call], front: &Front) -> bool
+    ensures { IsTrue result ↔ IsCovered calls.now fronts.now front.now }
+{
+    for other in fronts {
+        if is_less(calls, front, other) {
+            return true;
+        }
+    }
+    false
+}
+
+// Leaves out those that are less than the front.
+fn leave_out(layer: &mut Vec<Front>, calls: &[Call], front: &Front)
+    ensures { AreLeftOut calls.now front.now layer.old.items layer.new.items }
+{
+    layer.retain(|other| !is_less(calls, other, front));
+}
+
+/// The front once the operation takes place behind it, if it may: a write that hides no write, or a cas that finds its value. Takes the time of
+/// the operations, each with what the front finds.
+pub fn step(
+    front: &Front,
+    calls: &[Call],
+    moment: u64,
+    call: &Call,
+) -> Result<Option<Front>, AllocError>
+    ensures some { IfOk result (λ (found : Option Front). IfSome found (λ next. IsStepBy calls.now moment call.now front.now next)) }
+    ensures none { IfOk result (λ found. found ≡ None → ¬ CanStep front.now call.now call.now.what) }
+{
+    if has_id(&front.row.needed, call.id) {
+        return Ok(None);
+    }
+    match call.what {
+        What::Writes(value) if !front.writes => Ok(Some(Front {
+            row: front.row.put(calls, call.id, value, moment, Some(value))?,
+            writes: true,
+        })),
+        What::Sets(from, to) if front.row.state == Some(from) => Ok(Some(Front {
+            row: front.row.set(calls, call.id, to, moment)?,
+            writes: false,
+        })),
+        _ => Ok(None),
+    }
+}
+
+// Puts the front into the layer, if it is less than none that is there and none of the layer, in place of those that are less than it.
+fn keep(
+    there: &[Front],
+    layer: &mut Vec<Front>,
+    calls: &[Call],
+    front: Front,
+) -> Result<(), AllocError>
+    ensures { OnOk result (IsPutIn calls.now there.now front layer.old.items layer.new.items) }
+{
+    if is_covered(there, calls, &front) {
+        return Ok(());
+    }
+    if is_covered(layer, calls, &front) {
+        return Ok(());
+    }
+    leave_out(layer, calls, &front);
+    layer.push(front)?;
+    Ok(())
+}
+
+// What each operation makes of a front, for the layer.
+fn step_all(
+    there: &[Front],
+    layer: &mut Vec<Front>,
+    calls: &[Call],
+    moment: u64,
+    front: &Front,
+) -> Result<(), AllocError>
+    ensures { OnOk result (AreStepped calls.now moment there.now front.now calls.now layer.old.items layer.new.items) }
+{
+    for call in calls {
+        if let Some(next) = step(front, calls, moment, call)? {
+            keep(there, layer, calls, next)?;
+        }
+    }
+    Ok(())
+}
+
+// The next layer, of the fronts from this place on.
+fn next_layer(
+    alloc: Global,
+    there: &[Front],
+    from: usize,
+    calls: &[Call],
+    moment: u64,
+) -> Result<Vec<Front>, AllocError>
+    requires { from ≤ length there.now }
+    ensures { IfOk result (λ layer. IsLayerBy calls.now moment there.now (drop from there.now) layer.items) }
+{
+    let mut layer = Vec::new(alloc);
+    for front in &there[from..] {
+        step_all(there, &mut layer, calls, moment, front)?;
+    }
+    Ok(layer)
+}
+
+// The front of the empty walk, of each row.
+fn first_fronts(alloc: Global, rows: &[Row]) -> Result<Vec<Front>, AllocError>
+    ensures { IfOk result (λ fronts. AllZip IsFirstFront rows.now fronts.items) }
+{
+    let mut fronts = Vec::new(alloc);
+    for row in rows {
+        let same = row.copy()?;
+        fronts.push(Front {
+            row: same,
+            writes: false,
+        })?;
+    }
+    Ok(fronts)
+}
+
+/// The fronts that were reached.
+#[derive(Drop)]
+pub enum Reached {
+    /// These are all of them.
+    All(Vec<Front>),
+    /// There are more than the budget, once the operations were tried at this many.
+    Over(usize),
+}
+
+/// The fronts of the rows, unless there are more than the budget. Takes the time of the fronts, each with each operation and with each
+/// front.
+pub fn fronts_of(
+    alloc: Global,
+    rows: &[Row],
+    calls: &[Call],
+    moment: u64,
+    budget: usize,
+) -> Result<Reached, AllocError>
+    ensures { IfOk result (IsReached calls.now moment rows.now budget) }
+{
+    let mut fronts = first_fronts(alloc, rows)?;
+    let mut from = 0;
+    'layers: while fronts.len() <= budget {
+        let mut layer = next_layer(alloc, &fronts, from, calls, moment)?;
+        if layer.is_empty() {
+            return Ok(Reached::All(fronts));
+        }
+        from = fronts.len();
+        fronts.append(&mut layer)?;
+    }
+    Ok(Reached::Over(from))
+}

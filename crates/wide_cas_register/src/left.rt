@@ -1,0 +1,122 @@
+//! Rows that are at most another one are left out.
+ghost use Rattle.std.specs.Prelude.{◌≡◌, ◌↔◌, ◌⊎◌, ℕ, IsTrue, OnOk};
+ghost use Rattle.std.specs.List.{Contains};
+ghost use Rattle.wide_cas_register.specs.Facts.{AreApart, AreLeftOut, FitsAt, IsAtMostBy, IsKeptIn};
+ghost use Rattle.wide_cas_register.specs.declared.calls.Call.{Call};
+ghost use Rattle.wide_cas_register.specs.declared.row.Found.{Found};
+ghost use Rattle.wide_cas_register.specs.declared.row.Row.{Row};
+
+use crate::calls::Call;
+use crate::row::{Found, Row, has_found, has_id};
+use std::alloc::AllocError;
+
+// Whether each of these ids is among those.
+fn has_ids(those: &[u32], these: &[u32]) -> bool
+    ensures { IsTrue result ↔ ((i : ℕ) → Contains these.now i → Contains those.now i) }
+{
+    for id in these {
+        if !has_id(those, *id) {
+            return false;
+        }
+    }
+    true
+}
+
+// Whether each read that may find a value here may find it there.
+fn has_finds(those: &[Found], these: &[Found]) -> bool
+    ensures { IsTrue result ↔ ((f : Found) → Contains these.now f → Contains those.now f) }
+{
+    for found in these {
+        if !has_found(those, *found) {
+            return false;
+        }
+    }
+    true
+}
+
+// Whether the other row needs this operation if it is open and the row needs it, and it may take place before the last write of the other
+// row if it may here.
+fn fits(call: &Call, row: &Row, other: &Row) -> bool
+    ensures { IsTrue result ↔ FitsAt row.now other.now call.now }
+{
+    if has_id(&row.needed, call.id) {
+        !call.is_open || has_id(&other.needed, call.id)
+    } else {
+        !row.has_door(call) || call.since < other.door
+    }
+}
+
+// Whether all of them do.
+fn all_fit(calls: &[Call], row: &Row, other: &Row) -> bool
+    ensures { IsTrue result ↔ ((c : Call) → Contains calls.now c → FitsAt row.now other.now c) }
+{
+    for call in calls {
+        if !fits(call, row, other) {
+            return false;
+        }
+    }
+    true
+}
+
+/// Whether the other row may become all that this one may. Takes the time of its lists and of the operations, each with those of the other.
+pub fn is_at_most(calls: &[Call], row: &Row, other: &Row) -> bool
+    ensures { IsTrue result ↔ IsAtMostBy calls.now row.now other.now }
+{
+    if row.state != other.state {
+        return false;
+    }
+    if !has_ids(&row.needed, &other.needed) {
+        return false;
+    }
+    if !has_finds(&other.finds, &row.finds) {
+        return false;
+    }
+    all_fit(calls, row, other)
+}
+
+// Whether the row is at most one of these.
+fn is_covered(rows: &[Row], calls: &[Call], row: &Row) -> bool
+    ensures { IsTrue result ↔ IsKeptIn calls.now rows.now row.now }
+{
+    for other in rows {
+        if is_at_most(calls, row, other) {
+            return true;
+        }
+    }
+    false
+}
+
+// Leaves out those that are at most the row.
+fn leave_out(rows: &mut Vec<Row>, calls: &[Call], row: &Row)
+    ensures { AreLeftOut calls.now row.now rows.old.items rows.new.items }
+{
+    rows.retain(|other| !is_at_most(calls, other, row));
+}
+
+/// Puts the row among these, if it is at most none of them, in place of those that are at most it. Takes the time of the rows.
+pub fn keep(rows: &mut Vec<Row>, calls: &[Call], row: Row) -> Result<(), AllocError>
+    ensures each { OnOk result ((r : Row) → Contains rows.new.items r → Contains rows.old.items r ⊎ (r ≡ row)) }
+    ensures old { OnOk result ((r : Row) → Contains rows.old.items r → IsKeptIn calls.now rows.new.items r) }
+    ensures kept { OnOk result (IsKeptIn calls.now rows.new.items row) }
+    ensures apart { OnOk result (AreApart calls.now rows.old.items → AreApart calls.now rows.new.items) }
+{
+    if is_covered(rows, calls, &row) {
+        return Ok(());
+    }
+    leave_out(rows, calls, &row);
+    rows.push(row)?;
+    Ok(())
+}
+
+/// Puts all of these rows among those. Takes the time of their pairs.
+pub fn keep_all(rows: &mut Vec<Row>, calls: &[Call], mut more: Vec<Row>) -> Result<(), AllocError>
+    ensures each { OnOk result ((r : Row) → Contains rows.new.items r → Contains rows.old.items r ⊎ Contains more.items r) }
+    ensures old { OnOk result ((r : Row) → Contains rows.old.items r → IsKeptIn calls.now rows.new.items r) }
+    ensures kept { OnOk result ((r : Row) → Contains more.items r → IsKeptIn calls.now rows.new.items r) }
+    ensures apart { OnOk result (AreApart calls.now rows.old.items → AreApart calls.now rows.new.items) }
+{
+    while let Some(row) = more.pop() {
+        keep(rows, calls, row)?;
+    }
+    Ok(())
+}

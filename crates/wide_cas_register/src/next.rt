@@ -1,0 +1,343 @@
+//! What an event makes of a row, and of a front.
+ghost use Rattle.std.specs.Prelude.{◌≡◌, ◌↔◌, ◌⊎◌, [], ◌∷◌, Option, Some, None, IfOk, IfSome, IsTrue, OnOk};
+ghost use Rattle.std.specs.List.{Contains};
+ghost use Rattle.models.specs.Objects.{answer_of};
+ghost use Rattle.events.specs.Events.{act_by, mark_by_act};
+ghost use Rattle.events.specs.Events.Mark.{Crashed, Invoked, Returned};
+ghost use Rattle.wide_cas_register.specs.Facts.{AllFoundWith, AllOfFront, AllOfRow, CanStep, HasDoor, IsDeed, IsDeedOfAnswer, IsDoneBy, IsFoundWith, IsFree, IsPutBefore, IsWithoutId, OfFront, OfRow};
+ghost use Rattle.wide_cas_register.specs.declared.row.Row.{Row};
+
+use crate::calls::{Call, What, call_of, what_of};
+use crate::fronts::{Front, step};
+use crate::row::{Found, Row, has_found, has_id};
+use events::EventKind;
+use models::{Op, Part};
+use std::alloc::{AllocError, Global};
+
+/// What an event makes of each row.
+#[derive(Clone, Copy)]
+pub enum Deed {
+    /// It stays.
+    Keeps,
+    /// A read with this id begins.
+    Begins(u32),
+    /// The operation with this id is out.
+    Leaves(u32),
+    /// It is out, and must not have taken place.
+    Fails(u32),
+    /// This write of this value is done.
+    EndsWrite(Call, i64),
+    /// This cas of these values is done.
+    EndsCas(Call, i64, i64),
+    /// This read has answered this value.
+    EndsRead(Call, i64),
+    /// The read with this id has answered nothing.
+    EndsNil(u32),
+    /// Nothing is left of any row.
+    Dies,
+}
+
+// What an invocation makes of each row.
+fn deed_of_invoke(calls: &[Call], id: u32, op: &Op) -> Deed
+    ensures { IsDeed calls.now (Invoked id op.now) result }
+{
+    match what_of(op.name, &op.part) {
+        Some(What::Reads) => Deed::Begins(id),
+        _ => Deed::Keeps,
+    }
+}
+
+// What the answer of a read makes of each row.
+fn deed_of_answer(read: Call, part: &Part) -> Deed
+    ensures { IsDeedOfAnswer read (answer_of part.now) result }
+{
+    match part {
+        Part::Nil => Deed::EndsNil(read.id),
+        Part::Int(value) => Deed::EndsRead(read, *value),
+        Part::Pair(_, _) | Part::Set(_) => Deed::Dies,
+    }
+}
+
+// What an ok makes of each row.
+fn deed_of_ok(calls: &[Call], id: u32, part: &Part) -> Deed
+    ensures { IsDeed calls.now (Returned id (answer_of part.now)) result }
+{
+    match call_of(calls, id) {
+        None => Deed::Dies,
+        Some(call) => match call.what {
+            What::Writes(value) => Deed::EndsWrite(call, value),
+            What::Sets(from, to) => Deed::EndsCas(call, from, to),
+            What::Reads => deed_of_answer(call, part),
+        },
+    }
+}
+
+// What an info makes of each row.
+fn deed_of_info(calls: &[Call], id: u32) -> Deed
+    ensures { IsDeed calls.now (Crashed id) result }
+{
+    match call_of(calls, id) {
+        None => Deed::Keeps,
+        Some(call) => match call.what {
+            What::Writes(_) | What::Sets(_, _) => Deed::Keeps,
+            What::Reads => Deed::Leaves(id),
+        },
+    }
+}
+
+/// What an event of an operation makes of each row. The id is that of the operation, and the part of an ok is the answer.
+pub fn deed_of(calls: &[Call], id: u32, kind: EventKind, op: &Op) -> Deed
+    ensures { IsDeed calls.now (mark_by_act id id (act_by kind op.now)) result }
+{
+    match kind {
+        EventKind::Invoke => deed_of_invoke(calls, id, op),
+        EventKind::Ok => deed_of_ok(calls, id, &op.part),
+        EventKind::Fail => Deed::Fails(id),
+        EventKind::Info => deed_of_info(calls, id),
+    }
+}
+
+// Whether the operation is a write of the value that did not take place yet, and may do so just before the last write.
+fn is_free(row: &Row, call: &Call, value: i64) -> bool
+    ensures { IsTrue result ↔ IsFree row.now value call.now }
+{
+    call.what == What::Writes(value) && row.has_door(call)
+}
+
+// The write takes place just before the last write; the operation with the last id is done by it.
+fn put_before(
+    row: &Row,
+    calls: &[Call],
+    write: &Call,
+    value: i64,
+    done: u32,
+) -> Result<Row, AllocError>
+    ensures { IfOk result (IsPutBefore calls.now write.now value done row.now) }
+{
+    let mut mid = row.put(calls, write.id, value, row.door, row.state)?;
+    mid.leave(done);
+    Ok(mid)
+}
+
+// The row alone.
+fn one(alloc: Global, row: Row) -> Result<Vec<Row>, AllocError>
+    ensures { IfOk result (λ made. made.items ≡ row ∷ []) }
+{
+    let mut made = Vec::new(alloc);
+    made.push(row)?;
+    Ok(made)
+}
+
+// The operation has failed.
+fn fail(alloc: Global, row: &Row, id: u32) -> Result<Vec<Row>, AllocError>
+    ensures each { IfOk result (λ made. (new : Row) → Contains made.items new → OfRow [] (Deed.Fails id) row.now new) }
+    ensures all { IfOk result (λ made. AllOfRow [] (Deed.Fails id) row.now (Contains made.items)) }
+{
+    let needed = has_id(&row.needed, id);
+    if needed {
+        return Ok(Vec::new(alloc));
+    }
+    let out = row.without(id)?;
+    let made = one(alloc, out)?;
+    Ok(made)
+}
+
+// The write is done, and was in the row or takes place just before the last write.
+fn end_write(
+    alloc: Global,
+    row: &Row,
+    calls: &[Call],
+    write: &Call,
+    value: i64,
+) -> Result<Vec<Row>, AllocError>
+    ensures each { IfOk result (λ made. (new : Row) → Contains made.items new
+        → OfRow calls.now (Deed.EndsWrite write.now value) row.now new) }
+    ensures all { IfOk result (λ made. AllOfRow calls.now (Deed.EndsWrite write.now value) row.now (Contains made.items)) }
+{
+    let needed = has_id(&row.needed, write.id);
+    if needed {
+        let out = row.without(write.id)?;
+        let made = one(alloc, out)?;
+        return Ok(made);
+    }
+    let may_before = row.has_door(write);
+    if may_before {
+        let put = put_before(row, calls, write, value, write.id)?;
+        let made_before = one(alloc, put)?;
+        return Ok(made_before);
+    }
+    Ok(Vec::new(alloc))
+}
+
+// The cas is done, and was in the row.
+fn end_cas(alloc: Global, row: &Row, cas: &Call) -> Result<Vec<Row>, AllocError>
+    ensures each { IfOk result (λ made. (new : Row) → Contains made.items new
+        → Contains row.now.needed.items cas.now.id × IsWithoutId cas.now.id row.now new) }
+    ensures all { IfOk result (λ made. Contains row.now.needed.items cas.now.id
+        → (new : Row) × IsWithoutId cas.now.id row.now new × Contains made.items new) }
+{
+    let needed = has_id(&row.needed, cas.id);
+    if needed {
+        let out = row.without(cas.id)?;
+        let made = one(alloc, out)?;
+        return Ok(made);
+    }
+    Ok(Vec::new(alloc))
+}
+
+// A write of the value takes place just before the last write, where the read may find it.
+fn write_for_read(
+    alloc: Global,
+    row: &Row,
+    calls: &[Call],
+    read: &Call,
+    value: i64,
+) -> Result<Vec<Row>, AllocError>
+    ensures each { IfOk result (λ made. (new : Row) → Contains made.items new
+        → IsFoundWith calls.now calls.now row.now read.now value new) }
+    ensures all { IfOk result (λ made. AllFoundWith calls.now calls.now row.now read.now value made.items) }
+{
+    let mut made = Vec::new(alloc);
+    for call in calls {
+        if is_free(row, call, value) {
+            let put = put_before(row, calls, call, value, read.id)?;
+            made.push(put)?;
+        }
+    }
+    Ok(made)
+}
+
+// The read has answered the value, and may find it in the row.
+fn end_read(
+    alloc: Global,
+    row: &Row,
+    calls: &[Call],
+    read: &Call,
+    value: i64,
+) -> Result<Vec<Row>, AllocError>
+    ensures each { IfOk result (λ made. (new : Row) → Contains made.items new
+        → OfRow calls.now (Deed.EndsRead read.now value) row.now new) }
+    ensures all { IfOk result (λ made. AllOfRow calls.now (Deed.EndsRead read.now value) row.now (Contains made.items)) }
+{
+    let found = Found {
+        read: read.id,
+        value,
+    };
+    let may_find = has_found(&row.finds, found);
+    if may_find {
+        let out = row.without(read.id)?;
+        let made = one(alloc, out)?;
+        return Ok(made);
+    }
+    let may_before = row.has_door(read);
+    if may_before {
+        let written = write_for_read(alloc, row, calls, read, value)?;
+        return Ok(written);
+    }
+    Ok(Vec::new(alloc))
+}
+
+/// The rows that the deed makes of a row. Takes the time of the operations, each with what the row finds.
+pub fn rows_of_row(
+    alloc: Global,
+    row: &Row,
+    calls: &[Call],
+    deed: &Deed,
+) -> Result<Vec<Row>, AllocError>
+    ensures each { IfOk result (λ made. (new : Row) → Contains made.items new → OfRow calls.now deed.now row.now new) }
+    ensures all { IfOk result (λ made. AllOfRow calls.now deed.now row.now (Contains made.items)) }
+{
+    match deed {
+        Deed::Keeps => {
+            let same = row.copy()?;
+            let alone_same = one(alloc, same)?;
+            Ok(alone_same)
+        }
+        Deed::Begins(id) => {
+            let begun = row.with_read(*id)?;
+            let alone_begun = one(alloc, begun)?;
+            Ok(alone_begun)
+        }
+        Deed::Leaves(id) => {
+            let out = row.without(*id)?;
+            let alone_out = one(alloc, out)?;
+            Ok(alone_out)
+        }
+        Deed::Fails(id) => fail(alloc, row, *id),
+        Deed::EndsWrite(write, value) => end_write(alloc, row, calls, write, *value),
+        Deed::EndsCas(cas, _, _) => end_cas(alloc, row, cas),
+        Deed::EndsRead(read, value) => end_read(alloc, row, calls, read, *value),
+        Deed::EndsNil(_) => Ok(Vec::new(alloc)),
+        Deed::Dies => Ok(Vec::new(alloc)),
+    }
+}
+
+// The update is done behind the front.
+fn done_behind(
+    front: &Front,
+    calls: &[Call],
+    moment: u64,
+    call: &Call,
+) -> Result<Option<Row>, AllocError>
+    ensures each { IfOk result (λ (made : Option Row). IfSome made (IsDoneBy calls.now moment call.now front.now)) }
+    ensures all { IfOk result (λ (made : Option Row). CanStep front.now call.now call.now.what
+        → (new : Row) × IsDoneBy calls.now moment call.now front.now new × (made ≡ Some new)) }
+{
+    match step(front, calls, moment, call)? {
+        None => Ok(None),
+        Some(next) => {
+            let mut row = next.row;
+            row.leave(call.id);
+            Ok(Some(row))
+        }
+    }
+}
+
+// The read has answered the value, which is the state of the front.
+fn read_behind(front: &Front, id: u32, value: i64) -> Result<Option<Row>, AllocError>
+    ensures each { IfOk result (λ (made : Option Row). IfSome made
+        (λ new. (front.now.row.state ≡ Some value) × IsWithoutId id front.now.row new)) }
+    ensures all { IfOk result (λ (made : Option Row). front.now.row.state ≡ Some value
+        → (new : Row) × IsWithoutId id front.now.row new × (made ≡ Some new)) }
+{
+    if front.row.state != Some(value) {
+        return Ok(None);
+    }
+    let out = front.row.without(id)?;
+    Ok(Some(out))
+}
+
+/// The row that the deed makes of a front, if it makes one. Takes the time of the operations, each with what the front finds.
+pub fn row_of_front(
+    front: &Front,
+    calls: &[Call],
+    moment: u64,
+    deed: &Deed,
+) -> Result<Option<Row>, AllocError>
+    ensures each { IfOk result (λ (made : Option Row). IfSome made (OfFront calls.now moment deed.now front.now)) }
+    ensures all { IfOk result (λ (made : Option Row). AllOfFront calls.now moment deed.now front.now (λ new. made ≡ Some new)) }
+{
+    match deed {
+        Deed::EndsWrite(write, _) => {
+            let written = done_behind(front, calls, moment, write)?;
+            Ok(written)
+        }
+        Deed::EndsCas(cas, _, _) => {
+            let set = done_behind(front, calls, moment, cas)?;
+            Ok(set)
+        }
+        Deed::EndsRead(read, value) => {
+            let answered = read_behind(front, read.id, *value)?;
+            Ok(answered)
+        }
+        Deed::EndsNil(id) => {
+            let out = front.row.without(*id)?;
+            Ok(Some(out))
+        }
+        Deed::Keeps => Ok(None),
+        Deed::Begins(_) => Ok(None),
+        Deed::Leaves(_) => Ok(None),
+        Deed::Fails(_) => Ok(None),
+        Deed::Dies => Ok(None),
+    }
+}

@@ -1,0 +1,180 @@
+//! Ends as they are kept.
+ghost use Rattle.std.specs.Prelude.{◌≡◌, ◌<◌, ◌↔◌, ◌⊎◌, ℕ, IfOk, IsTrue, OnOk};
+ghost use Rattle.std.specs.List.{Contains};
+ghost use Rattle.wide_cas_register.specs.Facts.{HasDoor, IsBegun, IsFirst, IsFoundBy, IsPut, IsSame, IsSet, IsWithoutId, is_set};
+ghost use Rattle.wide_cas_register.specs.declared.row.Found.{Found};
+
+use crate::calls::{Call, What};
+use std::alloc::{AllocError, Global};
+
+/// A value that an open read may find.
+#[derive(Clone, Copy, PartialEq, Eq)]
+pub struct Found {
+    pub read: u32,
+    pub value: i64,
+}
+
+/// An end: the state, the open and crashed writes and cas that took place, and what each open read may find. A read or a write that is not
+/// among these may still take place just before the last write if fewer marks than `door` came before its invocation.
+#[derive(Drop)]
+pub struct Row {
+    pub state: Option<i64>,
+    pub needed: Vec<u32>,
+    pub door: u64,
+    pub finds: Vec<Found>,
+}
+
+// Whether the id is among these. Takes their time.
+pub fn has_id(ids: &[u32], id: u32) -> bool
+    ensures { IsTrue result ↔ Contains ids.now id }
+{
+    ids.contains(&id)
+}
+
+// Whether the read may find the value. Takes the time of what is found.
+pub fn has_found(finds: &[Found], found: Found) -> bool
+    ensures { IsTrue result ↔ Contains finds.now found }
+{
+    finds.contains(&found)
+}
+
+// Whether the operation is a cas.
+pub fn is_cas(call: &Call) -> bool
+    ensures { result ≡ is_set call.now.what }
+{
+    matches!(call.what, What::Sets(_, _))
+}
+
+// Whether the operation is a read that was invoked before the gap.
+fn may_find(call: &Call, gap: u64) -> bool
+    ensures { IsTrue result ↔ ((call.now.what ≡ What.Reads) × (call.now.since < gap)) }
+{
+    matches!(call.what, What::Reads) && call.since < gap
+}
+
+// The read may find the value, too. Takes the time of what is found.
+fn note(finds: &mut Vec<Found>, found: Found) -> Result<(), AllocError>
+    ensures { OnOk result ((f : Found) → Contains finds.new.items f ↔ (Contains finds.old.items f ⊎ (found ≡ f))) }
+{
+    if !has_found(finds, found) {
+        finds.push(found)?;
+    }
+    Ok(())
+}
+
+// Each open read that was invoked before the gap may find the value. Takes the time of the operations and of what is found.
+fn find_value(
+    finds: &mut Vec<Found>,
+    calls: &[Call],
+    gap: u64,
+    value: i64,
+) -> Result<(), AllocError>
+    ensures { OnOk result ((f : Found) → Contains finds.new.items f
+        ↔ (Contains finds.old.items f ⊎ IsFoundBy calls.now gap value f)) }
+{
+    for call in calls {
+        if may_find(call, gap) {
+            note(
+                finds,
+                Found {
+                    read: call.id,
+                    value,
+                },
+            )?;
+        }
+    }
+    Ok(())
+}
+
+impl Row {
+    /// The end of no operation. Takes constant time, and no memory.
+    pub fn start(alloc: Global) -> Row
+        ensures { IsFirst result }
+    {
+        Row {
+            state: None,
+            needed: Vec::new(alloc),
+            door: 0,
+            finds: Vec::new(alloc),
+        }
+    }
+
+    /// The same again. Takes the time of its lists.
+    pub fn copy(&self) -> Result<Row, AllocError>
+        ensures { IfOk result (IsSame self.now) }
+    {
+        Ok(Row {
+            state: self.state,
+            needed: self.needed.clone()?,
+            door: self.door,
+            finds: self.finds.clone()?,
+        })
+    }
+
+    /// Whether the operation, a read or a write, may still take place just before the last write.
+    pub fn has_door(&self, call: &Call) -> bool
+        ensures { IsTrue result ↔ HasDoor self.now call.now }
+    {
+        call.since < self.door && !has_id(&self.needed, call.id) && !is_cas(call)
+    }
+
+    /// The operation is done, or out. Takes the time of its lists.
+    pub fn leave(&mut self, id: u32)
+        ensures { IsWithoutId id self.old self.new }
+    {
+        self.needed.retain(|other| *other != id);
+        self.finds.retain(|found| found.read != id);
+    }
+
+    /// The row without the operation. Takes the time of its lists.
+    pub fn without(&self, id: u32) -> Result<Row, AllocError>
+        ensures { IfOk result (IsWithoutId id self.now) }
+    {
+        let mut row = self.copy()?;
+        row.leave(id);
+        Ok(row)
+    }
+
+    /// The row as the read begins, which may find the state. Takes the time of its lists.
+    pub fn with_read(&self, id: u32) -> Result<Row, AllocError>
+        ensures { IfOk result (IsBegun id self.now) }
+    {
+        let mut row = self.copy()?;
+        if let Some(value) = row.state {
+            row.finds.push(Found { read: id, value })?;
+        }
+        Ok(row)
+    }
+
+    /// The row as the write takes place at this gap, and leaves this state behind all. Takes the time of its lists and of the operations,
+    /// each with what is found.
+    pub fn put(
+        &self,
+        calls: &[Call],
+        write: u32,
+        value: i64,
+        gap: u64,
+        state: Option<i64>,
+    ) -> Result<Row, AllocError>
+        ensures { IfOk result (IsPut calls.now write value gap state self.now) }
+    {
+        let mut row = self.copy()?;
+        row.state = state;
+        row.door = gap;
+        row.needed.push(write)?;
+        find_value(&mut row.finds, calls, gap, value)?;
+        Ok(row)
+    }
+
+    /// The row as the cas takes place behind all others, at this moment, and leaves this value. Takes the time of its lists and of the
+    /// operations, each with what is found.
+    pub fn set(&self, calls: &[Call], cas: u32, value: i64, moment: u64) -> Result<Row, AllocError>
+        ensures { IfOk result (IsSet calls.now cas value moment self.now) }
+    {
+        let mut row = self.copy()?;
+        row.state = Some(value);
+        row.needed.push(cas)?;
+        find_value(&mut row.finds, calls, moment, value)?;
+        Ok(row)
+    }
+}
