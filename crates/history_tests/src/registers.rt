@@ -9,9 +9,9 @@ use std::alloc::{AllocError, Global};
 use std::test::Fail;
 use wide_register::WideRegister;
 
-// What an event carries: nothing, a value, or two.
+/// What an event carries: nothing, a value, or two.
 #[derive(Clone, Copy)]
-enum Said {
+pub enum Said {
     Nil,
     One(i64),
     Two(i64, i64),
@@ -19,7 +19,8 @@ enum Said {
 
 use Said::{Nil, One, Two};
 
-fn part_of(said: Said) -> Part {
+/// The part of an operation.
+pub fn part_of(said: Said) -> Part {
     match said {
         Nil => Part::Nil,
         One(value) => Part::Int(value),
@@ -27,8 +28,8 @@ fn part_of(said: Said) -> Part {
     }
 }
 
-// An event of the operation with this id, and its answer.
-type Row = (u32, EventKind, Name, Said, Step);
+/// An event of the operation with this id, and its answer.
+pub type Row = (u32, EventKind, Name, Said, Step);
 
 // Each event is prepared and committed, and observed by a copy.
 fn judge_next(register: &mut WideRegister, row: Row) -> Result<bool, AllocError> {
