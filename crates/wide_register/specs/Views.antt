@@ -3,10 +3,11 @@ use Rattle.std.specs.Prelude.{◌≡◌, ◌⊎◌, Bool, true, false, IsTrue, O
 use Rattle.events.specs.declared.event.EventKind.{EventKind}
 use Rattle.events.specs.declared.event.EventKind.TheVariants.{Invoke, Ok, Fail, Info}
 use Rattle.wide_register.specs.declared.kept.Kept.{Kept}
+use Rattle.wide_register.specs.declared.kept.Change.{Change}
 use Rattle.judging.specs.declared.step.Step.{Step}
 use Rattle.judging.specs.declared.step.Step.TheVariants.{Alive, Dead}
 use Rattle.wide_register.specs.declared.judged.WideRegister.{WideRegister}
-use Rattle.wide_register.specs.Facts.{AreFacts}
+use Rattle.wide_register.specs.Facts.{AreFacts, changed}
 use Rattle.judging.specs.Meaning.{FrontierView}
 
 -- an ok and a fail can kill
@@ -29,9 +30,9 @@ IsStepLeft left kind step =
     ⊎ ((step ≡ Alive) × (¬ ((left.rows.items ≡ []) × IsTrue (kills kind))))
 
 -- what is prepared, or if nothing is, what is kept
-abbrev pub next_of : Option Kept → Kept → Kept
+abbrev pub next_of : Option Change → Kept → Kept
 next_of None kept = kept
-next_of (Some next) kept = next
+next_of (Some change) kept = changed change kept
 
 abbrev pub view_of : WideRegister → FrontierView
 view_of w = record {
