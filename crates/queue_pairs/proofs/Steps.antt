@@ -1,4 +1,4 @@
--- what a step of a queue may be, and what went in and came out in a run
+-- the possible steps of a queue, and the values that were put in and taken out in a run
 use Rattle.std.proofs.Common.{◌≡◌, suc, ◌+◌, ◌≤◌, ◌<◌, ℤ, ◌⊎◌, inl, inr, ⊎_elim, List, [], ◌∷◌, ◌++◌, length, refl, sym, ap, ◌∙◌, subst, arith, append_assoc, append-nil, length-append}
 use Rattle.std.specs.List.{Contains}
 use Rattle.std.specs.Ordering.{int_eq}
@@ -71,7 +71,7 @@ finds_or_not v Done = inr (λ e. cc)
 finds_or_not v (Reg s) = inr (λ e. cc)
 finds_or_not v (Elements s) = inr (λ e. cc)
 
--- what an order puts in, and what it takes out
+-- the values that an order puts in, and those that it takes out
 abbrev in_of : Name → Part → List ℤ
 in_of Enqueue (Int v) = v ∷ []
 in_of _ _ = []
@@ -121,7 +121,7 @@ ins_at x xs v h = ap (λ l. l ++ ins xs) (in_by x.op.name x.op.part v h)
 pub outs_at : (x : Taken) (xs : List Taken) (v : ℤ) → x.found ≡ Item v → outs (x ∷ xs) ≡ v ∷ outs xs
 outs_at x xs v h = ap (λ f. out_of f ++ outs xs) h
 
--- what was in and what went in is what came out and what is left
+-- the old values and those put in are those taken out and the rest
 pub in_and_out : (order : List Taken) (s t : List ℤ) → Run fifo_queue s order t → s ++ ins order ≡ outs order ++ t
 in_and_out [] s t run = append-nil s ∙ run
 in_and_out (x ∷ order) s t run = ⊎_elim

@@ -1,5 +1,5 @@
--- Promise: a queue whose values differ, by its answers alone (Henzinger, Sezgin and Vafeiadis 2013; here with operations that are open, have
--- failed or have crashed, and with no answer from an empty queue)
+-- Promise: a queue whose values differ, by its answers alone (Henzinger, Sezgin and Vafeiadis 2013). Here operations may be open, may have
+-- failed or have crashed, and no dequeue answers that the queue is empty
 use Rattle.std.specs.Prelude.{◌≡◌, ◌≢◌, ℕ, ℤ, ◌⊎◌, List}
 use Rattle.std.specs.List.{Contains}
 use Rattle.models.specs.declared.operation.Name.TheVariants.{Enqueue, Dequeue}
@@ -31,7 +31,7 @@ pub record HasDequeued (marks : List Mark) (id : ℕ) (v : ℤ) : Type 0 where
   pub dequeues : Dequeues op
   pub answer : Contains marks (Returned id (Number v))
 
--- the operation is a dequeue that may take a value of which nobody was told: it is open, or has crashed
+-- the operation is a dequeue that may take a value without an answered dequeue: it is open, or has crashed
 pub record MayDequeue (marks : List Mark) (id : ℕ) : Type 0 where
   pub op : Op
   pub invoked : Contains marks (Invoked id op)
@@ -48,8 +48,7 @@ IsBefore marks u v =
 abbrev pub IsUntold : List Mark → ℤ → Type 0
 IsUntold marks v = (id : ℕ) → ¬ HasDequeued marks id v
 
--- a dequeue of which nobody was told must have taken u before d: nobody was told of u, and it came in before the value that d has
--- dequeued
+-- a dequeue without an answer must have taken u before d: u has no answered dequeue, and was enqueued before the value that d has dequeued
 pub record IsOwedTo (marks : List Mark) (u : ℤ) (d : ℕ) : Type 0 where
   pub untold : IsUntold marks u
   pub v : ℤ
@@ -67,18 +66,18 @@ pub record IsPaired (marks : List Mark) : Type 0 where
   -- each done operation is an enqueue of a value, or has dequeued one
   pub known : (id : ℕ) → HasReturned marks id
       → ((v : ℤ) × IsEnqueueOf marks id v) ⊎ ((v : ℤ) × HasDequeued marks id v)
-  -- what was dequeued has an enqueue that has not failed and that the dequeue does not precede
+  -- a dequeued value has an enqueue that has not failed and that the dequeue does not precede
   pub added : (d : ℕ) (v : ℤ) → HasDequeued marks d v
       → (a : ℕ) × MayEnqueue marks a v × (¬ Precedes marks d a)
   -- a value is dequeued once
   pub once : (c d : ℕ) (v : ℤ) → HasDequeued marks c v → HasDequeued marks d v → c ≡ d
-  -- what came in first is not dequeued last
+  -- a value that was enqueued first is not dequeued last
   pub in_turn : (u v : ℤ) (c d : ℕ) → IsBefore marks u v → HasDequeued marks c u
       → HasDequeued marks d v → ¬ Precedes marks d c
-  -- what came in before a dequeued value and was not dequeued has a taker
+  -- a value that was enqueued before a dequeued value and was not dequeued has a taker
   pub taken : (taker : ℤ → ℕ) × AreTakers marks taker
 
--- values differ. Two operations are twins where they are enqueues of one value and neither has failed
+-- values differ. Two operations are twins if they are enqueues of one value and neither has failed
 pub record AreTwins (marks : List Mark) (a b : ℕ) (v : ℤ) : Type 0 where
   pub two : a ≢ b
   pub first : MayEnqueue marks a v
@@ -87,11 +86,11 @@ pub record AreTwins (marks : List Mark) (a b : ℕ) (v : ℤ) : Type 0 where
 abbrev pub HasTwins : List Mark → Type 0
 HasTwins marks = (a b : ℕ) × (v : ℤ) × AreTwins marks a b v
 
--- an operation is late where it was invoked after every ok
+-- an operation is late if it was invoked after every ok
 abbrev pub IsLate : List Mark → ℕ → Type 0
 IsLate marks id = (done : ℕ) → HasReturned marks done → Precedes marks done id
 
--- of two twins one is late, so no answer tells of it yet
+-- one of two twins is late, so no ok came after its invocation
 abbrev pub TwinsAreLate : List Mark → Type 0
 TwinsAreLate marks = (a b : ℕ) (v : ℤ) → AreTwins marks a b v → IsLate marks a ⊎ IsLate marks b
 
@@ -100,7 +99,7 @@ abbrev pub TwinsAreAlwaysLate : List Entry → Type 0
 TwinsAreAlwaysLate entries =
     (front : List Entry) → IsFront front entries → TwinsAreLate (marks front)
 
--- u needs a taker once v is dequeued: it is another value, nobody was told of it, and it came in before v or is owed already
+-- u needs a taker once v is dequeued: it is another value, has no answered dequeue, and was enqueued before v or is owed already
 abbrev pub IsOwedBeside : List Mark → ℤ → ℤ → Type 0
 IsOwedBeside marks v u =
     (u ≢ v) × IsUntold marks u × (IsBefore marks u v ⊎ ((d : ℕ) × IsOwedTo marks u d))
@@ -121,7 +120,7 @@ pub record MayTake (marks : List Mark) (id : ℕ) (v : ℤ) : Type 0 where
   pub in_turn : (d : ℕ) → IsOwedTo marks v d → ¬ Precedes marks d id
   pub taken : (taker : ℤ → ℕ) × AreTakersBeside marks id v taker
 
--- an operation that is open may fail now: what was dequeued has another enqueue, and what is owed another taker
+-- an operation that is open may fail now: a dequeued value has another enqueue, and an owed value another taker
 pub record MayFail (marks : List Mark) (id : ℕ) : Type 0 where
   pub added : (d : ℕ) (v : ℤ) → HasDequeued marks d v → IsEnqueueOf marks id v
       → (a : ℕ) × MayEnqueue marks a v × (¬ Precedes marks d a) × (a ≢ id)
