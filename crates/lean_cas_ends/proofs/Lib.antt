@@ -1,0 +1,4 @@
+pub mod Runs
+pub mod Between
+pub mod Stands
+pub mod Inserting
