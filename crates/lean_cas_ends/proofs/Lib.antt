@@ -2,3 +2,5 @@ pub mod Runs
 pub mod Between
 pub mod Stands
 pub mod Inserting
+pub mod Walking
+pub mod Serving
