@@ -4,3 +4,5 @@ pub mod Stands
 pub mod Inserting
 pub mod Walking
 pub mod Serving
+pub mod Keeping
+pub mod Sound
