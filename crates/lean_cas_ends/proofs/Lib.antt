@@ -6,3 +6,4 @@ pub mod Walking
 pub mod Serving
 pub mod Keeping
 pub mod Sound
+pub mod Counting
