@@ -7,3 +7,4 @@ pub mod Serving
 pub mod Keeping
 pub mod Sound
 pub mod Counting
+pub mod Makes
