@@ -8,3 +8,4 @@ pub mod Keeping
 pub mod Sound
 pub mod Counting
 pub mod Makes
+pub mod Cutting
