@@ -9,3 +9,4 @@ pub mod Sound
 pub mod Counting
 pub mod Makes
 pub mod Cutting
+pub mod Leading
