@@ -21,7 +21,7 @@ use Rattle.lean_cas_ends.proofs.Makes.{some_put, some_last, more_doors, with_doo
 use Rattle.lean_cas_ends.proofs.Cutting.{Block, flat, out, end_of, Chain, Runs, LastVisit, last_visit, NoWrites, LastWrite, last_write, Avoids, avoids_behind, Way, way_none, way_then, way_one, Ready, ready_back, ready_then, CutSwaps, cut_swaps}
 
 -- the first that changes the state is a cas
-abbrev first_by : Name → Bool → Bool
+abbrev pub first_by : Name → Bool → Bool
 first_by Cas later = true
 first_by Write later = false
 first_by name later = later
@@ -30,11 +30,11 @@ abbrev pub first_swaps : List Taken → Bool
 first_swaps [] = false
 first_swaps (x ∷ xs) = first_by x.op.name (first_swaps xs)
 
-abbrev needs_by : Name → Bool → Bool
+abbrev pub needs_by : Name → Bool → Bool
 needs_by Write b = b
 needs_by name b = false
 
-abbrev and_also : Bool → Bool → Bool
+abbrev pub and_also : Bool → Bool → Bool
 and_also true b = b
 and_also false b = false
 

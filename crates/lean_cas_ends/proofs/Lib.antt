@@ -10,3 +10,4 @@ pub mod Counting
 pub mod Makes
 pub mod Cutting
 pub mod Leading
+pub mod Plans
