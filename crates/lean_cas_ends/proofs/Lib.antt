@@ -11,3 +11,4 @@ pub mod Makes
 pub mod Cutting
 pub mod Leading
 pub mod Plans
+pub mod Rebuilding

@@ -1,4 +1,5 @@
 use Rattle.lean_cas_ends.proofs.Plans.{covers_left, covers_later, covers_at_most}
+use Rattle.lean_cas_ends.proofs.Rebuilding.{rebuild, inside, through, allowed_fewer}
 use Rattle.lean_cas_ends.proofs.Makes.{some_left, some_call, some_at_door, with_door_is, some_put}
 use Rattle.lean_cas_ends.proofs.Sound.{counted_is_sound}
 use Rattle.lean_cas_ends.proofs.Counting.{as_many}
