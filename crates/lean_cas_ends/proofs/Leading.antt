@@ -85,13 +85,13 @@ count_none v (b ∷ bs) n =
     let z = needs_none v b (n b (Contains-head b bs)) in omega (arith, ih, z)
 
 module _ (marks : List Mark) (well : AreWellFormed marks) (who : ℕ → Bool) where
-  run_to : (s t : Option ℤ) (xs ys : List Taken) → Run cas_register s (xs ++ ys) t → Run cas_register s xs (behind s xs) × Run cas_register (behind s xs) ys t
+  pub run_to : (s t : Option ℤ) (xs ys : List Taken) → Run cas_register s (xs ++ ys) t → Run cas_register s xs (behind s xs) × Run cas_register (behind s xs) ys t
   run_to s t xs ys r = let k = Run-cut cas_register s t xs ys r in
       let q : behind s xs ≡ k.0 = run_behind xs s k.0 k.1 in
       (subst (λ o. Run cas_register s xs o) (sym q) k.1, subst (λ o. Run cas_register o ys t) (sym q) k.2)
 
   -- a write can take place
-  some_write : (e : LeanEnd) (s t : Option ℤ) (x : Taken) (v : ℤ) → Contains marks (Invoked x.id x.op) → Writes x.op v → t ≡ Some v → IsTrue (who x.id) → ¬ IsTrue (e.needed x.id)
+  pub some_write : (e : LeanEnd) (s t : Option ℤ) (x : Taken) (v : ℤ) → Contains marks (Invoked x.id x.op) → Writes x.op v → t ≡ Some v → IsTrue (who x.id) → ¬ IsTrue (e.needed x.id)
       → (f : LeanEnd) × WritesTo marks who e s x.id f t
   some_write e s t x v invoked is to may free =
       let l = some_last e.last who in

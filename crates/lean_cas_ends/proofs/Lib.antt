@@ -12,3 +12,4 @@ pub mod Cutting
 pub mod Leading
 pub mod Plans
 pub mod Rebuilding
+pub mod Giving

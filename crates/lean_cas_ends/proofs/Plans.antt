@@ -56,7 +56,7 @@ extra_in (b ∷ bs) tail x h = ⊎_elim
     (λ k. Contains-append_right b.seg (b.pin ∷ flat bs tail) x (Contains-tail b.pin (flat bs tail) x (extra_in bs tail x k)))
     (Contains-append_cases b.seg (extras bs ++ tail) x (subst (λ l. Contains l x) (append_assoc b.seg (extras bs) tail) h))
 
-pin_in : (bs : List Block) (tail : List Taken) (b : Block) → Contains bs b → Contains (flat bs tail) b.pin
+pub pin_in : (bs : List Block) (tail : List Taken) (b : Block) → Contains bs b → Contains (flat bs tail) b.pin
 pin_in [] tail b h = absurd (Contains-nil b h)
 pin_in (c ∷ bs) tail b h = ⊎_elim
     (λ q. subst (λ (d : Block). Contains (flat (c ∷ bs) tail) d.pin) q (Contains-append_right c.seg (c.pin ∷ flat bs tail) c.pin (Contains-head c.pin (flat bs tail))))

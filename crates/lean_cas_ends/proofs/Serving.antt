@@ -160,8 +160,8 @@ module _ (marks : List Mark) (well : AreWellFormed marks) (id : ℕ) (answer : A
       let g = k.1 in
       let t = k.2 in
       let who : ℕ → Bool = e.place a in
-      let there = served_by marks well id who true answer e g a t k.4 in
-      let back = moves_of_walk marks well id who true g f t a k.5 in
+      let there = served_by marks well id who true answer e g a t k.3 in
+      let back = moves_of_walk marks well id who true g f t a k.4 in
       let d = served_then_moves marks well id who answer e g f a t a there back in
       ⊎_elim
       (λ (p : Place marks order who a).
@@ -169,7 +169,7 @@ module _ (marks : List Mark) (well : AreWellFormed marks) (id : ℕ) (answer : A
       (subst (λ o. Walk marks id who e f o d.0 a) (sym p.here) d.1)
       (subst (λ o. Doors who e f o d.0) (sym p.here) d.2)
       p.late (s.comes a) (subst (λ o. Run cas_register o p.back t0) p.here (tail_run p.front p.back p.cut)) (inr (sym p.here)) (s.state ∙ sym d.1.state) d.3)
-      (λ none. absurd (none id (who_is true who e g a t k.4)))
+      (λ none. absurd (none id (who_is true who e g a t k.3)))
       (s.place a)
 
   -- what comes before a write leads to it

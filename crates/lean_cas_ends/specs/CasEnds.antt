@@ -139,10 +139,10 @@ IsServedAtDoor marks e id answer f =
     × AreAtDoor e s n who h × Serves false marks id answer who h s g t
     × IsWithDoor who t g f × (f.state ≡ g.state) × (f.needed ≡ g.needed) × (f.place ≡ g.place) × (f.last ≡ g.last)
 
--- at an earlier place with another state s, to which a walk leads back
+-- at an earlier place with the state s, to which a walk leads back
 abbrev pub IsServedInLoop : List Mark → LeanEnd → ℕ → Answer → LeanEnd → Type 0
 IsServedInLoop marks e id answer f =
-    (s : Option ℤ) × (g : LeanEnd) × (t : Option ℤ) × (s ≢ e.state)
+    (s : Option ℤ) × (g : LeanEnd) × (t : Option ℤ)
     × Serves true marks id answer (e.place s) e s g t × Walks true marks (e.place s) g t f s
 
 abbrev pub IsServed : List Mark → LeanEnd → ℕ → Answer → LeanEnd → Type 0

@@ -1,3 +1,4 @@
+use Rattle.lean_cas_ends.proofs.Giving.{gives, before_led, before_write}
 use Rattle.lean_cas_ends.proofs.Plans.{covers_left, covers_later, covers_at_most}
 use Rattle.lean_cas_ends.proofs.Rebuilding.{rebuild, inside, through, allowed_fewer}
 use Rattle.lean_cas_ends.proofs.Makes.{some_left, some_call, some_at_door, with_door_is, some_put}
