@@ -35,6 +35,10 @@ number_of s (Number a) f n = (a, refl, f)
 number_of s (Numbers a b) f n = absurd f
 number_of s (Many l) f n = absurd f
 
+pub flat_more : (bs : List Block) (l m : List Taken) → flat bs l ++ m ≡ flat bs (l ++ m)
+flat_more [] l m = refl
+flat_more (b ∷ bs) l m = append_assoc b.seg (b.pin ∷ flat bs l) m ∙ ap (λ k. b.seg ++ b.pin ∷ k) (flat_more bs l m)
+
 module _ (marks : List Mark) (well : AreWellFormed marks) (id : ℕ) (answer : Answer) (who : ℕ → Bool) where
   -- what a walk and the operation that returns make of an end, and the list in parts
   pub record Gives (may_write : Bool) (e : LeanEnd) (s : Option ℤ) (xs : List Taken) (u : Option ℤ) : Type 0 where
@@ -155,9 +159,6 @@ module _ (marks : List Mark) (well : AreWellFormed marks) (id : ℕ) (answer : A
       inv : Contains marks (Invoked x.id x.op)
       inv = ready.invoked x mem
 
-      flat_more : (bs : List Block) (l m : List Taken) → flat bs l ++ m ≡ flat bs (l ++ m)
-      flat_more [] l m = refl
-      flat_more (b ∷ bs) l m = append_assoc b.seg (b.pin ∷ flat bs l) m ∙ ap (λ k. b.seg ++ b.pin ∷ k) (flat_more bs l m)
 
   -- a write, wherever it is
   pub gives_write : (e : LeanEnd) (s t u : Option ℤ) (pre post : List Taken) (x : Taken) → x.id ≡ id → Ready marks who e (pre ++ x ∷ post)

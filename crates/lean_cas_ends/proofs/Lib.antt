@@ -13,3 +13,6 @@ pub mod Leading
 pub mod Plans
 pub mod Rebuilding
 pub mod Giving
+pub mod Completing
+pub mod Blocks
+pub mod Growing

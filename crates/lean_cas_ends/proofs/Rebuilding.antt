@@ -56,7 +56,9 @@ module _ (marks : List Mark) (e f : LeanEnd) (place : (u : Option ℤ) (i : ℕ)
     )
 
   -- the blocks of a walk
-  module _ (who : ℕ → Bool) (s0 t : Option ℤ) (all : List Block) (way : Way marks who e f s0 all t) (big rest : List Taken) (end : List Block) (tail : List Taken)
+  module _ (who : ℕ → Bool) (t : Option ℤ) (all : List Block)
+      (place_new : (b : Block) (i : ℕ) → Contains all b → IsTrue (who i) → IsTrue (f.place (out b) i))
+      (last_new : (b : Block) (i : ℕ) → Contains all b → b.pin.op.name ≡ Write → IsTrue (who i) → IsTrue (f.last i)) (big rest : List Taken) (end : List Block) (tail : List Taken)
       (base : (r : Taken) → Contains big r → IsOpen marks r.id → (z : Taken) → Contains big z → MayCome marks z.id → IsTrue (who z.id)) where
     abbrev Here : Option ℤ → Type 0
     Here s = (r : Taken) → Contains big r → IsOpen marks r.id → (z : Taken) → Contains big z → MayCome marks z.id → IsTrue (f.place s z.id)
@@ -76,12 +78,12 @@ module _ (marks : List Mark) (e f : LeanEnd) (place : (u : Option ℤ) (i : ℕ)
             (Contains-append_cases xs b.seg x h)) in (
           (λ r h o z k c. (
             subst (λ q. IsTrue (f.place q z.id)) (sym chain.0) (here r (in_big r h) o z (in_big z k) c),
-            (λ w. way.last_new b z.id mem w (base r (in_big r h) o z (in_big z k) c)),
+            (λ w. last_new b z.id mem w (base r (in_big r h) o z (in_big z k) c)),
             (λ v. cnt r (in_big r h) o z (in_big z k) c v),
           )),
           inside ending bs (out b) (xs ++ b.seg) chain.1 to (λ d h. among d (Contains-tail b bs d h))
               (λ x h. sub x (subst (λ l. Contains l x) (append_assoc xs b.seg (extras bs ++ rest) ∙ ap (λ l. xs ++ l) (sym (append_assoc b.seg (extras bs) rest))) h))
-              (λ r h o z k c. way.place_new b z.id mem (base r h o z k c))
+              (λ r h o z k c. place_new b z.id mem (base r h o z k c))
               (λ r h o z k c v. (let d = cnt r h o z k c v in omega (arith, d))),
         )
 

@@ -1,3 +1,6 @@
+use Rattle.lean_cas_ends.proofs.Growing.{all_free_after}
+use Rattle.lean_cas_ends.proofs.Blocks.{block_case}
+use Rattle.lean_cas_ends.proofs.Completing.{block_covers, tail_case}
 use Rattle.lean_cas_ends.proofs.Giving.{gives, before_led, before_write}
 use Rattle.lean_cas_ends.proofs.Plans.{covers_left, covers_later, covers_at_most}
 use Rattle.lean_cas_ends.proofs.Rebuilding.{rebuild, inside, through, allowed_fewer}
