@@ -16,3 +16,7 @@ pub mod Giving
 pub mod Completing
 pub mod Blocks
 pub mod Growing
+pub mod Complete
+pub mod Beginning
+pub mod Whole
+pub mod BadFronts
