@@ -1,23 +1,23 @@
 -- each legal order of a history with one more invocation comes of an end
-use Rattle.std.proofs.Common.{◌≡◌, ◌≢◌, ◌↔◌, ℕ, ◌+◌, ◌≤◌, ℤ, ◌⊎◌, inl, inr, ⊎_elim, Bool, IsTrue, Option, Some, None, List, [], ◌∷◌, ◌++◌, refl, sym, ap, ◌∙◌, subst, append_assoc, append-nil, arith}
+use Rattle.std.proofs.Common.{◌≡◌, ◌≢◌, ℕ, ◌≤◌, ℤ, inl, inr, ⊎_elim, IsTrue, Option, List, [], ◌∷◌, ◌++◌, refl, sym, ap, ◌∙◌, subst, append_assoc, append-nil}
 use Rattle.std.specs.List.{Contains}
 use Rattle.std.proofs.lemmas.Bool.{cases_eq}
 use Rattle.std.proofs.lemmas.List.Elements.{Contains-append_left, Contains-append_right, Contains-append_cases, Contains-push_cases}
 use Rattle.models.specs.declared.operation.Op.{Op}
 use Rattle.models.specs.Objects.{cas_register}
 use Rattle.events.specs.Events.{Mark}
-use Rattle.events.specs.Events.Mark.{Invoked, Returned, Failed, Crashed}
+use Rattle.events.specs.Events.Mark.{Invoked, Returned}
 use Rattle.linspec.specs.MarkRule.{IsNew, AreWellFormed}
-use Rattle.linspec.specs.Operations.{HasReturned, IsOpen, Precedes}
+use Rattle.linspec.specs.Operations.{HasReturned, Precedes}
 use Rattle.linspec.specs.Orders.{Taken, Pairwise, Run, IsLegalOrder}
-use Rattle.linspec.proofs.Lists.{Contains-nil, Contains-head, Contains-tail, Contains-cons_cases, Pairwise-append, Pairwise-right, Pairwise-across}
+use Rattle.linspec.proofs.Lists.{Contains-nil, Contains-head, Contains-cons_cases, Pairwise-append, Pairwise-right, Pairwise-across}
 use Rattle.linspec.proofs.Marks.{IsLegalOrder-fewer, IsLegalOrder-cut, Run-append}
 use Rattle.linspec.proofs.Open.{open_without_new}
-use Rattle.linspec.specs.LeanEnds.{Reads, IsRead}
+use Rattle.linspec.specs.LeanEnds.{Reads}
 use Rattle.lean_ends.proofs.Once.{one_op}
-use Rattle.lean_cas_ends.specs.CasEnds.{MayCome, LeanEnd, IsWithCall, IsFree}
+use Rattle.lean_cas_ends.specs.CasEnds.{MayCome, LeanEnd, IsWithCall}
 use Rattle.lean_cas_ends.proofs.Makes.{some_call}
-use Rattle.lean_cas_ends.proofs.Cutting.{Block, flat, IsPin}
+use Rattle.lean_cas_ends.proofs.Cutting.{Block, flat}
 use Rattle.lean_cas_ends.proofs.Leading.{count}
 use Rattle.lean_cas_ends.proofs.Plans.{extras, Allowed, Covers, extra_in, pin_in}
 use Rattle.lean_cas_ends.proofs.Giving.{flat_more}
@@ -55,15 +55,15 @@ module _ (marks : List Mark) (id : ℕ) (op : Op) (well : AreWellFormed (marks +
         old z k m = subst (λ s. IsTrue (g.place s z.id)) (sym call.same.0) (begun_place e.state z.id (a z k (came_was z.id (ne z k) m)))
     begun_allowed q new xs (b ∷ bs) tail ne a =
         let ne_here : (z : Taken) → Contains (xs ++ b.seg) z → z.id ≢ id = λ z h. ne z (⊎_elim
-            (λ k. Contains-append_left xs ((b.seg ++ extras bs) ++ tail) z k)
-            (λ k. Contains-append_right xs ((b.seg ++ extras bs) ++ tail) z (Contains-append_left (b.seg ++ extras bs) tail z (Contains-append_left b.seg (extras bs) z k)))
-            (Contains-append_cases xs b.seg z h)) in (
+        (λ k. Contains-append_left xs ((b.seg ++ extras bs) ++ tail) z k)
+        (λ k. Contains-append_right xs ((b.seg ++ extras bs) ++ tail) z (Contains-append_left (b.seg ++ extras bs) tail z (Contains-append_left b.seg (extras bs) z k)))
+        (Contains-append_cases xs b.seg z h)) in (
           (λ r h o z k m. (
-            let p = a.0 r h (open_without_new marks id op fresh r.id (ne_here r h) o) z k (came_was z.id (ne_here z k) m) in (
-              begun_place b.at z.id p.0,
-              (λ w. subst (λ l. IsTrue (l z.id)) (sym call.same.2) (p.1 w)),
-              (λ v. subst (λ d. count v (b ∷ bs) ≤ d v z.id) (sym call.same.3) (p.2 v)),
-            ))),
+              let p = a.0 r h (open_without_new marks id op fresh r.id (ne_here r h) o) z k (came_was z.id (ne_here z k) m) in (
+                begun_place b.at z.id p.0,
+                (λ w. subst (λ l. IsTrue (l z.id)) (sym call.same.2) (p.1 w)),
+                (λ v. subst (λ d. count v (b ∷ bs) ≤ d v z.id) (sym call.same.3) (p.2 v)),
+              ))),
           begun_allowed q new (xs ++ b.seg) bs tail
               (λ z h. ne z (subst (λ l. Contains l z) (append_assoc xs b.seg (extras bs ++ tail) ∙ ap (λ l. xs ++ l) (sym (append_assoc b.seg (extras bs) tail))) h))
               a.1,
@@ -87,8 +87,10 @@ module _ (marks : List Mark) (id : ℕ) (op : Op) (well : AreWellFormed (marks +
     new_place : (z : Taken) → Contains q z → MayCome longer z.id → IsTrue (g.place g.state z.id)
     new_place z h m = subst (λ o. IsTrue (g.place o z.id)) (sym call.same.0) (⊎_elim
         (λ k. (call.place e.state z.id).1 (inr (k, refl)))
-        (λ k. (call.place e.state z.id).1 (inl (all z.id (came_was z.id k m,
-        (λ n. (let j = c.needed z.id n in Pairwise-across (λ a b. a.id ≢ b.id) p q l.once j.0.pin z (in_p j.0.pin (pin_in c.blocks c.tail j.0 j.1)) h j.2))))))
+        (λ k. (call.place e.state z.id).1 (inl (all z.id (
+          came_was z.id k m,
+          (λ n. (let j = c.needed z.id n in Pairwise-across (λ a b. a.id ≢ b.id) p q l.once j.0.pin z (in_p j.0.pin (pin_in c.blocks c.tail j.0 j.1)) h j.2)),
+        ))))
         (cases_eq z.id id))
 
     begun_come : (z : Taken) → Contains (extras c.blocks ++ (c.tail ++ q)) z → ¬ Reads z.op → MayCome longer z.id
@@ -113,22 +115,22 @@ module _ (marks : List Mark) (id : ℕ) (op : Op) (well : AreWellFormed (marks +
       run_tail = subst (λ o. Run cas_register o (c.tail ++ q) t) (sym call.same.0) (Run-append cas_register e.state s t c.tail q c.run_tail run);
       same = λ z. (
         (λ h. subst (λ m. Contains m z) (sym more) (⊎_elim
-        (λ k. Contains-append_left (flat c.blocks c.tail) q z ((c.same z).0 k))
-        (λ k. Contains-append_right (flat c.blocks c.tail) q z k)
-        (Contains-append_cases p q z h))),
+            (λ k. Contains-append_left (flat c.blocks c.tail) q z ((c.same z).0 k))
+            (λ k. Contains-append_right (flat c.blocks c.tail) q z k)
+            (Contains-append_cases p q z h))),
         (λ h. ⊎_elim
-        (λ k. Contains-append_left p q z (in_p z k))
-        (λ k. Contains-append_right p q z k)
-        (Contains-append_cases (flat c.blocks c.tail) q z (subst (λ m. Contains m z) more h))),
+            (λ k. Contains-append_left p q z (in_p z k))
+            (λ k. Contains-append_right p q z k)
+            (Contains-append_cases (flat c.blocks c.tail) q z (subst (λ m. Contains m z) more h))),
       );
       once = subst (Pairwise (λ x y. x.id ≢ y.id)) (sym more) (Pairwise-append (λ x y. x.id ≢ y.id) (flat c.blocks c.tail) q c.once (Pairwise-right (λ x y. x.id ≢ y.id) p q l.once)
           (λ x y h k. Pairwise-across (λ x y. x.id ≢ y.id) p q l.once x y (in_p x h) k));
       pins = λ b h. (
-        let k = c.pins b h in
-        let ne = older b.pin (in_p b.pin (pin_in c.blocks c.tail b h)) in (
-          (λ r. k.0 (r.0, invoked_was b.pin.id r.0 ne r.1, r.2)),
-          (λ o. subst (λ n. IsTrue (n b.pin.id)) (sym call.same.1) (k.1 (open_without_new marks id op fresh b.pin.id ne o))),
-        ));
+          let k = c.pins b h in
+          let ne = older b.pin (in_p b.pin (pin_in c.blocks c.tail b h)) in (
+            (λ r. k.0 (r.0, invoked_was b.pin.id r.0 ne r.1, r.2)),
+            (λ o. subst (λ n. IsTrue (n b.pin.id)) (sym call.same.1) (k.1 (open_without_new marks id op fresh b.pin.id ne o))),
+          ));
       needed = λ i n. c.needed i (subst (λ k. IsTrue (k i)) call.same.1 n);
       invoked = λ z h. l.invoked z (in_order z h);
       come = begun_come;
@@ -154,10 +156,10 @@ after_invoke marks L id op well complete order t l = ⊎_elim
         let l2 : IsLegalOrder cas_register (marks ++ Invoked id op ∷ []) (p ++ x ∷ q) t = subst (λ o. IsLegalOrder cas_register (marks ++ Invoked id op ∷ []) o t) cut l in
         let older : (z : Taken) → Contains p z → z.id ≢ id = λ z h k. Pairwise-across (λ a b. a.id ≢ b.id) p (x ∷ q) l2.once z x h (Contains-head x q) (k ∙ sym is_id) in
         let pending : (z : Taken) → Contains (x ∷ q) z → ¬ HasReturned (marks ++ Invoked id op ∷ []) z.id = λ z h r. ⊎_elim
-            (λ k. new_open (subst (HasReturned (marks ++ Invoked id op ∷ [])) (ap (λ (y : Taken). y.id) (sym k) ∙ is_id) r))
-            (λ k. (Pairwise-right (λ a b. ¬ Precedes (marks ++ Invoked id op ∷ []) b.id a.id) p (x ∷ q) l2.in_time).0 z k
-            (record { before = marks; after = Invoked id op ∷ []; cut = refl; returned = returned_was marks id op well z.id r; invoked = (op, subst (λ i. Contains (Invoked id op ∷ []) (Invoked i op)) (sym is_id) (Contains-head (Invoked id op) [])) }))
-            (Contains-cons_cases x q z h) in
+        (λ k. new_open (subst (HasReturned (marks ++ Invoked id op ∷ [])) (ap (λ (y : Taken). y.id) (sym k) ∙ is_id) r))
+        (λ k. (Pairwise-right (λ a b. ¬ Precedes (marks ++ Invoked id op ∷ []) b.id a.id) p (x ∷ q) l2.in_time).0 z k
+        (record { before = marks; after = Invoked id op ∷ []; cut = refl; returned = returned_was marks id op well z.id r; invoked = (op, subst (λ i. Contains (Invoked id op ∷ []) (Invoked i op)) (sym is_id) (Contains-head (Invoked id op) [])) }))
+        (Contains-cons_cases x q z h) in
         let front = IsLegalOrder-cut cas_register (marks ++ Invoked id op ∷ []) p (x ∷ q) t l2 pending in
         let was = complete p front.0 (IsLegalOrder-fewer cas_register marks (Invoked id op) p front.0 (λ z h k. older z h (let i : z.id ≡ id = cc in i)) front.1) in
         let g = some_call was.0 id in

@@ -1,10 +1,10 @@
 -- more operations within a legal order
-use Rattle.std.proofs.Common.{◌≡◌, ◌≢◌, ℕ, ℤ, ◌⊎◌, inl, inr, ⊎_elim, Option, Some, None, List, [], ◌∷◌, ◌++◌, refl, sym, ap, ◌∙◌, subst}
+use Rattle.std.proofs.Common.{◌≢◌, ℕ, ℤ, ◌⊎◌, inl, inr, ⊎_elim, Option, None, List, [], ◌∷◌, ◌++◌, sym}
 use Rattle.std.specs.List.{Contains}
 use Rattle.std.proofs.lemmas.List.Elements.{Contains-append_left, Contains-append_right, Contains-append_cases}
 use Rattle.models.specs.Objects.{cas_register}
 use Rattle.events.specs.Events.{Mark}
-use Rattle.events.specs.Events.Mark.{Invoked, Returned, Failed}
+use Rattle.events.specs.Events.Mark.{Invoked, Failed}
 use Rattle.linspec.specs.Operations.{HasReturned, Precedes}
 use Rattle.linspec.specs.Orders.{Taken, Includes, Pairwise, Run, IsLegalOrder}
 use Rattle.linspec.proofs.Lists.{Contains-head, Contains-tail, Pairwise-append, Pairwise-left, Pairwise-right, Pairwise-across}

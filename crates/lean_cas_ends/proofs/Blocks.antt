@@ -1,11 +1,9 @@
 -- the operation that returns takes place in a block of the order
-use Rattle.std.proofs.Common.{◌≡◌, ◌≢◌, ◌↔◌, ℕ, ◌+◌, ◌≤◌, ℤ, ◌⊎◌, inl, inr, ⊎_elim, Bool, true, false, IsTrue, Option, Some, None, List, [], ◌∷◌, ◌++◌, refl, sym, ap, ◌∙◌, subst, append_assoc, arith}
+use Rattle.std.proofs.Common.{◌≡◌, ◌≢◌, ℕ, ◌+◌, ◌≤◌, ℤ, ◌⊎◌, inl, inr, ⊎_elim, Bool, true, false, IsTrue, Option, Some, List, [], ◌∷◌, ◌++◌, refl, sym, ap, ◌∙◌, subst, append_assoc, arith}
 use Rattle.std.specs.List.{Contains}
-use Rattle.std.proofs.lemmas.Bool.{true≢false}
-use Rattle.std.proofs.lemmas.List.Elements.{Contains-append_left, Contains-append_right}
+use Rattle.std.proofs.lemmas.List.Elements.{Contains-append_right}
 use Rattle.models.specs.declared.operation.Name.{Name}
 use Rattle.models.specs.declared.operation.Name.TheVariants.{Read, Write, Cas, Acquire, Release, Enqueue, Dequeue, Add}
-use Rattle.models.specs.declared.finding.Found.TheVariants.{Reg}
 use Rattle.models.specs.declared.finding.Answer.{Answer}
 use Rattle.models.specs.declared.finding.Answer.TheVariants.{Nothing, Number}
 use Rattle.models.specs.Objects.{cas_register, Fits}
@@ -18,16 +16,16 @@ use Rattle.linspec.proofs.Lists.{Contains-head, Contains-tail}
 use Rattle.linspec.proofs.Marks.{Run-cut}
 use Rattle.linspec.specs.LeanEnds.{IsRead}
 use Rattle.lean_ends.proofs.Makes.{is_true}
-use Rattle.lean_cas_ends.specs.CasEnds.{MayCome, LeanEnd, IsServed}
+use Rattle.lean_cas_ends.specs.CasEnds.{MayCome, LeanEnd}
 use Rattle.lean_cas_ends.proofs.Runs.{same, one_if, same_or_not, same_is, same_not, step_view}
 use Rattle.lean_cas_ends.proofs.Stands.{write_or_not}
 use Rattle.lean_cas_ends.proofs.Walking.{with_door, without_door}
 use Rattle.lean_cas_ends.proofs.Makes.{more_doors, with_door_is, some_at_door}
-use Rattle.lean_cas_ends.proofs.Cutting.{Block, flat, flat_append, Runs, IsPin, NoWrites, LastWrite, last_write, Way, Ready, way_then}
-use Rattle.lean_cas_ends.proofs.Leading.{first_by, first_swaps, needs_by, and_also, needs, count, count_append, needs_none, needs_at_most, CutWalk, cut_walk}
+use Rattle.lean_cas_ends.proofs.Cutting.{Block, flat, flat_append, Runs, NoWrites, last_write, Way, Ready, way_then}
+use Rattle.lean_cas_ends.proofs.Leading.{first_by, first_swaps, and_also, needs, count, count_append, needs_none, needs_at_most, cut_walk}
 use Rattle.lean_cas_ends.proofs.Plans.{extras, AllowedAt, Covers, extra_in, extra_no_pin, open_comes}
-use Rattle.lean_cas_ends.proofs.Giving.{number_of, Gives, gives, gives_place, front_without, ready_front, first_more, needs_write, GivesBefore, before_write, before_led}
-use Rattle.lean_cas_ends.proofs.Completing.{once_behind, Served, open_x, extra_free, seg_in, ready_seg, runs_b, from_b, block_covers}
+use Rattle.lean_cas_ends.proofs.Giving.{number_of, gives, gives_place, front_without, ready_front, first_more, needs_write, GivesBefore, before_write, before_led}
+use Rattle.lean_cas_ends.proofs.Completing.{once_behind, Served, seg_in, ready_seg, runs_b, from_b, block_covers}
 
 -- a list without writes begins with a cas, or leaves the state
 first_keep : (name : Name) (b : Bool) → name ≢ Write → IsTrue b → IsTrue (first_by name b)

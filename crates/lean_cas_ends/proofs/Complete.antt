@@ -1,31 +1,30 @@
 -- each legal order of a history comes of a lean end
-use Rattle.std.proofs.Common.{◌≡◌, ◌≢◌, ◌↔◌, ℕ, ◌+◌, ◌≤◌, ℤ, ◌⊎◌, inl, inr, ⊎_elim, Bool, true, false, IsTrue, Option, Some, None, List, [], ◌∷◌, ◌++◌, refl, sym, ap, ◌∙◌, subst, append_assoc, append-nil, arith}
+use Rattle.std.proofs.Common.{◌≡◌, ◌≢◌, ℕ, ℤ, ◌⊎◌, inl, inr, ⊎_elim, IsTrue, Option, Some, None, List, [], ◌∷◌, ◌++◌, refl, sym, ap, ◌∙◌, subst}
 use Rattle.std.specs.List.{Contains}
-use Rattle.std.proofs.lemmas.Bool.{cases_eq, true≢false}
-use Rattle.std.proofs.lemmas.List.Elements.{Contains-append_left, Contains-append_right, Contains-append_cases, Contains-push, Contains-push_cases}
+use Rattle.std.proofs.lemmas.Bool.{cases_eq}
+use Rattle.std.proofs.lemmas.List.Elements.{Contains-append_left, Contains-append_cases, Contains-push, Contains-push_cases}
 use Rattle.models.specs.declared.operation.Op.{Op}
 use Rattle.models.specs.declared.finding.Answer.{Answer}
 use Rattle.models.specs.declared.finding.Answer.TheVariants.{Nothing, Number, Numbers, Many}
 use Rattle.models.specs.Objects.{cas_register, Fits}
 use Rattle.events.specs.Events.{Mark}
 use Rattle.events.specs.Events.Mark.{Invoked, Returned, Failed, Crashed}
-use Rattle.linspec.specs.MarkRule.{IsNew, AreWellFormed}
-use Rattle.linspec.specs.Operations.{HasReturned, IsOpen, Precedes}
-use Rattle.linspec.specs.Orders.{Taken, Includes, Pairwise, Run, IsLegalOrder, IsLinearizable}
-use Rattle.linspec.proofs.Lists.{Contains-nil, Contains-head, Contains-tail, Contains-cons_cases, Pairwise-append, Pairwise-right, Pairwise-across, cut_at}
-use Rattle.linspec.proofs.Marks.{IsLegalOrder-fewer, IsLegalOrder-cut, Run-append, Run-cut}
-use Rattle.linspec.proofs.Open.{IsCompletion, no_invocation, was_open, open_without_new}
+use Rattle.linspec.specs.MarkRule.{AreWellFormed}
+use Rattle.linspec.specs.Operations.{HasReturned, IsOpen}
+use Rattle.linspec.specs.Orders.{Taken, Includes, Run, IsLegalOrder}
+use Rattle.linspec.proofs.Lists.{Contains-nil, Contains-head, Contains-tail, Contains-cons_cases, cut_at}
+use Rattle.linspec.proofs.Marks.{IsLegalOrder-fewer, Run-cut}
+use Rattle.linspec.proofs.Open.{IsCompletion, no_invocation, was_open}
 use Rattle.linspec.specs.LeanEnds.{Reads, IsRead}
 use Rattle.lean_ends.proofs.Once.{one_op, read_or_not}
 use Rattle.lean_ends.proofs.Makes.{is_true}
 use Rattle.lean_ends.proofs.Events.{front_well}
-use Rattle.lean_cas_ends.specs.CasEnds.{MayCome, LeanEnd, start, Answers, Meets, IsWithCall, IsFree, IsLeft, Becomes, BecomesBy, IsLeanEnd}
+use Rattle.lean_cas_ends.specs.CasEnds.{LeanEnd, Answers, Meets, Becomes}
 use Rattle.lean_cas_ends.proofs.Runs.{step_view}
-use Rattle.lean_cas_ends.proofs.Makes.{some_call, some_left}
-use Rattle.lean_cas_ends.proofs.Cutting.{Block, flat, IsPin}
-use Rattle.lean_cas_ends.proofs.Leading.{count}
-use Rattle.lean_cas_ends.proofs.Plans.{extras, Allowed, Covers, extra_in, extra_no_pin, pin_in, covers_left, covers_later}
-use Rattle.lean_cas_ends.proofs.Giving.{flat_more, number_of}
+use Rattle.lean_cas_ends.proofs.Makes.{some_left}
+use Rattle.lean_cas_ends.proofs.Cutting.{Block, flat}
+use Rattle.lean_cas_ends.proofs.Plans.{extras, Covers, extra_in, extra_no_pin, pin_in, covers_left, covers_later}
+use Rattle.lean_cas_ends.proofs.Giving.{number_of}
 use Rattle.lean_cas_ends.proofs.Completing.{Served, tail_case}
 use Rattle.lean_cas_ends.proofs.Blocks.{block_case}
 use Rattle.lean_cas_ends.proofs.Growing.{AllFree, all_free_after, came}
@@ -115,7 +114,7 @@ after_fail marks L id well complete order t l =
     let k = complete order t (IsLegalOrder-fewer cas_register marks (Failed id) order t (λ x h q. cc) l) in
     let c = k.3 in
     let free : ¬ IsTrue (k.0.needed id) = λ n. (let p = c.needed id n in
-        l.none_failed p.0.pin ((c.same p.0.pin).1 (pin_in c.blocks c.tail p.0 p.1)) (subst (λ i. Contains (marks ++ Failed id ∷ []) (Failed i)) (sym p.2) (Contains-push marks (Failed id)))) in
+    l.none_failed p.0.pin ((c.same p.0.pin).1 (pin_in c.blocks c.tail p.0 p.1)) (subst (λ i. Contains (marks ++ Failed id ∷ []) (Failed i)) (sym p.2) (Contains-push marks (Failed id)))) in
     found marks L (Failed id) well k.0 k.0 order t k.1 k.2 (free, refl)
     (later marks L (Failed id) well tt k.0 order t l c (λ x h n r. ⊎_elim (λ j. (c.come x h n).not_returned (r.0, j)) (λ q. cc) (Contains-push_cases marks (Failed id) (Returned x.id r.0) r.1)))
 
@@ -170,12 +169,12 @@ module _ (marks : List Mark) (L : LeanEnd → Type 0) (id : ℕ) (answer : Answe
   serve told not_found not_pin =
       let c = was.3 in ⊎_elim
       (λ p. absurd (
-          let same_id : p.0.pin.id ≡ id = ap (λ (y : Taken). y.id) p.2 ∙ there.2 in
-          let k = c.pins p.0 p.1 in
-          ⊎_elim
-          (λ r. k.0 (subst (IsRead marks) (sym same_id) r))
-          (λ n. n (subst (λ i. IsTrue (e.needed i)) same_id (k.1 (subst (IsOpen marks) (sym same_id) is_open))))
-          not_pin))
+      let same_id : p.0.pin.id ≡ id = ap (λ (y : Taken). y.id) p.2 ∙ there.2 in
+      let k = c.pins p.0 p.1 in
+      ⊎_elim
+      (λ r. k.0 (subst (IsRead marks) (sym same_id) r))
+      (λ n. n (subst (λ i. IsTrue (e.needed i)) same_id (k.1 (subst (IsOpen marks) (sym same_id) is_open))))
+      not_pin))
       (λ j. ⊎_elim
       (λ k. block_case marks before id answer e order t c x there.2 is_open fits told k.0 k.1 k.2 k.5 k.3 k.4 k.6 not_found)
       (λ k. tail_case marks before id answer e order t c x there.2 is_open fits told k.0 k.1 k.2)

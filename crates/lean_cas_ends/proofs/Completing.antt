@@ -1,28 +1,24 @@
 -- an end becomes one that stands for the order in which the operation returns
-use Rattle.std.proofs.Common.{◌≡◌, ◌≢◌, ◌↔◌, ℕ, ◌+◌, ◌≤◌, ℤ, ◌⊎◌, inl, inr, ⊎_elim, Bool, true, false, IsTrue, Option, Some, None, List, [], ◌∷◌, ◌++◌, refl, sym, ap, ◌∙◌, subst, append_assoc, append-nil, arith}
+use Rattle.std.proofs.Common.{◌≡◌, ◌≢◌, ℕ, ◌+◌, ◌≤◌, ℤ, ◌⊎◌, inl, inr, ⊎_elim, Bool, IsTrue, Option, None, List, [], ◌∷◌, ◌++◌, refl, sym, ap, ◌∙◌, subst, append_assoc, append-nil, arith}
 use Rattle.std.specs.List.{Contains}
 use Rattle.std.proofs.lemmas.List.Elements.{Contains-append_left, Contains-append_right, Contains-append_cases}
 use Rattle.models.specs.declared.operation.Name.TheVariants.{Write}
 use Rattle.models.specs.declared.finding.Answer.{Answer}
-use Rattle.models.specs.declared.finding.Answer.TheVariants.{Nothing, Number}
+use Rattle.models.specs.declared.finding.Answer.TheVariants.{Nothing}
 use Rattle.models.specs.Objects.{cas_register, Fits}
 use Rattle.events.specs.Events.{Mark}
 use Rattle.linspec.specs.MarkRule.{AreWellFormed}
 use Rattle.linspec.specs.Operations.{IsOpen}
 use Rattle.linspec.specs.Orders.{Taken, Pairwise, Run}
 use Rattle.linspec.proofs.Lists.{Contains-nil, Contains-head, Contains-tail, Contains-cons_cases, Pairwise-left, Pairwise-right}
-use Rattle.linspec.proofs.Marks.{Run-cut, Run-append}
-use Rattle.linspec.specs.LeanEnds.{Reads, IsRead}
+use Rattle.linspec.specs.LeanEnds.{IsRead}
 use Rattle.lean_cas_ends.specs.CasEnds.{MayCome, LeanEnd, IsServed}
-use Rattle.lean_cas_ends.proofs.Runs.{after, same, one_if, behind, run_behind, after_anywhere}
-use Rattle.lean_cas_ends.proofs.Stands.{write_or_not}
-use Rattle.lean_cas_ends.proofs.Walking.{with_door, without_door}
-use Rattle.lean_cas_ends.proofs.Makes.{more_doors, with_door_is}
-use Rattle.lean_cas_ends.proofs.Cutting.{Block, flat, out, end_of, Chain, flat_append, end_append, chain_append, Runs, IsPin, Way, Ready, way_then}
-use Rattle.lean_cas_ends.proofs.Leading.{needs, count, count_append, needs_none, needs_at_most, CutWalk, cut_walk}
-use Rattle.lean_cas_ends.proofs.Plans.{extras, AllowedAt, Allowed, Covers, extra_in, extra_no_pin, open_comes, pin_in}
+use Rattle.lean_cas_ends.proofs.Runs.{after, after_anywhere}
+use Rattle.lean_cas_ends.proofs.Cutting.{Block, flat, out, end_of, Chain, flat_append, end_append, chain_append, Runs, IsPin, Way, Ready}
+use Rattle.lean_cas_ends.proofs.Leading.{count, count_append}
+use Rattle.lean_cas_ends.proofs.Plans.{extras, AllowedAt, Allowed, Covers, extra_in, extra_no_pin, open_comes}
 use Rattle.lean_cas_ends.proofs.Rebuilding.{extras_append, allowed_fewer, through, inside, rebuild}
-use Rattle.lean_cas_ends.proofs.Giving.{flat_more, Gives, gives}
+use Rattle.lean_cas_ends.proofs.Giving.{flat_more, gives}
 
 end_allowed : (marks : List Mark) (e : LeanEnd) (xs : List Taken) (bs : List Block) (tail : List Taken) → Allowed marks e xs bs tail
     → (z : Taken) → Contains (xs ++ (extras bs ++ tail)) z → MayCome marks z.id → IsTrue (e.place e.state z.id)

@@ -1,8 +1,7 @@
 -- how many ends are left does not depend on how they are listed
-use Rattle.std.proofs.Common.{◌≡◌, ◌≢◌, ◌↔◌, ℕ, ℤ, inl, inr, ⊎_elim, Bool, true, false, IsTrue, Option, List, [], ◌∷◌, ◌++◌, length, ◌≤◌, refl, sym, ◌∙◌, subst, arith}
+use Rattle.std.proofs.Common.{◌≡◌, ◌≢◌, ℕ, ⊎_elim, Bool, true, false, IsTrue, List, [], ◌∷◌, ◌++◌, length, ◌≤◌, refl, sym, ◌∙◌, subst, arith}
 use Rattle.std.specs.List.{Contains}
 use Rattle.events.specs.Events.{Mark}
-use Rattle.linspec.specs.Operations.{IsOpen}
 use Rattle.linspec.specs.Orders.{Pairwise}
 use Rattle.linspec.proofs.Counts.{no_longer_than}
 use Rattle.linspec.proofs.Lists.{Contains-nil, Contains-cons_cases, Pairwise-weaker}

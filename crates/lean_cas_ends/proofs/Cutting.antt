@@ -1,24 +1,21 @@
 -- a list of operations cut in two parts: a walk that meets no state twice, and what stands between
-use Rattle.std.proofs.Common.{◌≡◌, ◌≢◌, ◌↔◌, ℕ, zero, suc, ◌+◌, ◌≤◌, ℤ, ◌⊎◌, inl, inr, ⊎_elim, Bool, true, false, IsTrue, Option, Some, None, List, [], ◌∷◌, ◌++◌, length, refl, sym, ap, ◌∙◌, subst, append_assoc, append-nil, length-append, arith}
+use Rattle.std.proofs.Common.{◌≡◌, ◌≢◌, ◌↔◌, ℕ, zero, suc, ◌+◌, ◌≤◌, ℤ, ◌⊎◌, inl, inr, ⊎_elim, Bool, IsTrue, Option, Some, List, [], ◌∷◌, ◌++◌, length, refl, sym, ap, ◌∙◌, subst, append-nil, length-append, arith}
 use Rattle.std.specs.List.{Contains}
 use Rattle.std.proofs.lemmas.List.Elements.{Contains-append_left, Contains-append_right, Contains-append_cases}
-use Rattle.models.specs.declared.operation.Name.{Name}
-use Rattle.models.specs.declared.operation.Name.TheVariants.{Read, Write, Cas, Acquire, Release, Enqueue, Dequeue, Add}
-use Rattle.models.specs.declared.operation.Op.{Op}
-use Rattle.models.specs.declared.finding.Answer.{Answer}
+use Rattle.models.specs.declared.operation.Name.TheVariants.{Write}
 use Rattle.models.specs.Objects.{cas_register}
 use Rattle.events.specs.Events.{Mark}
 use Rattle.events.specs.Events.Mark.{Invoked}
 use Rattle.linspec.specs.MarkRule.{AreWellFormed}
-use Rattle.linspec.specs.Orders.{Taken, Includes, Pairwise, Run}
-use Rattle.linspec.proofs.Lists.{Contains-nil, Contains-head, Contains-tail, Contains-cons_cases, Pairwise-left, Pairwise-right}
-use Rattle.linspec.proofs.Marks.{Run-cut, Run-append}
+use Rattle.linspec.specs.Orders.{Taken, Pairwise, Run}
+use Rattle.linspec.proofs.Lists.{Contains-nil, Contains-head, Contains-tail, Contains-cons_cases, Pairwise-right}
+use Rattle.linspec.proofs.Marks.{Run-cut}
 use Rattle.linspec.specs.LeanEnds.{Reads, IsRead}
-use Rattle.lean_cas_ends.specs.CasEnds.{Swaps, LeanEnd, IsPut, SwapsTo, WritesTo, WritesBefore, SwapsBy, Swap, Walks}
-use Rattle.lean_cas_ends.proofs.Runs.{behind, after, same, one_if, same_or_not, behind_append, run_behind, step_view, step_after, after_swap}
+use Rattle.lean_cas_ends.specs.CasEnds.{Swaps, LeanEnd, IsPut, SwapsTo, SwapsBy}
+use Rattle.lean_cas_ends.proofs.Runs.{behind, after, same_or_not, run_behind, step_view, step_after}
 use Rattle.lean_cas_ends.proofs.Stands.{write_or_not}
-use Rattle.lean_cas_ends.proofs.Walking.{swap_no_read, write_no_read, no_read}
-use Rattle.lean_cas_ends.proofs.Makes.{some_put, some_last, more_doors, with_door_is}
+use Rattle.lean_cas_ends.proofs.Walking.{swap_no_read, no_read}
+use Rattle.lean_cas_ends.proofs.Makes.{some_put}
 
 -- a block of an order: where the state is at, those that the end does not need, and one that it needs or that is done
 pub record Block : Type 0 where

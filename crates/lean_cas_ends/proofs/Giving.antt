@@ -1,31 +1,29 @@
 -- the operation that returns takes place in a list of operations, where a walk of the list leads
-use Rattle.std.proofs.Common.{◌≡◌, ◌≢◌, ◌↔◌, ℕ, ◌+◌, ◌≤◌, ℤ, ◌⊎◌, inl, inr, ⊎_elim, Bool, true, false, IsTrue, Option, Some, None, List, [], ◌∷◌, ◌++◌, refl, sym, ap, ◌∙◌, subst, append_assoc, append-nil, arith}
+use Rattle.std.proofs.Common.{◌≡◌, ◌≢◌, ℕ, ◌+◌, ◌≤◌, ℤ, ◌⊎◌, inl, inr, ⊎_elim, Bool, true, false, IsTrue, Option, Some, List, [], ◌∷◌, ◌++◌, refl, sym, ap, ◌∙◌, subst, append_assoc, arith}
 use Rattle.std.specs.List.{Contains}
 use Rattle.std.proofs.lemmas.Bool.{true≢false}
-use Rattle.std.proofs.lemmas.List.Elements.{Contains-append_left, Contains-append_right, Contains-append_cases}
+use Rattle.std.proofs.lemmas.List.Elements.{Contains-append_left, Contains-append_right}
 use Rattle.models.specs.declared.operation.Name.{Name}
 use Rattle.models.specs.declared.operation.Name.TheVariants.{Read, Write, Cas, Acquire, Release, Enqueue, Dequeue, Add}
-use Rattle.models.specs.declared.operation.Op.{Op}
-use Rattle.models.specs.declared.finding.Found.{Found}
-use Rattle.models.specs.declared.finding.Found.TheVariants.{Unit as Done, Reg}
+use Rattle.models.specs.declared.finding.Found.TheVariants.{Reg}
 use Rattle.models.specs.declared.finding.Answer.{Answer}
 use Rattle.models.specs.declared.finding.Answer.TheVariants.{Nothing, Number, Numbers, Many}
 use Rattle.models.specs.Objects.{cas_register, Fits}
 use Rattle.events.specs.Events.{Mark}
 use Rattle.events.specs.Events.Mark.{Invoked}
 use Rattle.linspec.specs.MarkRule.{AreWellFormed}
-use Rattle.linspec.specs.Orders.{Taken, Pairwise, Run}
-use Rattle.linspec.proofs.Lists.{Contains-nil, Contains-head, Contains-tail, Contains-cons_cases, Pairwise-left, Pairwise-right, Pairwise-across}
+use Rattle.linspec.specs.Orders.{Taken, Run}
+use Rattle.linspec.proofs.Lists.{Contains-nil, Contains-head, Contains-tail, Contains-cons_cases, Pairwise-left, Pairwise-across}
 use Rattle.linspec.proofs.Marks.{Run-cut, Run-append}
 use Rattle.linspec.specs.LeanEnds.{Writes, Reads, IsRead}
-use Rattle.lean_cas_ends.specs.CasEnds.{Swaps, LeanEnd, IsPut, SwapsTo, WritesTo, WritesBefore, SwapsBy, Swap, Walks, TakesPlace, Serves}
-use Rattle.lean_cas_ends.proofs.Runs.{behind, after, after_write, same, one_if, same_or_not, behind_append, run_behind, step_view, step_after}
+use Rattle.lean_cas_ends.specs.CasEnds.{Swaps, LeanEnd, SwapsTo, WritesTo, WritesBefore, Swap, Walks, TakesPlace, Serves}
+use Rattle.lean_cas_ends.proofs.Runs.{after, after_write, same, one_if, step_view}
 use Rattle.lean_cas_ends.proofs.Walking.{swap_no_read, write_no_read, no_read, with_door, without_door}
 use Rattle.lean_ends.proofs.Makes.{is_true}
 use Rattle.lean_cas_ends.proofs.Stands.{write_or_not}
 use Rattle.lean_cas_ends.proofs.Makes.{some_put}
-use Rattle.lean_cas_ends.proofs.Cutting.{Block, flat, out, end_of, flat_append, Runs, IsPin, NoWrites, LastWrite, last_write, Avoids, Way, way_none, way_then, way_one, way_swap, some_swap, Ready, ready_back, ready_then, CutSwaps}
-use Rattle.lean_cas_ends.proofs.Leading.{first_by, first_swaps, needs_by, and_also, count, count_append, count_none, needs, needs_none, needs_at_most, some_write, swaps_of, CutWalk, cut_walk}
+use Rattle.lean_cas_ends.proofs.Cutting.{Block, flat, flat_append, Runs, IsPin, NoWrites, Way, way_then, way_one, way_swap, some_swap, Ready, ready_back, ready_then}
+use Rattle.lean_cas_ends.proofs.Leading.{first_by, first_swaps, needs_by, and_also, count, count_append, count_none, needs, needs_none, needs_at_most, some_write, swaps_of, cut_walk}
 use Rattle.lean_cas_ends.proofs.Plans.{pin_in}
 
 -- a read's answer that tells something tells the state
@@ -158,7 +156,6 @@ module _ (marks : List Mark) (well : AreWellFormed marks) (id : ℕ) (answer : A
 
       inv : Contains marks (Invoked x.id x.op)
       inv = ready.invoked x mem
-
 
   -- a write, wherever it is
   pub gives_write : (e : LeanEnd) (s t u : Option ℤ) (pre post : List Taken) (x : Taken) → x.id ≡ id → Ready marks who e (pre ++ x ∷ post)

@@ -1,14 +1,11 @@
 -- each operation that is not in the order may take place behind all others
-use Rattle.std.proofs.Common.{◌≡◌, ◌≢◌, ℕ, ℤ, ◌⊎◌, inl, inr, ⊎_elim, Bool, true, false, IsTrue, Option, List, [], ◌∷◌, ◌++◌, refl, sym, ap, ◌∙◌, subst}
-use Rattle.std.specs.List.{Contains}
-use Rattle.std.proofs.lemmas.Bool.{true≢false, cases_eq}
+use Rattle.std.proofs.Common.{◌≡◌, ℕ, ℤ, ◌⊎◌, inl, inr, ⊎_elim, Bool, true, false, IsTrue, Option, List, [], ◌∷◌, ◌++◌, refl, sym, ◌∙◌, subst}
 use Rattle.std.proofs.lemmas.List.Elements.{Contains-append_left, Contains-push_cases}
 use Rattle.models.specs.declared.operation.Op.{Op}
 use Rattle.models.specs.declared.finding.Answer.{Answer}
 use Rattle.events.specs.Events.{Mark}
 use Rattle.events.specs.Events.Mark.{Invoked, Returned, Failed, Crashed}
-use Rattle.linspec.specs.Operations.{HasReturned}
-use Rattle.lean_cas_ends.specs.CasEnds.{MayCome, LeanEnd, IsPut, SwapsTo, WritesTo, WritesBefore, SwapsBy, Swap, Walks, TakesPlace, Serves, IsServed, Answers, IsFree, IsLeft, Becomes}
+use Rattle.lean_cas_ends.specs.CasEnds.{MayCome, LeanEnd, IsPut, WritesBefore, SwapsBy, Swap, Walks, TakesPlace, Serves, IsServed, Answers, IsFree, IsLeft, Becomes}
 
 pub record Grows (who : ℕ → Bool) (e : LeanEnd) (s : Option ℤ) (f : LeanEnd) (t : Option ℤ) : Type 0 where
   pub state : f.state ≡ e.state
@@ -71,15 +68,18 @@ module _ (marks : List Mark) (id : ℕ) (answer : Answer) (e : LeanEnd) where
   keeps_served f = ⊎_elim
       (λ k. (let g = grows_serves (e.place e.state) true marks id answer e k.0 e.state k.1 k.2 in (
         (λ z h. subst (λ (o : LeanEnd). IsTrue (o.place o.state z)) (sym k.3) (g.here (λ i w. w) z h)),
-        (λ i n. subst (λ (o : LeanEnd). IsTrue (o.needed i)) (sym k.3) (g.needed i n)))))
+        (λ i n. subst (λ (o : LeanEnd). IsTrue (o.needed i)) (sym k.3) (g.needed i n)),
+      )))
       (λ j. ⊎_elim
       (λ k. (let g = before k.0 k.1 k.7 in (
         (λ z h. subst (λ p. IsTrue (p f.state z)) (sym k.5) (subst (λ o. IsTrue (k.0.place o z)) (sym k.3) (subst (λ o. IsTrue (k.0.place o z)) (sym g.state) (g.place e.state z h)))),
-        (λ i n. subst (λ p. IsTrue (p i)) (sym k.4) (g.needed i n)))))
+        (λ i n. subst (λ p. IsTrue (p i)) (sym k.4) (g.needed i n)),
+      )))
       (λ i. ⊎_elim
       (λ k. (let g = grows_serves k.2 false marks id answer k.3 k.4 k.0 k.5 k.7 in (
         (λ z h. subst (λ p. IsTrue (p f.state z)) (sym k.11) (subst (λ o. IsTrue (k.4.place o z)) (sym (k.9 ∙ g.state ∙ k.6.same.0)) (g.place e.state z (subst (λ p. IsTrue (p e.state z)) (sym k.6.same.2) h)))),
-        (λ i n. subst (λ p. IsTrue (p i)) (sym k.10) (g.needed i (subst (λ p. IsTrue (p i)) (sym k.6.same.1) n))))))
+        (λ i n. subst (λ p. IsTrue (p i)) (sym k.10) (g.needed i (subst (λ p. IsTrue (p i)) (sym k.6.same.1) n))),
+      )))
       (λ k. (let g = grows_then (e.place k.0) e k.1 f k.0 k.2 k.0 (grows_serves (e.place k.0) true marks id answer e k.1 k.0 k.2 k.3) (grows_walk (e.place k.0) true marks k.1 f k.2 k.0 k.4) in
       (same_state (e.place k.0) f k.0 k.0 g, g.needed)))
       i)

@@ -1,13 +1,13 @@
 -- an order stands for what an end becomes where more operations take place at one of its places
-use Rattle.std.proofs.Common.{◌≡◌, ◌≢◌, ℕ, ◌+◌, ◌≤◌, ℤ, ◌⊎◌, inl, inr, ⊎_elim, Bool, IsTrue, Option, Some, None, List, [], ◌∷◌, ◌++◌, refl, sym, ap, ◌∙◌, subst, append_assoc, append-nil, arith}
+use Rattle.std.proofs.Common.{◌≡◌, ℕ, ◌+◌, ◌≤◌, ℤ, ◌⊎◌, inl, inr, ⊎_elim, Bool, IsTrue, Option, None, List, [], ◌∷◌, ◌++◌, refl, sym, ap, ◌∙◌, subst, append_assoc, append-nil, arith}
 use Rattle.std.specs.List.{Contains}
-use Rattle.std.proofs.lemmas.List.Elements.{Contains-append_left, Contains-append_right, Contains-append_cases}
+use Rattle.std.proofs.lemmas.List.Elements.{Contains-append_right, Contains-append_cases}
 use Rattle.models.specs.declared.operation.Name.TheVariants.{Write}
 use Rattle.models.specs.Objects.{cas_register}
 use Rattle.events.specs.Events.{Mark}
-use Rattle.linspec.specs.Operations.{HasReturned, Precedes}
+use Rattle.linspec.specs.Operations.{Precedes}
 use Rattle.linspec.specs.Orders.{Taken, Includes, Run, IsLegalOrder}
-use Rattle.linspec.proofs.Lists.{Contains-tail, Contains-head}
+use Rattle.linspec.proofs.Lists.{Contains-tail}
 use Rattle.linspec.proofs.Marks.{Run-cut}
 use Rattle.linspec.specs.LeanEnds.{IsRead}
 use Rattle.lean_ends.proofs.Splits.{two_cuts}
@@ -94,12 +94,12 @@ module _ (marks : List Mark) (returning : ℕ → Type 0) (e f : LeanEnd) (who :
     late' = λ z l. still_late m z (subst (λ b. MayStandBefore marks b z) eb l);
     amount = inl (
       (λ v.
-      let a : Option ℤ = behind None front in
-      let to_here : behind a m ≡ here = sym (behind_append None front m) ∙ ap (behind None) (sym ex) in
-      let d1 : doors_of v a (m ++ (ws ++ ys)) ≡ doors_of v a m + doors_of v here (ws ++ ys) = doors_append v a m (ws ++ ys) ∙ ap (λ w. doors_of v a m + doors_of v w (ws ++ ys)) to_here in
-      let d2 : doors_of v here (ws ++ ys) ≡ doors_of v here ws + doors_of v u ys = doors_append v here ws ys ∙ ap (λ w. doors_of v here ws + doors_of v w ys) leaves_u in
-      let d3 : doors_of v a back ≡ doors_of v a m + doors_of v here ys = ap (doors_of v a) eb ∙ doors_append v a m ys ∙ ap (λ w. doors_of v a m + doors_of v w ys) to_here in
-      omega (arith, d1, d2, d3)),
+          let a : Option ℤ = behind None front in
+          let to_here : behind a m ≡ here = sym (behind_append None front m) ∙ ap (behind None) (sym ex) in
+          let d1 : doors_of v a (m ++ (ws ++ ys)) ≡ doors_of v a m + doors_of v here (ws ++ ys) = doors_append v a m (ws ++ ys) ∙ ap (λ w. doors_of v a m + doors_of v w (ws ++ ys)) to_here in
+          let d2 : doors_of v here (ws ++ ys) ≡ doors_of v here ws + doors_of v u ys = doors_append v here ws ys ∙ ap (λ w. doors_of v here ws + doors_of v w ys) leaves_u in
+          let d3 : doors_of v a back ≡ doors_of v a m + doors_of v here ys = ap (doors_of v a) eb ∙ doors_append v a m ys ∙ ap (λ w. doors_of v a m + doors_of v w ys) to_here in
+          omega (arith, d1, d2, d3)),
       (λ y j. subst (λ b. Contains b y) (sym eb) (Contains-append_right m ys y j)),
     );
   }
@@ -108,8 +108,8 @@ module _ (marks : List Mark) (returning : ℕ → Type 0) (e f : LeanEnd) (who :
   moved front back cut = ⊎_elim
       (λ k. ⊎_elim
       (λ (n : k.0 ≡ []). moved_early front back []
-          (sym (append-nil xs) ∙ ap (λ l. xs ++ l) (sym n) ∙ sym k.1 ∙ sym (append-nil front))
-          (ap (λ l. l ++ back) (sym n) ∙ sym k.2))
+      (sym (append-nil xs) ∙ ap (λ l. xs ++ l) (sym n) ∙ sym k.1 ∙ sym (append-nil front))
+      (ap (λ l. l ++ back) (sym n) ∙ sym k.2))
       (λ q. record {
         front' = xs ++ (ws ++ k.0);
         back' = back;
@@ -119,10 +119,10 @@ module _ (marks : List Mark) (returning : ℕ → Type 0) (e f : LeanEnd) (who :
         amount = inr (
           (λ v. ap (λ a. doors_of v a back) (to_u k.0 ∙ q ∙ sym (behind_append None xs k.0) ∙ ap (behind None) (sym k.1))),
           (λ v.
-          let at : behind None front ≡ behind here k.0 = ap (behind None) k.1 ∙ behind_append None xs k.0 in
-          let d1 : doors_of v here ys ≡ doors_of v here k.0 + doors_of v (behind here k.0) back = ap (doors_of v here) k.2 ∙ doors_append v here k.0 back in
-          let d2 : doors_of v (behind None front) back ≡ doors_of v (behind here k.0) back = ap (λ a. doors_of v a back) at in
-          omega (arith, d1, d2)),
+              let at : behind None front ≡ behind here k.0 = ap (behind None) k.1 ∙ behind_append None xs k.0 in
+              let d1 : doors_of v here ys ≡ doors_of v here k.0 + doors_of v (behind here k.0) back = ap (doors_of v here) k.2 ∙ doors_append v here k.0 back in
+              let d2 : doors_of v (behind None front) back ≡ doors_of v (behind here k.0) back = ap (λ a. doors_of v a back) at in
+              omega (arith, d1, d2)),
         );
       })
       (h.joins k.0 back k.2))

@@ -17,8 +17,8 @@ use Rattle.linspec.proofs.Lists.{Contains-nil, Contains-cons_cases, cut_at}
 use Rattle.linspec.proofs.Marks.{IsLegalOrder-more, Run-cut, Precedes-cases}
 use Rattle.linspec.specs.LeanEnds.{IsRead}
 use Rattle.lean_ends.proofs.Events.{front_well}
-use Rattle.lean_cas_ends.specs.CasEnds.{MayCome, LeanEnd, start, Answers, IsWithCall, IsLeft, Becomes}
-use Rattle.lean_cas_ends.proofs.Runs.{behind, doors_of, same_or_not, run_behind, step_view}
+use Rattle.lean_cas_ends.specs.CasEnds.{MayCome, LeanEnd, Answers, IsWithCall, IsLeft, Becomes}
+use Rattle.lean_cas_ends.proofs.Runs.{behind, same_or_not, run_behind, step_view}
 use Rattle.lean_cas_ends.proofs.Stands.{MayStandBefore, Place, Before, Room, Stands}
 use Rattle.lean_cas_ends.proofs.Inserting.{nobody}
 use Rattle.lean_cas_ends.proofs.Serving.{Holds, by_served, by_read, by_needed}

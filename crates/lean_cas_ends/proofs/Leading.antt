@@ -1,7 +1,7 @@
 -- walks that a list contains, and the doors that they leave
-use Rattle.std.proofs.Common.{◌≡◌, ◌≢◌, ◌↔◌, ℕ, zero, suc, ◌+◌, ◌≤◌, ℤ, ◌⊎◌, inl, inr, ⊎_elim, Bool, true, false, IsTrue, Option, Some, None, List, [], ◌∷◌, ◌++◌, length, refl, sym, ap, ◌∙◌, subst, append_assoc, append-nil, arith}
+use Rattle.std.proofs.Common.{◌≡◌, ◌≢◌, ℕ, ◌+◌, ◌≤◌, ℤ, ◌⊎◌, inl, inr, ⊎_elim, Bool, true, false, IsTrue, Option, Some, List, [], ◌∷◌, ◌++◌, length, refl, sym, ap, ◌∙◌, subst, append_assoc, arith}
 use Rattle.std.specs.List.{Contains}
-use Rattle.std.proofs.lemmas.List.Elements.{Contains-append_left, Contains-append_right, Contains-append_cases}
+use Rattle.std.proofs.lemmas.List.Elements.{Contains-append_right}
 use Rattle.models.specs.declared.operation.Name.{Name}
 use Rattle.models.specs.declared.operation.Name.TheVariants.{Read, Write, Cas, Acquire, Release, Enqueue, Dequeue, Add}
 use Rattle.models.specs.declared.operation.Op.{Op}
@@ -9,16 +9,16 @@ use Rattle.models.specs.Objects.{cas_register}
 use Rattle.events.specs.Events.{Mark}
 use Rattle.events.specs.Events.Mark.{Invoked}
 use Rattle.linspec.specs.MarkRule.{AreWellFormed}
-use Rattle.linspec.specs.Orders.{Taken, Pairwise, Run}
+use Rattle.linspec.specs.Orders.{Taken, Run}
 use Rattle.linspec.proofs.Lists.{Contains-nil, Contains-head, Contains-tail, Contains-cons_cases}
 use Rattle.linspec.proofs.Marks.{Run-cut, Run-append}
-use Rattle.linspec.specs.LeanEnds.{Writes, Reads, IsRead}
+use Rattle.linspec.specs.LeanEnds.{Writes}
 use Rattle.lean_ends.proofs.Makes.{is_true}
-use Rattle.lean_cas_ends.specs.CasEnds.{LeanEnd, IsWithDoor, WritesTo, WritesBefore, SwapsBy, Swap, Walks}
-use Rattle.lean_cas_ends.proofs.Runs.{behind, after, after_write, same, one_if, same_or_not, same_is, same_not, behind_append, run_behind, step_view, step_after}
+use Rattle.lean_cas_ends.specs.CasEnds.{LeanEnd, IsWithDoor, WritesTo, Walks}
+use Rattle.lean_cas_ends.proofs.Runs.{behind, after, after_write, same, one_if, run_behind, step_view, step_after}
 use Rattle.lean_cas_ends.proofs.Walking.{write_no_read, no_read, with_door, without_door}
 use Rattle.lean_cas_ends.proofs.Makes.{some_put, some_last, more_doors, with_door_is}
-use Rattle.lean_cas_ends.proofs.Cutting.{Block, flat, out, end_of, Chain, Runs, LastVisit, last_visit, NoWrites, LastWrite, last_write, Avoids, avoids_behind, Way, way_none, way_then, way_one, Ready, ready_back, ready_then, CutSwaps, cut_swaps}
+use Rattle.lean_cas_ends.proofs.Cutting.{Block, flat, Runs, last_visit, NoWrites, last_write, Avoids, avoids_behind, Way, way_then, way_one, Ready, ready_back, ready_then, CutSwaps, cut_swaps}
 
 -- the first that changes the state is a cas
 abbrev pub first_by : Name → Bool → Bool

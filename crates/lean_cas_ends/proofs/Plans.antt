@@ -1,22 +1,21 @@
 -- which orders an end stands for: those that come of it where more of the open and crashed operations take place
-use Rattle.std.proofs.Common.{◌≡◌, ◌≢◌, ◌↔◌, ℕ, zero, suc, ◌+◌, ◌≤◌, ℤ, ◌⊎◌, inl, inr, ⊎_elim, Bool, true, false, IsTrue, Option, Some, None, List, [], ◌∷◌, ◌++◌, refl, sym, ap, ◌∙◌, subst, append_assoc, append-nil, arith}
+use Rattle.std.proofs.Common.{◌≡◌, ◌≢◌, ◌↔◌, ℕ, zero, suc, ◌≤◌, ℤ, ◌⊎◌, inl, inr, ⊎_elim, Bool, true, false, IsTrue, Option, Some, None, List, [], ◌∷◌, ◌++◌, refl, sym, ap, ◌∙◌, subst, append_assoc, arith}
 use Rattle.std.specs.List.{Contains}
 use Rattle.std.proofs.lemmas.Bool.{true≢false}
 use Rattle.std.proofs.lemmas.List.Elements.{Contains-append_left, Contains-append_right, Contains-append_cases}
 use Rattle.models.specs.declared.operation.Name.{Name}
 use Rattle.models.specs.declared.operation.Name.TheVariants.{Read, Write, Cas, Acquire, Release, Enqueue, Dequeue, Add}
-use Rattle.models.specs.declared.operation.Op.{Op}
 use Rattle.models.specs.Objects.{cas_register}
 use Rattle.events.specs.Events.{Mark}
-use Rattle.events.specs.Events.Mark.{Invoked, Failed}
-use Rattle.linspec.specs.Operations.{HasReturned, IsOpen}
+use Rattle.events.specs.Events.Mark.{Invoked}
+use Rattle.linspec.specs.Operations.{IsOpen}
 use Rattle.linspec.specs.Orders.{Taken, Pairwise, Run}
-use Rattle.linspec.proofs.Lists.{Contains-nil, Contains-head, Contains-tail, Contains-cons_cases, Pairwise-left, Pairwise-right, Pairwise-across}
+use Rattle.linspec.proofs.Lists.{Contains-nil, Contains-head, Contains-tail, Contains-cons_cases, Pairwise-right, Pairwise-across}
 use Rattle.linspec.specs.LeanEnds.{Reads, IsRead}
-use Rattle.lean_cas_ends.specs.CasEnds.{Swaps, IsSwapOf, MayCome, LeanEnd, IsFree, SomeTake, IsLeft, IsAtMost}
-use Rattle.lean_cas_ends.proofs.Runs.{after, same, one_if, same_or_not, same_is, same_not, step_view}
+use Rattle.lean_cas_ends.specs.CasEnds.{Swaps, MayCome, LeanEnd, IsFree, IsLeft, IsAtMost}
+use Rattle.lean_cas_ends.proofs.Runs.{same, one_if, same_or_not, same_not, step_view}
 use Rattle.lean_cas_ends.proofs.Cutting.{Block, flat, end_of, Chain, Runs, IsPin}
-use Rattle.lean_cas_ends.proofs.Leading.{first_by, first_swaps, needs_by, and_also, needs, count, needs_none, needs_at_most}
+use Rattle.lean_cas_ends.proofs.Leading.{first_by, first_swaps, needs_by, and_also, needs, count}
 
 -- those of a block that are not its last one
 abbrev pub extras : List Block → List Taken
@@ -179,14 +178,14 @@ module _ (marks : List Mark) (g f : LeanEnd) (left : IsLeft marks g f) (tail : L
   allowed_left xs [] runs invoked come free a = λ z h c. subst (λ s. IsTrue (f.place s z.id)) (sym left.state) ((left.place g.state z.id).1 (a z h c, (c, free z h), inl refl))
   allowed_left xs (b ∷ bs) runs invoked come free a = (
     (λ r h o z k c.
-    let ar = a.0 r h o r h (open_comes marks r.id o) in
-    let az = a.0 r h o z k c in
-    let fr : IsFree marks g r.id = (open_comes marks r.id o, free r (among r h)) in
-    let fz : IsFree marks g z.id = (c, free z (among z k)) in (
-      (left.place b.at z.id).1 (az.0, fz, inr (r.id, ar.0, o, fr)),
-      (λ w. (left.last z.id).1 (az.1 w, fz, (r.id, ar.1 w, o, fr))),
-      λ v. door r h o z fr fz (count v (b ∷ bs)) v refl (az.2 v) (ar.2 v),
-    )),
+        let ar = a.0 r h o r h (open_comes marks r.id o) in
+        let az = a.0 r h o z k c in
+        let fr : IsFree marks g r.id = (open_comes marks r.id o, free r (among r h)) in
+        let fz : IsFree marks g z.id = (c, free z (among z k)) in (
+          (left.place b.at z.id).1 (az.0, fz, inr (r.id, ar.0, o, fr)),
+          (λ w. (left.last z.id).1 (az.1 w, fz, (r.id, ar.1 w, o, fr))),
+          λ v. door r h o z fr fz (count v (b ∷ bs)) v refl (az.2 v) (ar.2 v),
+        )),
     allowed_left (xs ++ b.seg) bs (λ d k. runs d (Contains-tail b bs d k))
         (λ x k. invoked x (deeper x k)) (λ x k. come x (deeper x k))
         (λ x k. free x (subst (λ l. Contains l x) (append_assoc xs b.seg (extras bs ++ tail) ∙ ap (λ l. xs ++ l) (sym (append_assoc b.seg (extras bs) tail))) k))
@@ -208,8 +207,10 @@ module _ (marks : List Mark) (g f : LeanEnd) (left : IsLeft marks g f) (tail : L
       door r h o z fr fz (suc n) v q dz dr =
           let t = taker marks g tail v xs b bs runs come a r h o (omega (arith, q)) in
           let ty = t.6 in
-          let fy : IsFree marks g t.0.id = (come t.0 (Contains-append_left (b.seg ++ extras bs) tail t.0 t.3) (λ k. (let e : Cas ≡ Read = sym t.4.0 ∙ k.0 in cc)),
-          free t.0 (Contains-append_right xs ((b.seg ++ extras bs) ++ tail) t.0 (Contains-append_left (b.seg ++ extras bs) tail t.0 t.3))) in
+          let fy : IsFree marks g t.0.id = (
+            come t.0 (Contains-append_left (b.seg ++ extras bs) tail t.0 t.3) (λ k. (let e : Cas ≡ Read = sym t.4.0 ∙ k.0 in cc)),
+            free t.0 (Contains-append_right xs ((b.seg ++ extras bs) ++ tail) t.0 (Contains-append_left (b.seg ++ extras bs) tail t.0 t.3)),
+          ) in
           let l = (left.doors v z.id n).1 (
             omega (arith, q, dz),
             fz,

@@ -1,5 +1,5 @@
 -- an end that stands for an order stands for it with more of its operations as pins
-use Rattle.std.proofs.Common.{◌≡◌, ◌≢◌, ◌↔◌, ℕ, ◌+◌, ◌≤◌, ℤ, ◌⊎◌, inl, inr, ⊎_elim, Bool, IsTrue, Option, Some, None, List, [], ◌∷◌, ◌++◌, refl, sym, ap, ◌∙◌, subst, append_assoc, append-nil, arith}
+use Rattle.std.proofs.Common.{◌≡◌, ◌≢◌, ℕ, ◌+◌, ◌≤◌, ℤ, ◌⊎◌, ⊎_elim, Bool, IsTrue, Option, None, List, [], ◌∷◌, ◌++◌, refl, sym, ap, ◌∙◌, subst, append_assoc, arith}
 use Rattle.std.specs.List.{Contains}
 use Rattle.std.proofs.lemmas.List.Elements.{Contains-append_left, Contains-append_right, Contains-append_cases}
 use Rattle.models.specs.declared.operation.Name.TheVariants.{Write}
@@ -7,12 +7,12 @@ use Rattle.models.specs.Objects.{cas_register}
 use Rattle.events.specs.Events.{Mark}
 use Rattle.linspec.specs.Operations.{IsOpen}
 use Rattle.linspec.specs.Orders.{Taken, Pairwise, Run}
-use Rattle.linspec.proofs.Lists.{Contains-nil, Contains-head, Contains-tail, Contains-cons_cases}
+use Rattle.linspec.proofs.Lists.{Contains-head, Contains-tail}
 use Rattle.linspec.specs.LeanEnds.{IsRead}
 use Rattle.lean_cas_ends.specs.CasEnds.{MayCome, LeanEnd}
-use Rattle.lean_cas_ends.proofs.Cutting.{Block, flat, out, end_of, Chain, flat_append, end_append, chain_append, Runs, IsPin, Way}
-use Rattle.lean_cas_ends.proofs.Leading.{needs, count, count_append}
-use Rattle.lean_cas_ends.proofs.Plans.{extras, AllowedAt, Allowed, Covers}
+use Rattle.lean_cas_ends.proofs.Cutting.{Block, flat, out, end_of, Chain, flat_append, end_append, chain_append, Runs, IsPin}
+use Rattle.lean_cas_ends.proofs.Leading.{count, count_append}
+use Rattle.lean_cas_ends.proofs.Plans.{extras, Allowed, Covers}
 
 pub extras_append : (xs ys : List Block) → extras (xs ++ ys) ≡ extras xs ++ extras ys
 extras_append [] ys = refl
@@ -27,7 +27,7 @@ module _ (marks : List Mark) (e f : LeanEnd) (place : (u : Option ℤ) (i : ℕ)
       (⊎_elim (λ k. Contains-append_left xs tail z (sub z k)) (λ k. Contains-append_right xs tail z k) (Contains-append_cases ys tail z h)) c))
   allowed_fewer bound doors state xs ys (b ∷ bs) tail sub few a =
       let more : (x : Taken) → Contains (ys ++ b.seg) x → Contains (xs ++ b.seg) x =
-          λ x h. ⊎_elim (λ k. Contains-append_left xs b.seg x (sub x k)) (λ k. Contains-append_right xs b.seg x k) (Contains-append_cases ys b.seg x h) in (
+      λ x h. ⊎_elim (λ k. Contains-append_left xs b.seg x (sub x k)) (λ k. Contains-append_right xs b.seg x k) (Contains-append_cases ys b.seg x h) in (
         (λ r h o z k c. (let p = a.0 r (more r h) o z (more z k) c in (place b.at z.id p.0, (λ w. last z.id (p.1 w)), (λ v. doors v z.id (count v (b ∷ bs)) (few v) (p.2 v))))),
         allowed_fewer bound doors state (xs ++ b.seg) (ys ++ b.seg) bs tail more (λ v. (let k = few v in omega (arith, k))) a.1,
       )
@@ -44,14 +44,17 @@ module _ (marks : List Mark) (e f : LeanEnd) (place : (u : Option ℤ) (i : ℕ)
     through [] xs a = suffix xs a
     through (b ∷ bs) xs a = (
       (λ r h o z k c.
-      let p = a.0 r h o z k c in
-      let w = descend bs (xs ++ b.seg) a.1 r h o z k c in
-      (place b.at z.id p.0, (λ q. last z.id (p.1 q)), (λ v.
-      let d = p.2 v in
-      let d1 = doors v z.id w in
-      let c1 = count_append v bs old in
-      let c2 = count_append v bs new in
-      omega (arith, d, d1, c1, c2)))),
+          let p = a.0 r h o z k c in
+          let w = descend bs (xs ++ b.seg) a.1 r h o z k c in (
+            place b.at z.id p.0,
+            (λ q. last z.id (p.1 q)),
+            (λ v.
+                let d = p.2 v in
+                let d1 = doors v z.id w in
+                let c1 = count_append v bs old in
+                let c2 = count_append v bs new in
+                omega (arith, d, d1, c1, c2)),
+          )),
       through bs (xs ++ b.seg) a.1,
     )
 
@@ -73,9 +76,9 @@ module _ (marks : List Mark) (e f : LeanEnd) (place : (u : Option ℤ) (i : ℕ)
     inside ending (b ∷ bs) s xs chain to among sub here cnt =
         let mem : Contains all b = among b (Contains-head b bs) in
         let in_big : (x : Taken) → Contains (xs ++ b.seg) x → Contains big x = λ x h. sub x (⊎_elim
-            (λ k. Contains-append_left xs ((b.seg ++ extras bs) ++ rest) x k)
-            (λ k. Contains-append_right xs ((b.seg ++ extras bs) ++ rest) x (Contains-append_left (b.seg ++ extras bs) rest x (Contains-append_left b.seg (extras bs) x k)))
-            (Contains-append_cases xs b.seg x h)) in (
+        (λ k. Contains-append_left xs ((b.seg ++ extras bs) ++ rest) x k)
+        (λ k. Contains-append_right xs ((b.seg ++ extras bs) ++ rest) x (Contains-append_left (b.seg ++ extras bs) rest x (Contains-append_left b.seg (extras bs) x k)))
+        (Contains-append_cases xs b.seg x h)) in (
           (λ r h o z k c. (
             subst (λ q. IsTrue (f.place q z.id)) (sym chain.0) (here r (in_big r h) o z (in_big z k) c),
             (λ w. last_new b z.id mem w (base r (in_big r h) o z (in_big z k) c)),
@@ -99,11 +102,11 @@ rebuild marks e f order t c bs old new tail cut whole chain to runs run_tail pin
     let all : flat (bs ++ new) tail ≡ flat c.blocks c.tail = flat_append bs new tail ∙ ap (flat bs) whole ∙ sym (flat_append bs old c.tail) ∙ ap (λ l. flat l c.tail) (sym cut) in
     let chain_old : Chain None bs = chain_left None bs old (subst (Chain None) cut c.chain) in
     let fewer : (x : Taken) → Contains (extras (bs ++ new) ++ tail) x → Contains (extras c.blocks ++ c.tail) x = λ x h.
-        subst (λ l. Contains (extras l ++ c.tail) x) (sym cut) (subst (λ l. Contains l x) (sym (split bs old c.tail))
-        (⊎_elim
-        (λ k. Contains-append_left (extras bs) (extras old ++ c.tail) x k)
-        (λ k. Contains-append_right (extras bs) (extras old ++ c.tail) x (sub x k))
-        (Contains-append_cases (extras bs) (extras new ++ tail) x (subst (λ l. Contains l x) (split bs new tail) h)))) in record {
+    subst (λ l. Contains (extras l ++ c.tail) x) (sym cut) (subst (λ l. Contains l x) (sym (split bs old c.tail))
+    (⊎_elim
+    (λ k. Contains-append_left (extras bs) (extras old ++ c.tail) x k)
+    (λ k. Contains-append_right (extras bs) (extras old ++ c.tail) x (sub x k))
+    (Contains-append_cases (extras bs) (extras new ++ tail) x (subst (λ l. Contains l x) (split bs new tail) h)))) in record {
       blocks = bs ++ new;
       tail = tail;
       chain = chain_append None bs new chain_old chain;

@@ -1,5 +1,5 @@
 -- an order stands for what an end becomes where the operation that returns takes place
-use Rattle.std.proofs.Common.{◌≡◌, ◌≢◌, ℕ, ◌+◌, ◌≤◌, ℤ, ◌⊎◌, inl, inr, ⊎_elim, Bool, true, false, IsTrue, Option, Some, None, List, [], ◌∷◌, ◌++◌, refl, sym, ap, ◌∙◌, subst, append-nil, arith}
+use Rattle.std.proofs.Common.{◌≡◌, ℕ, ◌+◌, ◌≤◌, ℤ, ◌⊎◌, inl, inr, ⊎_elim, Bool, true, false, IsTrue, Option, None, List, [], ◌∷◌, ◌++◌, refl, sym, ap, ◌∙◌, subst, append-nil, arith}
 use Rattle.std.specs.List.{Contains}
 use Rattle.std.proofs.lemmas.List.Elements.{Contains-append_right}
 use Rattle.models.specs.declared.operation.Name.TheVariants.{Write}
@@ -8,18 +8,18 @@ use Rattle.models.specs.declared.finding.Answer.{Answer}
 use Rattle.models.specs.Objects.{cas_register, Fits}
 use Rattle.events.specs.Events.{Mark}
 use Rattle.linspec.specs.MarkRule.{AreWellFormed}
-use Rattle.linspec.specs.Operations.{HasReturned, IsOpen, Precedes}
-use Rattle.linspec.specs.Orders.{Taken, Includes, Run}
-use Rattle.linspec.proofs.Lists.{Contains-nil, Contains-tail, Contains-head}
-use Rattle.linspec.proofs.Marks.{Run-cut, Run-append}
+use Rattle.linspec.specs.Operations.{HasReturned}
+use Rattle.linspec.specs.Orders.{Taken, Run}
+use Rattle.linspec.proofs.Lists.{Contains-nil, Contains-tail}
+use Rattle.linspec.proofs.Marks.{Run-cut}
 use Rattle.linspec.specs.LeanEnds.{IsRead}
 use Rattle.lean_ends.proofs.Splits.{two_cuts}
-use Rattle.lean_cas_ends.specs.CasEnds.{MayCome, LeanEnd, IsWithDoor, TakesPlace, Serves, WritesBefore, AreAtDoor, IsServedBehind, IsServedBefore, IsServedAtDoor, IsServedInLoop, IsServed}
+use Rattle.lean_cas_ends.specs.CasEnds.{MayCome, LeanEnd, IsWithDoor, Serves, WritesBefore, IsServedBehind, IsServedBefore, IsServedAtDoor, IsServedInLoop, IsServed}
 use Rattle.lean_cas_ends.proofs.Runs.{behind, after, same, one_if, door, doors_of, same_or_not, same_is, same_not, behind_append, doors_append, run_behind, after_write, write_step, write_anywhere, after_anywhere, door_write, door_other}
 use Rattle.lean_cas_ends.proofs.Between.{between_it, ArePending}
 use Rattle.lean_cas_ends.proofs.Stands.{MayStandBefore, Place, Before, Room, Stands, write_or_not}
 use Rattle.lean_cas_ends.proofs.Inserting.{nobody, Inserts, stands_inserted}
-use Rattle.lean_cas_ends.proofs.Walking.{Walk, Doors, walk_append, doors_none, with_door, without_door, write_no_read, only, walk_one, no_read, moves_by, moves_of_walk, IsServedIn, Served, served_place, served_read, served_by, served_behind_moves, served_then_moves}
+use Rattle.lean_cas_ends.proofs.Walking.{Walk, Doors, walk_append, with_door, without_door, write_no_read, only, walk_one, no_read, moves_by, moves_of_walk, IsServedIn, Served, served_place, served_read, served_by, served_behind_moves, served_then_moves}
 
 -- the order stands for the end but for the read that returns, and the operation has an answer that fits
 pub record Holds (marks : List Mark) (id : ℕ) (answer : Answer) (f : LeanEnd) : Type 0 where
@@ -67,7 +67,7 @@ module _ (marks : List Mark) (well : AreWellFormed marks) (id : ℕ) (answer : A
     not_failed = λ x k. (comes x.id (w.who_are x k)).not_failed;
     new = λ x k i. (
         let n : IsTrue (e.needed x.id) = subst (λ j. IsTrue (e.needed j)) i.2
-            (⊎_elim (λ j. j) absurd (s.only i.0 i.1 (subst (λ j. ¬ HasReturned marks j) (sym i.2) (comes x.id (w.who_are x k)).not_returned))) in
+        (⊎_elim (λ j. j) absurd (s.only i.0 i.1 (subst (λ j. ¬ HasReturned marks j) (sym i.2) (comes x.id (w.who_are x k)).not_returned))) in
         w.fresh x k (s.needed x.id n).1 (subst (λ c. IsTrue (c x.id)) (sym was) n));
     once = w.once;
   }
@@ -133,11 +133,11 @@ module _ (marks : List Mark) (well : AreWellFormed marks) (id : ℕ) (answer : A
       → Run cas_register u ys t → (ys ≡ []) ⊎ (u ≡ behind None xs) → t ≡ f.state → IsServedIn marks well id who answer g ws → Holds marks id answer f
   plain who g f xs ys ws u t cut f_needed f_place f_last f_doors w d late comes run_on ends state served =
       holds_by who e g f xs ys ws u t cut refl refl refl f_needed f_place f_last w late comes run_on
-          (λ m zs q. ⊎_elim (λ n. inl (nothing m zs (sym n ∙ q))) (λ n. inr (ap (λ o. behind o m) n)) ends)
-          state
-          (λ v i k. (let a = d.those v i k in let b = ap (λ c. c v i) f_doors in let c = same_doors v in omega (arith, a, b, c)))
-          (λ v i n. (let a = d.others v i n in let b = ap (λ c. c v i) f_doors in let c = same_doors v in (omega (arith, a, b), inl (omega (arith, c)))))
-          served
+      (λ m zs q. ⊎_elim (λ n. inl (nothing m zs (sym n ∙ q))) (λ n. inr (ap (λ o. behind o m) n)) ends)
+      state
+      (λ v i k. (let a = d.those v i k in let b = ap (λ c. c v i) f_doors in let c = same_doors v in omega (arith, a, b, c)))
+      (λ v i n. (let a = d.others v i n in let b = ap (λ c. c v i) f_doors in let c = same_doors v in (omega (arith, a, b), inl (omega (arith, c)))))
+      served
     where
       same_doors : (v : Option ℤ) → doors_of v (behind None xs) ys ≡ doors_of v u ys
       same_doors v = ⊎_elim (λ n. ap (doors_of v (behind None xs)) n ∙ ap (doors_of v u) (sym n)) (λ n. ap (λ o. doors_of v o ys) (sym n)) ends
@@ -234,42 +234,41 @@ module _ (marks : List Mark) (well : AreWellFormed marks) (id : ℕ) (answer : A
       let dp : Doors who h g w d.0 = subst (λ o. Doors who h g o d.0) (sym p.here) d.2 in
       let same_after = after_write_same p.front p.write p.back t p.cut p.writes in
       holds_by who h g f p.front (p.write ∷ p.back) d.0 t t0 p.cut at.same.1 at.same.2 at.same.3 k.10 k.11 k.12
-          (subst (λ o. Walk marks id who h g o d.0 t) (sym p.here) d.1)
-          (λ z i. nth_late a n at.some p z ((at.who_may z).0 i))
-          (λ i z. s.comes_door a i (let some = at.some in let le = (at.who_may i).0 z in omega (arith, some, le)))
-          (onto_write p.front p.write p.back t p.cut p.writes)
-          (joins_write p.front p.write p.back t p.cut p.writes)
-          (s.state ∙ sym (nd ∙ d.1.state ∙ at.same.0))
-          (λ v i z.
-          let c1 = with_door v t g f who k.8 i z in
-          let c2 = dp.those v i z in
-          let c3 = with_door v a h e who at.used i z in
-          let c4 : door v w p.write.op.name ≡ one_if (same v a) = door_write v w p.write.op.name p.writes ∙ ap (λ o. one_if (same v o)) p.here in
-          let c5 : door v t p.write.op.name ≡ one_if (same v t) = door_write v t p.write.op.name p.writes in
-          let c6 : doors_of v (after t p.write.op) p.back ≡ doors_of v (after w p.write.op) p.back = ap (λ o. doors_of v o p.back) same_after in
-          omega (arith, c1, c2, c3, c4, c5, c6))
-          (λ v i z.
-          let c1 = without_door v t g f who k.8 i z in
-          let c2 = dp.others v i z in
-          let c3 = without_door v a h e who at.used i z in
-          let c4 : door v w p.write.op.name ≡ one_if (same v a) = door_write v w p.write.op.name p.writes ∙ ap (λ o. one_if (same v o)) p.here in
-          let c6 : doors_of v (after t p.write.op) p.back ≡ doors_of v (after w p.write.op) p.back = ap (λ o. doors_of v o p.back) same_after in
-          (
-            omega (arith, c1, c2, c3),
-            ⊎_elim
-                (λ q. inr (
-                  p.write,
-                  p.back,
-                  refl,
-                  (let lt : ¬ (n ≤ e.doors a i) = λ le. z ((at.who_may i).1 le) in
+      (subst (λ o. Walk marks id who h g o d.0 t) (sym p.here) d.1)
+      (λ z i. nth_late a n at.some p z ((at.who_may z).0 i))
+      (λ i z. s.comes_door a i (let some = at.some in let le = (at.who_may i).0 z in omega (arith, some, le)))
+      (onto_write p.front p.write p.back t p.cut p.writes)
+      (joins_write p.front p.write p.back t p.cut p.writes)
+      (s.state ∙ sym (nd ∙ d.1.state ∙ at.same.0))
+      (λ v i z.
+      let c1 = with_door v t g f who k.8 i z in
+      let c2 = dp.those v i z in
+      let c3 = with_door v a h e who at.used i z in
+      let c4 : door v w p.write.op.name ≡ one_if (same v a) = door_write v w p.write.op.name p.writes ∙ ap (λ o. one_if (same v o)) p.here in
+      let c5 : door v t p.write.op.name ≡ one_if (same v t) = door_write v t p.write.op.name p.writes in
+      let c6 : doors_of v (after t p.write.op) p.back ≡ doors_of v (after w p.write.op) p.back = ap (λ o. doors_of v o p.back) same_after in
+      omega (arith, c1, c2, c3, c4, c5, c6))
+      (λ v i z.
+      let c1 = without_door v t g f who k.8 i z in
+      let c2 = dp.others v i z in
+      let c3 = without_door v a h e who at.used i z in
+      let c4 : door v w p.write.op.name ≡ one_if (same v a) = door_write v w p.write.op.name p.writes ∙ ap (λ o. one_if (same v o)) p.here in
+      let c6 : doors_of v (after t p.write.op) p.back ≡ doors_of v (after w p.write.op) p.back = ap (λ o. doors_of v o p.back) same_after in (
+        omega (arith, c1, c2, c3),
+        ⊎_elim
+            (λ q. inr (
+              p.write,
+              p.back,
+              refl,
+              (let lt : ¬ (n ≤ e.doors a i) = λ le. z ((at.who_may i).1 le) in
                   let vi : e.doors v i ≡ e.doors a i = ap (λ o. e.doors o i) q in
                   let many : doors_of v (after w p.write.op) p.back + 1 ≡ n = subst (λ o. doors_of o (after w p.write.op) p.back + 1 ≡ n) (sym q) p.many in
                   below n (e.doors a i) lt (f.doors v i) (doors_of v (after t p.write.op) p.back) (omega (arith, c1, c2, c3, vi)) (omega (arith, c6, many))),
-                ))
-                (λ m. inl (let z0 : one_if (same v a) ≡ 0 = ap one_if (same_not v a m) in omega (arith, c4, c6, z0)))
-                (same_or_not v a),
-          ))
-          d.3
+            ))
+            (λ m. inl (let z0 : one_if (same v a) ≡ 0 = ap one_if (same_not v a m) in omega (arith, c4, c6, z0)))
+            (same_or_not v a),
+      ))
+      d.3
     where
       below : (n d : ℕ) → ¬ (n ≤ d) → (f k : ℕ) → f ≡ d → k + 1 ≡ n → f ≤ k
       below n d lt f k q r = grind (arith, lt, q, r)
@@ -289,7 +288,7 @@ module _ (marks : List Mark) (well : AreWellFormed marks) (id : ℕ) (answer : A
       let op = w.write.1.0 in
       let is = w.write.1.2 in
       walk_one marks well id e.last e h a u x op w.write.1.1 (write_no_read op v is) w.put
-          (subst (λ o. cas_register.Steps a op Done o) (sym w.write.2) (write_step op v a is)) (after_write a op v is ∙ sym w.write.2) (λ i j. inl ((w.last i).0 j))
+      (subst (λ o. cas_register.Steps a op Done o) (sym w.write.2) (write_step op v a is)) (after_write a op v is ∙ sym w.write.2) (λ i j. inl ((w.last i).0 j))
 
   led_alone : (g : LeanEnd) (a t : Option ℤ) → WritesBefore marks e id g t → Led g a t
   led_alone g a t w = record {
@@ -323,26 +322,26 @@ module _ (marks : List Mark) (well : AreWellFormed marks) (id : ℕ) (answer : A
       let w : Option ℤ = behind None p.front in
       let same_after = after_write_same p.front p.write p.back t p.cut p.writes in
       holds_by e.last e g f p.front (p.write ∷ p.back) (k.write ∷ k.rest) t t0 p.cut refl refl refl f_needed f_place f_last k.walk
-          p.late s.comes_last
-          (onto_write p.front p.write p.back t p.cut p.writes)
-          (joins_write p.front p.write p.back t p.cut p.writes)
-          (s.state ∙ sym (f_state ∙ k.walk.state))
-          (λ v i z.
-          let c1 = with_door v t g f e.last plus i z in
-          let c2 = k.doors.those v i z in
-          let c3 : door v w p.write.op.name ≡ one_if (same v w) = door_write v w p.write.op.name p.writes in
-          let c4 : door v w k.write.op.name ≡ one_if (same v w) = door_write v w k.write.op.name k.writes in
-          let c5 : door v t p.write.op.name ≡ one_if (same v t) = door_write v t p.write.op.name p.writes in
-          let c6 : doors_of v (after t p.write.op) p.back ≡ doors_of v (after w p.write.op) p.back = ap (λ o. doors_of v o p.back) same_after in
-          omega (arith, c1, c2, c3, c4, c5, c6))
-          (λ v i z.
-          let c1 = without_door v t g f e.last plus i z in
-          let c2 = k.doors.others v i z in
-          let c3 : door v w p.write.op.name ≡ one_if (same v w) = door_write v w p.write.op.name p.writes in
-          let c4 : door v w k.write.op.name ≡ one_if (same v w) = door_write v w k.write.op.name k.writes in
-          let c6 : doors_of v (after t p.write.op) p.back ≡ doors_of v (after w p.write.op) p.back = ap (λ o. doors_of v o p.back) same_after in
-          (omega (arith, c1, c2), inl (omega (arith, c3, c4, c6))))
-          k.served
+      p.late s.comes_last
+      (onto_write p.front p.write p.back t p.cut p.writes)
+      (joins_write p.front p.write p.back t p.cut p.writes)
+      (s.state ∙ sym (f_state ∙ k.walk.state))
+      (λ v i z.
+      let c1 = with_door v t g f e.last plus i z in
+      let c2 = k.doors.those v i z in
+      let c3 : door v w p.write.op.name ≡ one_if (same v w) = door_write v w p.write.op.name p.writes in
+      let c4 : door v w k.write.op.name ≡ one_if (same v w) = door_write v w k.write.op.name k.writes in
+      let c5 : door v t p.write.op.name ≡ one_if (same v t) = door_write v t p.write.op.name p.writes in
+      let c6 : doors_of v (after t p.write.op) p.back ≡ doors_of v (after w p.write.op) p.back = ap (λ o. doors_of v o p.back) same_after in
+      omega (arith, c1, c2, c3, c4, c5, c6))
+      (λ v i z.
+      let c1 = without_door v t g f e.last plus i z in
+      let c2 = k.doors.others v i z in
+      let c3 : door v w p.write.op.name ≡ one_if (same v w) = door_write v w p.write.op.name p.writes in
+      let c4 : door v w k.write.op.name ≡ one_if (same v w) = door_write v w k.write.op.name k.writes in
+      let c6 : doors_of v (after t p.write.op) p.back ≡ doors_of v (after w p.write.op) p.back = ap (λ o. doors_of v o p.back) same_after in
+      (omega (arith, c1, c2), inl (omega (arith, c3, c4, c6))))
+      k.served
 
   by_before : (f : LeanEnd) → IsServedBefore marks e id answer f → Holds marks id answer f
   by_before f k =

@@ -1,5 +1,5 @@
 -- each lean end is what some legal order leaves
-use Rattle.std.proofs.Common.{◌≡◌, ℕ, ℤ, ⊎_elim, IsTrue, Option, None, List, [], ◌∷◌, ◌++◌, length, ◌<◌, refl, sym, ap, ◌∙◌, subst, append_assoc, append-nil, arith}
+use Rattle.std.proofs.Common.{◌≡◌, ℕ, ⊎_elim, None, List, [], ◌∷◌, ◌++◌, length, ◌<◌, refl, sym, ap, ◌∙◌, subst, append_assoc, append-nil, arith}
 use Rattle.std.specs.List.{Contains}
 use Rattle.std.proofs.lemmas.Bool.{true≢false}
 use Rattle.std.proofs.Common.{inr}
@@ -9,7 +9,6 @@ use Rattle.linspec.specs.MarkRule.{AreWellFormed}
 use Rattle.linspec.specs.Orders.{IsLinearizable}
 use Rattle.linspec.proofs.Lists.{Contains-nil, Contains-head, Contains-cons_cases}
 use Rattle.lean_cas_ends.specs.CasEnds.{LeanEnd, start, BecomesBy, IsLeanEnd, AreLeftByAll, AreLeanEnds, HasMoreLeanEnds}
-use Rattle.lean_cas_ends.proofs.Stands.{Room}
 use Rattle.lean_cas_ends.proofs.Keeping.{IsStoodFor, stood_after}
 
 pub stood_at_first : IsStoodFor [] start

@@ -1,5 +1,5 @@
 -- an order that has, of the open and crashed operations, those alone that an end needs
-use Rattle.std.proofs.Common.{◌≡◌, ◌≢◌, ℕ, ◌+◌, ◌≤◌, ℤ, ◌⊎◌, inl, inr, ⊎_elim, Bool, IsTrue, Option, Some, None, List, [], ◌∷◌, ◌++◌, refl, sym, ap, ◌∙◌, subst}
+use Rattle.std.proofs.Common.{◌≡◌, ◌≢◌, ℕ, ◌≤◌, ℤ, ◌⊎◌, inl, inr, ⊎_elim, Bool, IsTrue, Option, None, List, [], ◌∷◌, ◌++◌, refl, sym, ap, ◌∙◌, subst}
 use Rattle.std.specs.List.{Contains}
 use Rattle.std.proofs.lemmas.List.Elements.{Contains-append_right}
 use Rattle.models.specs.declared.operation.Name.{Name}
@@ -59,19 +59,45 @@ pub record Stands (marks : List Mark) (returning : ℕ → Type 0) (e : LeanEnd)
 pub join_places : (marks : List Mark) (order : List Taken) (a b c : ℕ → Bool) (u : Option ℤ) → ((z : ℕ) → IsTrue (c z) → IsTrue (a z) ⊎ IsTrue (b z))
     → Place marks order a u → Place marks order b u → Place marks order c u
 join_places marks order a b c u each p q = ⊎_elim
-    (λ k. record { front = q.front; back = q.back; cut = q.cut; here = q.here; late = λ z h. ⊎_elim
-        (λ i y j. p.late z i y (subst (λ l. Contains l y) (sym k.2) (Contains-append_right k.0 q.back y j))) (q.late z) (each z h) })
-    (λ k. record { front = p.front; back = p.back; cut = p.cut; here = p.here; late = λ z h. ⊎_elim
-        (p.late z) (λ i y j. q.late z i y (subst (λ l. Contains l y) (sym k.2) (Contains-append_right k.0 p.back y j))) (each z h) })
+    (λ k. record {
+      front = q.front;
+      back = q.back;
+      cut = q.cut;
+      here = q.here;
+      late = λ z h. ⊎_elim
+          (λ i y j. p.late z i y (subst (λ l. Contains l y) (sym k.2) (Contains-append_right k.0 q.back y j))) (q.late z) (each z h);
+    })
+    (λ k. record {
+      front = p.front;
+      back = p.back;
+      cut = p.cut;
+      here = p.here;
+      late = λ z h. ⊎_elim
+          (p.late z) (λ i y j. q.late z i y (subst (λ l. Contains l y) (sym k.2) (Contains-append_right k.0 p.back y j))) (each z h);
+    })
     (two_cuts p.front p.back q.front q.back (sym p.cut ∙ q.cut))
 
 pub join_befores : (marks : List Mark) (order : List Taken) (a b c : ℕ → Bool) → ((z : ℕ) → IsTrue (c z) → IsTrue (a z) ⊎ IsTrue (b z))
     → Before marks order a → Before marks order b → Before marks order c
 join_befores marks order a b c each p q = ⊎_elim
-    (λ k. record { front = q.front; write = q.write; back = q.back; cut = q.cut; writes = q.writes; late = λ z h. ⊎_elim
-        (λ i y j. p.late z i y (subst (λ l. Contains l y) (sym k.2) (Contains-append_right k.0 (q.write ∷ q.back) y j))) (q.late z) (each z h) })
-    (λ k. record { front = p.front; write = p.write; back = p.back; cut = p.cut; writes = p.writes; late = λ z h. ⊎_elim
-        (p.late z) (λ i y j. q.late z i y (subst (λ l. Contains l y) (sym k.2) (Contains-append_right k.0 (p.write ∷ p.back) y j))) (each z h) })
+    (λ k. record {
+      front = q.front;
+      write = q.write;
+      back = q.back;
+      cut = q.cut;
+      writes = q.writes;
+      late = λ z h. ⊎_elim
+          (λ i y j. p.late z i y (subst (λ l. Contains l y) (sym k.2) (Contains-append_right k.0 (q.write ∷ q.back) y j))) (q.late z) (each z h);
+    })
+    (λ k. record {
+      front = p.front;
+      write = p.write;
+      back = p.back;
+      cut = p.cut;
+      writes = p.writes;
+      late = λ z h. ⊎_elim
+          (p.late z) (λ i y j. q.late z i y (subst (λ l. Contains l y) (sym k.2) (Contains-append_right k.0 (p.write ∷ p.back) y j))) (each z h);
+    })
     (two_cuts p.front (p.write ∷ p.back) q.front (q.write ∷ q.back) (sym p.cut ∙ q.cut))
 
 -- the states that a list meets, and whether it has a write

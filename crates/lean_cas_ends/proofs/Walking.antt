@@ -1,13 +1,11 @@
 -- what a walk makes of an end, all at once
-use Rattle.std.proofs.Common.{◌≡◌, ◌≢◌, ◌↔◌, ℕ, ◌+◌, ◌≤◌, ℤ, ◌⊎◌, inl, inr, ⊎_elim, Bool, true, false, IsTrue, Option, Some, None, List, [], ◌∷◌, ◌++◌, refl, sym, ap, ◌∙◌, subst, append_assoc, append-nil, arith}
+use Rattle.std.proofs.Common.{◌≡◌, ◌≢◌, ℕ, ◌+◌, ℤ, ◌⊎◌, inl, inr, ⊎_elim, Bool, IsTrue, Option, Some, List, [], ◌∷◌, ◌++◌, refl, sym, ap, ◌∙◌, subst, append_assoc, arith}
 use Rattle.std.specs.List.{Contains}
 use Rattle.std.proofs.lemmas.List.Elements.{Contains-append_left, Contains-append_right, Contains-append_cases}
-use Rattle.models.specs.declared.operation.Name.{Name}
 use Rattle.models.specs.declared.operation.Name.TheVariants.{Read, Write, Cas}
 use Rattle.models.specs.declared.operation.Op.{Op}
 use Rattle.models.specs.declared.finding.Found.TheVariants.{Unit as Done, Reg}
 use Rattle.models.specs.declared.finding.Answer.{Answer}
-use Rattle.models.specs.declared.finding.Answer.TheVariants.{Number}
 use Rattle.models.specs.Objects.{cas_register, Fits}
 use Rattle.events.specs.Events.{Mark}
 use Rattle.events.specs.Events.Mark.{Invoked}
@@ -15,10 +13,10 @@ use Rattle.linspec.specs.MarkRule.{AreWellFormed}
 use Rattle.linspec.specs.Orders.{Taken, Includes, Pairwise, Run}
 use Rattle.linspec.proofs.Lists.{Contains-nil, Contains-head, Contains-cons_cases, Pairwise-append}
 use Rattle.linspec.proofs.Marks.{Run-append}
-use Rattle.linspec.specs.LeanEnds.{Writes, Reads, IsWriteOf, IsRead}
+use Rattle.linspec.specs.LeanEnds.{Writes, Reads, IsRead}
 use Rattle.lean_ends.proofs.Once.{one_op}
-use Rattle.lean_cas_ends.specs.CasEnds.{Swaps, LeanEnd, IsWithDoor, IsPut, SwapsTo, WritesTo, WritesBefore, SwapsBy, Swap, Walks, TakesPlace, Serves}
-use Rattle.lean_cas_ends.proofs.Runs.{behind, after, same, one_if, door, doors_of, same_or_not, same_is, same_not, behind_append, doors_append, after_write, after_swap, run_behind, write_step, read_step, swap_step, door_write, door_other}
+use Rattle.lean_cas_ends.specs.CasEnds.{Swaps, LeanEnd, IsWithDoor, IsPut, SwapsTo, WritesTo, SwapsBy, Walks, TakesPlace, Serves}
+use Rattle.lean_cas_ends.proofs.Runs.{behind, after, same, one_if, doors_of, same_or_not, same_is, same_not, behind_append, doors_append, after_write, after_swap, run_behind, write_step, read_step, swap_step, door_write, door_other}
 use Rattle.lean_cas_ends.proofs.Stands.{Passes, HasWrite}
 
 -- ws takes place among those that may, from s to t; id may be a read among them

@@ -1,17 +1,17 @@
 -- a history is linearizable exactly as long as an end is left
-use Rattle.std.proofs.Common.{◌≡◌, ◌↔◌, ℕ, ℤ, ⊎_elim, Bool, IsTrue, Option, None, List, [], ◌∷◌, ◌++◌, refl, sym, ap, ◌∙◌, subst, append_assoc, append-nil}
+use Rattle.std.proofs.Common.{◌≡◌, ⊎_elim, List, [], ◌∷◌, ◌++◌, refl, sym, ap, ◌∙◌, subst, append_assoc, append-nil}
 use Rattle.std.specs.List.{Contains}
 use Rattle.std.proofs.lemmas.Bool.{true≢false}
 use Rattle.models.specs.Objects.{cas_register}
 use Rattle.events.specs.Events.{Mark}
 use Rattle.events.specs.Events.Mark.{Invoked, Returned, Failed, Crashed}
 use Rattle.linspec.specs.MarkRule.{AreWellFormed}
-use Rattle.linspec.specs.Orders.{Taken, IsLegalOrder, IsLinearizable}
+use Rattle.linspec.specs.Orders.{IsLegalOrder, IsLinearizable}
 use Rattle.linspec.proofs.Lists.{Contains-nil, Contains-head, Contains-cons_cases}
 use Rattle.lean_cas_ends.specs.CasEnds.{LeanEnd, start, BecomesBy, IsLeanEnd, AreLeftBy, AreLeftByAll, AreLeanEnds}
 use Rattle.lean_cas_ends.proofs.Plans.{Covers, covers_at_most}
 use Rattle.lean_cas_ends.proofs.Growing.{AllFree, all_free_after}
-use Rattle.lean_cas_ends.proofs.Complete.{Found, AreComplete, Next, after_fail, after_crash, after_ok}
+use Rattle.lean_cas_ends.proofs.Complete.{AreComplete, Next, after_fail, after_crash, after_ok}
 use Rattle.lean_cas_ends.proofs.Beginning.{after_invoke}
 
 complete_after : (marks : List Mark) (L : LeanEnd → Type 0) (m : Mark) → AreWellFormed (marks ++ m ∷ []) → AreComplete marks L → AreComplete (marks ++ m ∷ []) (Next marks L m)

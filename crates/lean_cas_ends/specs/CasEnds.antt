@@ -6,13 +6,12 @@ use Rattle.models.specs.declared.operation.Part.TheVariants.{Pair}
 use Rattle.models.specs.declared.operation.Op.{Op}
 use Rattle.models.specs.declared.finding.Answer.{Answer}
 use Rattle.models.specs.declared.finding.Answer.TheVariants.{Nothing, Number}
-use Rattle.models.specs.Objects.{cas_register}
 use Rattle.events.specs.Events.{Mark}
 use Rattle.events.specs.Events.Mark.{Invoked, Returned, Failed, Crashed}
 use Rattle.linspec.specs.MarkRule.{AreWellFormed}
 use Rattle.linspec.specs.Operations.{HasReturned, IsOpen}
-use Rattle.linspec.specs.Orders.{IsLinearizable, Pairwise}
-use Rattle.linspec.specs.LeanEnds.{Writes, Reads, IsWriteOf, IsRead}
+use Rattle.linspec.specs.Orders.{Pairwise}
+use Rattle.linspec.specs.LeanEnds.{IsWriteOf, IsRead}
 
 -- the operation changes a into b where the state is a
 abbrev pub Swaps : Op → ℤ → ℤ → Type 0
