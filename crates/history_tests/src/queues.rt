@@ -119,6 +119,16 @@ const EQUAL_VALUES: [Row; 8] = [
     (3, Invoke, Enqueue, One(5), Alive),
 ];
 
+// A failed enqueue leaves nothing.
+const FAILED_ENQUEUE: [Row; 6] = [
+    (0, Invoke, Enqueue, One(5), Alive),
+    (0, Failed, Enqueue, One(5), Alive),
+    (1, Invoke, Enqueue, One(5), Alive),
+    (1, Done, Enqueue, One(5), Alive),
+    (2, Invoke, Dequeue, Nil, Alive),
+    (2, Done, Dequeue, One(5), Alive),
+];
+
 const NIL_IS_NO_VALUE: [Row; 2] = [
     (0, Invoke, Dequeue, Nil, Alive),
     (0, Done, Dequeue, Nil, Dead),
@@ -145,6 +155,7 @@ fn wide_queue_answers(rt: HostRuntime) -> Result<(), Fail> {
         judge(alloc, &FAILED_ENQUEUE_CAME_OUT, false)?,
         "a failed enqueue came out"
     );
+    assert!(rt; judge(alloc, &FAILED_ENQUEUE, false)?, "a failed enqueue");
     assert!(rt; judge(alloc, &EQUAL_VALUES, false)?, "equal values");
     assert!(rt; judge(alloc, &NIL_IS_NO_VALUE, false)?, "nil is no value");
     assert!(rt; judge(alloc, &NEVER_ENQUEUED, false)?, "never enqueued");

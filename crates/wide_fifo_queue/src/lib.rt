@@ -4,11 +4,11 @@
 //! A call takes memory only where its result can be `AllocError`.
 #![tactic(auto)]
 
-pub mod entries;
+mod entries;
 pub mod judged;
-pub mod known;
-pub mod lists;
-pub mod next;
-pub mod waiting;
+mod known;
+mod lists;
+mod next;
+mod waiting;
 
 pub use judged::WideFifoQueue;
