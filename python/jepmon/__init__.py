@@ -5,14 +5,16 @@ the live Monitor, causes in words, pages) is tested, and not proved.
 """
 import os
 import sys
-from typing import TYPE_CHECKING
 
 if sys.version_info < (3, 9):  # so this file and __main__.py have no word that an older one can't read
     _SAID = "jepmon needs Python 3.9 or later, and this is {}.{}: {}".format(sys.version_info[0], sys.version_info[1], sys.executable)
-    if os.path.basename(sys.argv[0]) in ("-m", "explain", "from-jepsen") or os.path.basename(sys.argv[0]).startswith("jepmon"):
+    _CALLED = os.path.basename(sys.argv[0])  # that of `python -m` is "-m", and "-c" in Python 2
+    if _CALLED in ("-m", "-c", "explain", "from-jepsen") or _CALLED.startswith("jepmon"):
         sys.stderr.write(_SAID + "\n")
         sys.exit(3)  # and not 1, which says that a history is illegal
     raise ImportError(_SAID)
+
+TYPE_CHECKING = False  # as that of typing, which an older Python does not have
 
 if TYPE_CHECKING:
     from .history.kinds import ABSENT
@@ -26,19 +28,16 @@ __version__ = "1.5.0"
 __all__ = ["ABSENT", "Failed", "Illegal", "JepmonError", "Keys", "LongMonitor", "Monitor", "NotLegal", "Operation", "Refused", "Unknown"]
 
 # Where each name is; its module is loaded at first use, so that the tools begin fast.
-_MODULES = {"ABSENT": "history.kinds", "Keys": "live.keys", "LongMonitor": "long", "Monitor": "live.monitor", "Operation": "live.operation",
-            **dict.fromkeys(("Failed", "Illegal", "JepmonError", "NotLegal", "Refused", "Unknown"), "live.verdicts")}
+_MODULES = {"ABSENT": "history.kinds", "Keys": "live.keys", "LongMonitor": "long", "Monitor": "live.monitor", "Operation": "live.operation"}
+_MODULES.update(dict.fromkeys(("Failed", "Illegal", "JepmonError", "NotLegal", "Refused", "Unknown"), "live.verdicts"))
 
 
-def __getattr__(name: str) -> object:
+def __getattr__(name):
+    # type: (str) -> object
     if name not in _MODULES:
-        raise AttributeError(f"module 'jepmon' has no attribute {name!r}")
+        raise AttributeError("module 'jepmon' has no attribute {!r}".format(name))
     import importlib
 
-    found: object = getattr(importlib.import_module(f"jepmon.{_MODULES[name]}"), name)
+    found = getattr(importlib.import_module("jepmon." + _MODULES[name]), name)  # type: object
     globals()[name] = found
     return found
-
-
-def __dir__() -> "list[str]":
-    return sorted([*globals(), *_MODULES])
