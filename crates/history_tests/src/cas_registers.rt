@@ -1,7 +1,6 @@
 //! Histories of registers with compare and set that are judged by their ends, event by event.
-use crate::registers::Row;
 use crate::registers::Said::{Nil, One, Two};
-use crate::registers::part_of;
+use crate::registers::{Row, part_of};
 use events::EventKind::{Fail as Failed, Info as Crashed, Invoke, Ok as Done};
 use judging::Step::{Alive, Dead, Over};
 use models::Name::{Cas, Read, Write};

@@ -139,10 +139,7 @@ const NEVER_ENQUEUED: [Row; 2] = [
     (0, Done, Dequeue, One(5), Dead),
 ];
 
-const NO_READS: [Row; 2] = [
-    (0, Invoke, Read, Nil, Alive),
-    (0, Done, Read, One(5), Dead),
-];
+const NO_READS: [Row; 2] = [(0, Invoke, Read, Nil, Alive), (0, Done, Read, One(5), Dead)];
 
 #[test]
 fn wide_queue_answers(rt: HostRuntime) -> Result<(), Fail> {
