@@ -75,7 +75,7 @@ one_more_made k events first second are invokes returns =
     ∙ sym (more_events k)
     ∙ sym (ap writes (add-one k))
 
--- the line is lent its events by them
+-- the line borrows its events from them
 lent_from : (all : List Event) (i k : ℕ) → ((j : ℕ) → slice_get all (2 * i + j) ≡ slice_get (writes k) j) → AreLentBy all (writes_from i k)
 lent_from all i zero same p d lt = absurd (omega arith)
 lent_from all i (suc k) same zero d lt = ap (slice_get all) (let here : 2 * i ≡ 2 * i + 0 = omega arith in here) ∙ same 0

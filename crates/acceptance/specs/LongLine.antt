@@ -17,7 +17,7 @@ write_by kind = record {
   body = Op (record { name = Write; key = 7; part = Int (pos 1) });
 }
 
--- so many writes, each of which returns, from this one on
+-- n writes, each of which returns, from this one on
 abbrev pub writes_from : ℕ → ℕ → List (ℕ × Event)
 writes_from i zero = []
 writes_from i (suc k) =

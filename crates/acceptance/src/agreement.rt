@@ -162,7 +162,7 @@ enum Form {
     AllOpen,
 }
 
-/// What a history has come to.
+/// The results of a history so far.
 #[derive(Clone, Copy, Default)]
 struct Seen {
     dead: bool,
@@ -248,7 +248,7 @@ impl Run {
         Ok(step)
     }
 
-    /// What the thread does next.
+    /// The next step of the thread.
     fn go_on(&mut self, numbers: &mut Numbers, thread: Thread) -> Result<Thread, Fail> {
         match thread.call {
             Some(call) => self.end(numbers, thread.process, call),
@@ -377,7 +377,7 @@ fn compare(
     Ok(tally.with(run.seen, is_open))
 }
 
-/// Compares so many histories of each of these kinds, of which so many must be legal.
+/// Compares `count` histories of each of these kinds; the number of a kind says how many must be legal.
 fn compare_all(
     alloc: Global,
     seed: u64,
@@ -420,8 +420,8 @@ fn orders_and_ends_agree(rt: HostRuntime) -> Result<(), Fail> {
     Ok(())
 }
 
-/// Of 120 more histories, 20 of each kind, each has eight operations that are open at once. So many are legal and the others
-/// are not. In 80 an operation has failed, in 89 one has crashed.
+/// 120 more histories, 20 of each kind, each have eight operations that are open at once. This number are legal and the others are not. In
+/// 80 an operation has failed, in 89 one has crashed.
 #[test]
 fn orders_and_ends_agree_on_eight_open(rt: HostRuntime) -> Result<(), Fail> {
     let kinds = [

@@ -1,4 +1,4 @@
-//! What frontiers answer where no command shows it: each event by its own call, a blown budget twice, and the counts of steps.
+//! Answers of frontiers that no command shows: each event by its own call, a key over budget twice, and the counts of steps.
 use crate::plain::part;
 use events::EventKind;
 use events::EventKind::{Fail as Failed, Invoke, Ok as Done};
@@ -58,7 +58,7 @@ fn over_changes_nothing(rt: HostRuntime) {
 }
 
 // How many steps a frontier of budget 5 has made before the last of these events and after it, and a copy of it then. None
-// where it answers otherwise.
+// if it answers otherwise.
 fn applied(
     alloc: Global,
     kind: ModelKind,
@@ -97,8 +97,8 @@ const TWO_ENQUEUES: [Row; 3] = [
     (0, Done, Enqueue, &[5], Alive),
 ];
 
-// The ok finds five ends: it tries both enqueues on the empty queue, the other one on each end with one, and none on the two
-// ends with both.
+// The ok finds five ends: it tries both enqueues on the empty queue, the second one on each end with the first, and none on the two ends
+// with both.
 #[test]
 fn ok_applies_each_once(rt: HostRuntime) {
     let steps = applied(rt.alloc(), ModelKind::FifoQueue, &TWO_ENQUEUES);
@@ -113,7 +113,7 @@ enum Call {
     Crash,
 }
 
-// What the call for this operation answers; an invocation and a crash leave the frontier alive.
+// The answer of the call for this operation; an invocation and a crash leave the frontier alive.
 fn answer(frontier: &mut Frontier<Register>, id: u32, call: &Call) -> Result<Step, AllocError> {
     match call {
         Call::Invoke(name, values) => frontier.invoke(id, op(*name, values))?,

@@ -32,7 +32,7 @@ fn least_index_of_the_gravest(rt: HostRuntime) {
     }
 }
 
-// One more status at a time: what is joined so far goes on.
+// One more status at a time: the joined status goes on.
 #[test]
 fn one_status_after_the_other(rt: HostRuntime) {
     let mut verdict = Legal;

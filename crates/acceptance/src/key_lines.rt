@@ -9,8 +9,8 @@ use linspec::KeyStatus;
 use models::{ModelKind, Name, Part};
 use std::alloc::{AllocError, Global};
 
-// A release of a mutex that nobody holds: what its crash, its fail and its ok bring, each prepared alone; and the status before
-// the commit and after it.
+// A release of a mutex that nobody holds: the effects of its crash, its fail and its ok, each prepared alone; and the status before the
+// commit and after it.
 fn of_a_release(alloc: Global) -> Result<[KeyStatus; 5], AllocError> {
     let mut line = KeyLine::new(alloc, ModelKind::Mutex, 4096)?;
     line.push(0, &event(0, EventKind::Invoke, Name::Release, Part::Nil))?;
@@ -22,8 +22,7 @@ fn of_a_release(alloc: Global) -> Result<[KeyStatus; 5], AllocError> {
     Ok([crashed, failed, returned, before, line.status()])
 }
 
-// A mutex that nobody holds is not released, while a release may crash or fail. What is prepared counts once it is
-// committed.
+// A mutex that nobody holds is not released, while a release may crash or fail. A prepared change counts once it is committed.
 #[test]
 fn prepared_events(rt: HostRuntime) {
     let dead = KeyStatus::Dead(1);
@@ -75,7 +74,7 @@ fn written(alloc: Global) -> Result<KeyLine, AllocError>
     Ok(line)
 }
 
-// The events of such a line alone, which are the history that it is lent.
+// The events of such a line alone, which are the history that it borrows from.
 fn writes_made(alloc: Global) -> Result<Vec<Event>, AllocError>
     ensures { IfOk result (λ made. made.items ≡ writes 65) }
 {
@@ -104,8 +103,8 @@ fn rewind_replays_few(rt: HostRuntime) {
     }
 }
 
-// The status of such a line; and how many replays there were of it, then of another kind, and then where a cut is prepared, with
-// those that it would add before the last.
+// The status of such a line; and the number of its replays, then of another kind, and then if a cut is prepared, with those that it would
+// add before the last.
 fn replays(alloc: Global) -> Result<(KeyStatus, [u64; 4]), AllocError> {
     let lent = writes_made(alloc)?;
     let mut line = written(alloc)?;
@@ -134,7 +133,7 @@ fn three_and_five(alloc: Global) -> Result<KeyLine, AllocError> {
     Ok(line)
 }
 
-// What is lost of an empty line, and begins below.
+// Whether an empty line loses events, and begins below.
 fn of_nothing(alloc: Global) -> Result<(bool, bool), AllocError> {
     let line = KeyLine::new(alloc, ModelKind::Register, 4096)?;
     Ok((line.loses(0), line.begins_below(9)))

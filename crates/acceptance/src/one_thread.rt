@@ -32,7 +32,7 @@ fn answer_of(answer: Result<Reply, Refusal>) -> Said {
     }
 }
 
-// What a command is answered by where it is prepared alone, and the verdict that its commit would bring.
+// The answer of a command that is only prepared, and the verdict that its commit would bring.
 fn prepared(core: &mut Core, command: Command) -> (Said, Option<Said>) {
     match core.prepare(command) {
         Ok((reply, verdict)) => (answer_of(Ok(reply)), Some(plain_of(verdict))),
@@ -73,8 +73,8 @@ fn commit_second_write(core: &mut Core) -> bool {
     }
 }
 
-// Whether what is prepared changes nothing until it is committed, and the next command takes its place; and the verdict on
-// what is committed.
+// Whether a prepared command changes nothing until it is committed, and the next command takes its place; and the verdict on the committed
+// one.
 fn prepares_and_commits(alloc: Global) -> Result<(bool, Verdict), Refusal> {
     let mut core = Core::new(alloc, Config::to_judge(alloc, 1, ModelKind::Register, 1))?;
     let goes = first_other(&mut core, &EARLY).is_none()

@@ -31,13 +31,13 @@ pub fn part(values: &[i64]) -> Part {
     }
 }
 
-/// What a call is answered by, as plain data.
+/// The answer of a call as plain data.
 #[derive(Clone, Copy, PartialEq, Eq)]
 pub enum Said {
     Legal,
     Illegal(u16, u32),
     Unknown(u16, u32),
-    // What is no verdict: a ticket, an outcome or a fault.
+    // An answer other than a verdict: a ticket, an outcome or a fault.
     Other,
     Refused(u8),
 }

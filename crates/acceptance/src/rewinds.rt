@@ -61,7 +61,7 @@ fn rewinds_judge_few_again(rt: HostRuntime) {
     }
 }
 
-// What was judged again for a rewind and another kind that are prepared and dropped, and for the rewind that follows.
+// The number of events judged again for a rewind and another kind that are prepared and dropped, and for the rewind that follows.
 fn dropped(alloc: Global) -> Result<(u64, u64, u64), Refusal> {
     let mut monitor = two_keys(alloc)?;
     monitor.prepare_rewind(131)?;

@@ -56,7 +56,7 @@ fn history_of(alloc: Global, rounds: u32) -> Result<History, Refusal> {
     Ok(history)
 }
 
-// How long a load by so many workers takes. None where it was refused.
+// The time of a load by this number of workers. None if it was refused.
 fn load<R: Threads + Clock + Sync>(
     rt: &R,
     alloc: Global,
@@ -81,8 +81,8 @@ fn load<R: Threads + Clock + Sync>(
     Some(length)
 }
 
-/// Prints how long it takes to load a history of ten keys, on each of which six clients write at once in each of so many
-/// rounds, by 1, 2 and 4 workers, in microseconds.
+/// Prints the time to load a history of ten keys, on each of which six clients write at once in each round, by 1, 2 and 4 workers, in
+/// microseconds.
 pub fn print_loads<R: Threads + Clock + Print + Sync>(
     rt: &R,
     alloc: Global,

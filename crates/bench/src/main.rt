@@ -26,11 +26,11 @@ bench workers ROUNDS: times loads of a history of so many rounds, of 120 events 
 // What was asked for.
 #[derive(Clone, Copy)]
 enum Wish {
-    // Glances and calls, each for so many milliseconds.
+    // Glances and calls, each for this number of milliseconds.
     Glances(u32),
-    // Trials of so many rounds.
+    // Trials of this number of rounds.
     Trials(u32),
-    // Loads of a history of so many rounds.
+    // Loads of a history of this number of rounds.
     Loads(u32),
 }
 

@@ -1,4 +1,4 @@
-//! What is timed: a monitor that many threads share.
+//! The timed object: a monitor that many threads share.
 use board::{Board, Seat, Tag};
 use harness::{Command, Core};
 use std::sync::{Mutex, Wait};

@@ -19,7 +19,7 @@ pub enum Calls {
 const OPEN: u32 = 6;
 
 impl Calls {
-    /// The command that comes after so many others.
+    /// The command after `after` others.
     pub fn command(self, after: u64) -> Command {
         match self {
             Calls::Verdicts => Command::Verdict,

@@ -8,7 +8,7 @@ use std::thread;
 use std::thread::{Threads, join};
 use std::time::{Duration, Instant};
 
-// A thread looks at the clock after so many glances.
+// A thread looks at the clock after this number of glances.
 const BATCH: u64 = 100;
 
 // How often a thread that reads looks for the first call.
@@ -22,7 +22,7 @@ pub struct Count {
 }
 
 impl Count {
-    /// The mean time of a round in tenths of a nanosecond; 0 where there was none.
+    /// The mean time of a round in tenths of a nanosecond; 0 if there was none.
     pub fn tenths(self) -> u128 {
         let tenths = self.length.as_nanos().saturating_mul(10);
         tenths.checked_div(u128::from(self.rounds)).unwrap_or(0)
@@ -36,21 +36,21 @@ impl Count {
     }
 }
 
-/// What one run did, all readers together.
+/// The counts of one run, all readers together.
 #[derive(Clone, Copy)]
 pub struct Done {
     pub glances: Count,
     pub calls: Option<Count>,
 }
 
-// What the two sides of a run tell each other.
+// The messages between the two sides of a run.
 #[derive(Drop)]
 struct Meeting {
     calling: AtomicBool,
     over: AtomicBool,
 }
 
-// Whether so many glances were all answered.
+// Whether `rounds` glances were all answered.
 fn glance_often<M: Monitor, R: Wait>(rt: &R, monitor: &M, seat: &mut M::Seat, rounds: u64) -> bool {
     for _ in 0..rounds {
         if !monitor.glance(rt, seat) {
@@ -60,7 +60,7 @@ fn glance_often<M: Monitor, R: Wait>(rt: &R, monitor: &M, seat: &mut M::Seat, ro
     true
 }
 
-// Glances for so long; None where one was not answered.
+// Glances for so long; None if one was not answered.
 fn count_glances<M: Monitor, R: Wait + Clock>(
     rt: &R,
     monitor: &M,
@@ -83,7 +83,7 @@ fn count_glances<M: Monitor, R: Wait + Clock>(
     None
 }
 
-/// Calls for so long on one thread alone; None where a call was not answered.
+/// Calls for so long on one thread alone; None if a call was not answered.
 pub fn count_calls<M: Monitor, R: Wait + Clock>(
     rt: &R,
     monitor: &M,

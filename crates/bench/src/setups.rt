@@ -43,7 +43,7 @@ fn run_on<B: Tag + Send + Sync, R: Threads + Wait + Clock + Sync>(
     done
 }
 
-/// Calls alone, by one seat of a board that has so many.
+/// Calls alone, by one seat of a board with this number of seats.
 pub fn calls_on_board<R: Wait + Clock>(
     rt: &R,
     alloc: Global,

@@ -17,7 +17,7 @@ const THREADS: usize = 8;
 // How many keys clients go on with.
 const KEYS: u16 = 64;
 
-// An operation of each of so many keys, in turn.
+// An operation of each of `keys` keys, in turn.
 fn on_each(alloc: Global, keys: u16, name: Name, part: Part) -> Result<Gen, AllocError> {
     let mut items = Vec::new(alloc);
     for key in 0..keys {
@@ -27,7 +27,7 @@ fn on_each(alloc: Global, keys: u16, name: Name, part: Part) -> Result<Gen, Allo
     Ok(Gen::Ops(Cycle::new(items)))
 }
 
-// A write of each of so many keys first; then reads and writes of 64 keys, at random.
+// A write of each of `touched` keys first; then reads and writes of 64 keys, at random.
 fn generator(alloc: Global, touched: u16) -> Result<Gen, AllocError> {
     let first = on_each(alloc, touched, Name::Write, Part::Int(1))?;
     let first = Gen::Limit(u64::from(touched), Box::new(alloc, first)?);
@@ -55,7 +55,7 @@ fn opened(alloc: Global, replicas: u8, touched: u16) -> Result<Core, Refusal> {
 
 type Tickets = [u32; THREADS];
 
-// Each thread draws; None where one was given nothing.
+// Each thread draws; None if one was given nothing.
 fn draw_all(core: &mut Core) -> Option<Tickets> {
     let mut tickets = [0; THREADS];
     for thread in 0..THREADS {
@@ -118,7 +118,7 @@ impl Spent {
         }
     }
 
-    // The mean of a command, of which each round has one a thread.
+    // The mean of a command; each round has one command a thread.
     fn mean(self, length: Duration) -> Mean {
         Mean(Count {
             rounds: self.rounds.saturating_mul(THREADS as u64),
@@ -146,7 +146,7 @@ fn round<R: Clock>(rt: &R, core: &mut Core) -> Option<Spent> {
     })
 }
 
-// So many rounds; None where a command was not answered.
+// So many rounds; None if a command was not answered.
 fn rounds<R: Clock>(rt: &R, core: &mut Core, many: u32) -> Option<Spent> {
     let mut spent = NOTHING;
     for _ in 0..many {
@@ -155,7 +155,7 @@ fn rounds<R: Clock>(rt: &R, core: &mut Core, many: u32) -> Option<Spent> {
     Some(spent)
 }
 
-// Rounds on a core of so many replicas, after each of so many keys was written.
+// Rounds on a core of `replicas` replicas, after each of `touched` keys was written.
 fn trial<R: Clock>(rt: &R, alloc: Global, replicas: u8, touched: u16, many: u32) -> Option<Spent> {
     let mut core = opened(alloc, replicas, touched).ok()?;
     let before = u32::from(touched) / THREADS as u32 + 1;
@@ -163,8 +163,8 @@ fn trial<R: Clock>(rt: &R, alloc: Global, replicas: u8, touched: u16, many: u32)
     rounds(rt, &mut core, many)
 }
 
-/// Prints the mean times of draws, serves and completions, for stores of 3 and 7 replicas on which 1, 64 and 4,096 keys were
-/// written before; each over so many rounds of 8 threads.
+/// Prints the mean times of draws, serves and completions, for stores of 3 and 7 replicas on which 1, 64 and 4,096 keys were written
+/// before; each over `many` rounds of 8 threads.
 pub fn print_trials<R: Clock + Print>(rt: &R, alloc: Global, many: u32) -> io::Result<()> {
     for replicas in [3u8, 7] {
         for touched in [1u16, 64, 4096] {

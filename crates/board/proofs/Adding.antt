@@ -1,4 +1,4 @@
--- A legal tape goes on by what the object does.
+-- A legal tape goes on by a step of the object.
 use Rattle.std.proofs.Common.{◌≡◌, ℕ, List, [], ◌∷◌, ◌++◌, ◌+◌, length, refl, sym, ap, ◌∙◌, subst, length-append}
 use Rattle.board.specs.declared.tape.TapeEntry.{TapeEntry}
 use Rattle.board.specs.declared.tape.TapeEntry.TheVariants.{Opening, Call}

@@ -1,4 +1,4 @@
--- What a call leaves its seat with
+-- The seat after a call.
 use Rattle.std.proofs.Common.{◌≡◌, ℕ, ◌++◌, List, sym, subst, ap, ◌∙◌, append_assoc, Result, Ok, Err, IfOk, IfErr}
 use mathlib.Core.List.{IsPrefix}
 use Rattle.edn.specs.declared.refusal.Refusal.{Refusal}
@@ -8,7 +8,7 @@ use Rattle.board.specs.declared.seat.SeatView.{SeatView}
 use Rattle.board.specs.Tape.{IsAnswered, IsRefused}
 use Rattle.board.proofs.Prefixes.{prefix_self}
 
--- what begins a list begins the longer ones
+-- a prefix of a list is one of the longer lists
 prefix_on : {A : Type 0} (xs ys more : List A) → IsPrefix xs ys → IsPrefix xs (ys ++ more)
 prefix_on xs ys more p = (p.0 ++ more, sym (append_assoc xs p.0 more) ∙ ap (λ w. w ++ more) p.1)
 

@@ -1,4 +1,4 @@
--- What a legal tape says of its last reply
+-- The verdict in the last reply of a legal tape.
 use Rattle.std.proofs.Common.{◌≡◌, ℕ, List, [], ◌∷◌, ◌++◌, ◌≢◌, ap, refl, Option, Some, None, IsSome, IfSome, Result, Ok, Err, IfOk, IfErr, OnOk, OnErr, sym, subst}
 use Rattle.edn.specs.declared.refusal.Refusal.{Refusal}
 use Rattle.edn.specs.declared.refusal.Refusal.TheVariants.{TapeFull, NoMemory}
@@ -58,7 +58,7 @@ pub asks_same : (m : Machine) (r : Reply) (end : Machine) → MayStep m Ask (Ok 
 asks_same m (Says v) end step = step.0
 asks_same m r end step = absurd step
 
--- after a call that is an entry, what its reply says of the verdict is the one from scratch at the end of the tape
+-- after a call that is an entry, the verdict in its reply is the one from scratch at the end of the tape
 pub truth : {A : Type 0} (result : Result A Refusal) (reply : A → CoreReply) (commit : A → ℕ) (news : A → CoreTape)
     (old new : SeatView Machine Command CoreReply) (command : Command)
     → IfOk result (λ a. IsAnswered MayStep old new command (reply a) (commit a) (news a))
@@ -101,7 +101,7 @@ refused_ready old m next command why (Ok r) same may entry ready = (
 )
 refused_ready old m next command why (Err e) same may entry ready = tt
 
--- what is carried out is what was prepared
+-- the prepared change is carried out
 pub brought : (was : Option Machine) (now : CoreView) → IsSome was → IfSome was (λ next. now ≡ at_rest next) → was ≡ Some now.machine
 brought (Some m) now is eq = ap (λ (s : CoreView). Some s.machine) (sym eq)
 brought None now is eq = absurd (cc is)

@@ -1,4 +1,4 @@
--- The board of the one-thread object may be shared by threads, and its seats may go to them, whatever its tag.
+-- Threads may share the board of the one-thread object, and get its seats, whatever its tag.
 use denote.RattleType.{RattleType}
 use mir.Syntax.{Dict}
 use denote.Param.Send.{IsSend, IsSync}
@@ -29,7 +29,7 @@ abbrev pub answer : RattleType
 answer = result.the_row reply.the_row refusal.the_row
 
 module _ (B : RattleType) (w : tag.Ghosts B.Denot) (l : ledger.Ghosts B.Denot) where
-  -- what the board publishes
+  -- the type that the board publishes
   abbrev pub page : RattleType
   page = published.the_row core.the_row B state.the_row command.the_row answer verdict.the_row one.ghosts w l
 

@@ -1,4 +1,4 @@
--- What is taken from the copy is what was published
+-- The tape that is taken from the copy is the published one.
 use Rattle.std.proofs.Common.{◌≡◌, Option, Some, None, ◌∙◌, MatchOption}
 
 pub taken : {A B : Type 0} (writer : Option A) (held : A → B) (published found : B) → MatchOption writer ⊥ (λ w. held w ≡ published)

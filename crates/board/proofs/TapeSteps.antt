@@ -158,7 +158,7 @@ module _ {E : Type 0} where
     here (inl (inr last)) true is some = subst (IsHome cs) (sym last.1) named
     here (inr none) true is some = absurd (cc (same_tape x l.tape (sym (tape_same l x.tape is)), (put_none (x.tape == l.tape) x.entry (tape_of l.tape log) none).0))
 
-  -- what is between two logs with one tape has that tape
+  -- an entry between two logs with one tape has that tape
   alone : (cs : List Cell) (t v log : List (BookLine E)) (tape next : ℕ) → AreHome cs log → IsPrefix t v → IsPrefix v log → Last tape next t → (cell cs next).1 ≡ false
       → (length (tape_of tape v) ≡ length (tape_of tape t)) × (tape_of tape log ≡ tape_of tape v) × IsHome cs tape
   alone cs t v log tape next h p q ends gone =
@@ -179,7 +179,7 @@ module _ {E : Type 0} where
 
 -- steps
 
--- cells once the pen's word was brought home beside a step on another word
+-- cells once the pen's word was brought home by a step on another word
 given : (f : ℕ → ℕ) (cs : List Cell) (key : ℕ) (p : Nib) → p.key < length cs
     → ((j : ℕ) → IsHome cs j → IsHome (slice_set (slice_set cs key (f (cell cs key).0, true)) p.key (p.value, true)) j) × IsHome (slice_set (slice_set cs key (f (cell cs key).0, true)) p.key (p.value, true)) p.key
 given f cs key p in_it = (
@@ -282,7 +282,7 @@ module _ {E : Type 0} (f : ℕ → ℕ) where
         ),
       )
 
--- what the steps of the tape's holder tell
+-- the effects of the steps of the tape's holder
 module _ {E : Type 0} where
   -- the word of a tape that was seen to end somewhere stays at home
   pub stays : (tape next : ℕ) (t : List (BookLine E)) → next_of tape t ≡ Some next → StaysHome t tape

@@ -29,7 +29,7 @@ LeadsTo tape end = Leads MayStep tape end
 abbrev pub opening_tape : Machine → CoreTape
 opening_tape m = Opening m ∷ []
 
--- the verdict is the one from scratch, on what this machine judges
+-- the verdict is the one from scratch, on the history that this machine judges
 abbrev pub IsVerdictOf : Machine → Verdict → Type 0
 IsVerdictOf m verdict = IsVerdictOn m.judged verdict
 
@@ -37,7 +37,7 @@ IsVerdictOf m verdict = IsVerdictOn m.judged verdict
 abbrev pub IsVerdictAfter : CoreTape → Verdict → Type 0
 IsVerdictAfter tape verdict = IsSummaryAfter MayStep IsVerdictOf tape verdict
 
--- what the reply says of the verdict is the one from scratch. Some replies say nothing of it
+-- the verdict in the reply is the one from scratch. Some replies have none
 abbrev pub IsTrueOn : Machine → CoreReply → Type 0
 IsTrueOn m (Ok (Says verdict)) = IsVerdictOf m verdict
 IsTrueOn m reply = Unit {0}

@@ -1,4 +1,4 @@
--- Promise: what a legal tape is, and what calls through a seat and the end of a board leave (this project's own)
+-- Promise: legal tapes, and the results of calls through a seat and of the end of a board (this project's own)
 use Rattle.std.specs.Prelude.{◌≡◌, ℕ, ◌^◌, ◌+◌, ◌<◌, List, [], ◌∷◌, ◌++◌, length}
 use Rattle.std.specs.List.{All, sum_by}
 use mathlib.Core.List.{IsPrefix}
@@ -47,8 +47,8 @@ pub record IsAnswered {S C R : Type 0} (replies : S → C → R → S → Type 0
   pub count : new.count ≡ old.count + 1
   pub told : news ≡ new.tape
 
--- why a call is no entry of the tape: it is full, and the seat has then seen it; or it is not full, the command may want
--- memory after it, and the seat has seen what it had
+-- why a call adds no entry to the tape. The tape may be full, and then the seat has seen it. Else the command may run out of memory after
+-- it, and the seat has seen the same as before
 abbrev pub IsNoEntry : {S C R : Type 0} → (S → C → R → S → Type 0) → (S → C → Type 0) → Refusal
     → List (TapeEntry S C R) → C → List (TapeEntry S C R) → List (TapeEntry S C R) → Type 0
 IsNoEntry replies may_want TapeFull whole command before after = (length whole ≡ 2 ^ 32) × (after ≡ whole)
@@ -56,7 +56,7 @@ IsNoEntry {S} replies may_want NoMemory whole command before after =
     (length whole < 2 ^ 32) × ((end : S) × Leads replies whole end × may_want end command) × (after ≡ before)
 IsNoEntry replies may_want _ whole command before after = ⊥
 
--- a call that is no entry of this tape, which is legal and begins with all that the seat had seen
+-- a call that adds no entry to this tape, which is legal and begins with everything that the seat had seen
 pub record IsRefused {S C R : Type 0} (replies : S → C → R → S → Type 0) (may_want : S → C → Type 0)
     (whole : List (TapeEntry S C R)) (old new : SeatView S C R) (command : C) (why : Refusal) : Type 0 where
   pub legal : IsLegalTape replies whole
@@ -66,7 +66,7 @@ pub record IsRefused {S C R : Type 0} (replies : S → C → R → S → Type 0)
 
 -- The end
 
--- the tape begins with the opening and with all that these seats had seen. Where they are all, it has just their calls
+-- the tape begins with the opening and with all that these seats had seen. If they are all, it has just their calls
 pub record IsTapeOf {S C R : Type 0} (opening : List (TapeEntry S C R)) (seats : List (SeatView S C R)) (all : ℕ)
     (tape : List (TapeEntry S C R)) : Type 0 where
   pub opens : IsPrefix opening tape

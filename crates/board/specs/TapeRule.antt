@@ -1,4 +1,4 @@
--- Invariant: the rule of the book, and what its steps tell. A book may hold many tapes, each under the key of its word
+-- Invariant: the rule of the book, and the effects of its steps. A book may hold many tapes, each under the key of its word
 use Rattle.std.specs.Prelude.{ℕ, ◌≡◌, ◌≢◌, ◌==◌, ◌+◌, Bool, true, false, Option, Some, None, List, [], ◌∷◌, ◌++◌, length}
 use mathlib.Core.List.{IsPrefix}
 use Rattle.logbook.specs.Pages.{Cell, cell, Step, View, nib, may_make}
@@ -40,7 +40,7 @@ abbrev pub AreHome : {E : Type 0} → List Cell → List (BookLine E) → Type 0
 AreHome cells [] = Unit {0}
 AreHome cells (l ∷ ls) = IsHome cells l.tape × (tape_of l.tape ls ≢ [] → IsHome cells l.next) × AreHome cells ls
 
--- the first word, by which tapes begin, stays at home
+-- the first word, with which tapes begin, stays at home
 pub record IsKept {E : Type 0} (cells : List Cell) (log : List (BookLine E)) : Type 0 where
   pub first : IsHome cells 0
   pub lines : AreHome cells log

@@ -24,8 +24,8 @@ use std::mem::ManuallyDrop;
 use std::sync::ledger::Share;
 use std::sync::{Mutex, ledger};
 
-/// A board before it has a name: the object, a tape without calls that opens on its state, with the right to go on, and a
-/// ledger with a share for each seat. Beside the object it takes no memory before `open`, and may be let go.
+/// A board before it has a name: the object, a tape without calls that opens on its state, and a ledger with a share for each seat. In
+/// addition to the object it takes no memory before `open`, and may be dropped.
 #[derive(Drop)]
 pub struct Blank<X: OneThread> {
     pub object: X,

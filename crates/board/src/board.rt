@@ -13,9 +13,8 @@ use edn::{Gate, Refusal};
 use std::marker::Model;
 use std::sync::{Mutex, MutexGuard, Wait};
 
-/// Any object's board: the lock round the object, and the word of the tape, which no lock guards. A call takes the lock. It
-/// costs what the object's `prepare` costs, two atomic steps on the word, and a publication from under the lock. It is
-/// linear: `end` takes it apart. Contracts see it as its opening, the tape without calls.
+/// Any object's board: the lock round the object, and the word of the tape, which no lock guards. A call takes the lock. It costs what the
+/// object's `prepare` costs, two atomic steps, and a publication. It is linear: `end` takes it apart. Contracts see it as its opening.
 pub struct Board<
     X: OneThread,
     B: Tag,
@@ -60,8 +59,7 @@ impl<X: OneThread, B: Tag, T: HoldsPublished<Published<X, B>>> Board<X, B, T> {
 }
 
 impl<X: OneThread, B: Tag> Board<X, B> {
-    // The object, where its tape begins with the opening and with all that these seats had seen, and has just their calls,
-    // where they are all.
+    // The object. Its tape begins with the opening and all that these seats had seen; if they are all, it has just their calls.
     pub(crate) fn finish<R: Wait>(self, rt: &R, seats: Vec<Seat<X, B>>) -> X
         ensures { (tape : List (TapeEntry X.State X.Command X.Reply))
             × Leads X.replies tape (X.state result) × IsTapeOf self seats.items B.parts tape }

@@ -27,18 +27,18 @@ pub type Blank = blank::Blank<Core>;
 /// It is linear: `end` takes it apart. The tag `B` names it.
 pub type Board<B> = board::Board<Core, B>;
 
-/// Who calls: its number, how many of its calls were answered, and the tape that it has seen. Contracts see these three.
-/// The tag `B` keeps it with its board.
+/// The caller: its number, how many of its calls were answered, and the tape that it has seen. Contracts see these three. The tag `B` keeps
+/// it with its board.
 pub type Seat<B> = seat::Seat<Core, B>;
 
-/// What a seat had seen, to be told to another seat of the same board by `learn`. It takes no memory.
+/// The tape that a seat had seen, for another seat of the same board (`learn`). It takes no memory.
 pub type News<B> = seat::News<Core, B>;
 
-/// What a call answers: the `reply`, which may be a refusal, the number of its entry from 1, and what the seat had then
-/// seen, as news for others.
+/// The answer of a call: the `reply`, which may be a refusal, the number of its entry from 1, and the tape that the seat had then seen, as
+/// news for others.
 pub type Answered<B> = seat::Answered<Core, B>;
 
-/// What a glance shows: how many calls had been made, and the verdict after them.
+/// The result of a glance: how many calls had been made, and the verdict after them.
 #[derive(Clone, Copy)]
 pub struct Glance {
     /// How many calls had been made.
@@ -48,10 +48,10 @@ pub struct Glance {
 }
 
 impl blank::Blank<Core> {
-    /// The parts of a board for so many seats, 1 to 64, that opens as configured. It costs what [`Core::new`] costs.
+    /// The parts of a board for `seats` seats, 1 to 64, that opens as configured. It costs what [`Core::new`] costs.
     ///
     /// # Errors
-    /// Those of [`Core::new`], else [`Refusal::NoSeat`] where the seats are not 1 to 64.
+    /// Those of [`Core::new`], else [`Refusal::NoSeat`] if the seats are not 1 to 64.
     #[tactic(auto, using(crate::proofs::Refusing::not_begin))]
     pub fn new(alloc: Global, config: Config, seats: u32) -> Result<Blank, Refusal>
         ensures limits { OnOk result (IsSetup (setup_of config)) }
@@ -66,13 +66,11 @@ impl blank::Blank<Core> {
         Ok(blank::Blank::of(alloc, core, seats))
     }
 
-    /// The board that the tag names, and its seats, numbered from 0, which have seen the tape without calls. Call it in a
-    /// function generic over the tag, and that one with std's `Brand`. It takes the time of the seats, and memory for them
-    /// and for the published copies.
+    /// The board that the tag names, and its seats, numbered from 0, which have seen the tape without calls. Call it in a function generic
+    /// over the tag, and that one with std's `Brand`. Costs O(seats), and memory for the seats and for the published copies.
     ///
     /// # Errors
-    /// [`Refusal::NoMemory`] where a growth was refused, [`Refusal::NoSeat`] where the published copy gave a seat no place
-    /// to read from; what the copies took stays taken then.
+    /// [`Refusal::NoMemory`] if an allocation fails, [`Refusal::NoSeat`] if the published copy gives a seat no place to read from.
     pub fn open<B: Tag>(self) -> Result<(Board<B>, Vec<Seat<B>>), Refusal>
         requires names { (self.word ≡ B.word) × (self.ledger.name ≡ B.name)
             × (self.ledger.parts ≡ B.parts) }
@@ -87,15 +85,13 @@ impl blank::Blank<Core> {
 }
 
 impl<B: Tag> board::Board<Core, B> {
-    /// Carries out a command under the lock, as one entry of the tape, and publishes it. A refused command is still an
-    /// entry, with the refusal as its reply. A verdict in the reply is the one from scratch on the history that the tape's
-    /// commands make. It waits for other calls, and for glances that are inside the copy which it writes. It costs what
-    /// [`Core::step`] costs, and each publication visits the reader's place of every seat.
+    /// Carries out a command under the lock, as one entry of the tape, and publishes it. A refused command is an entry too, with the
+    /// refusal as its reply. A verdict is the one from scratch on the history of the tape's commands. It waits for other calls, and for
+    /// glances inside the copy that it writes. It costs what [`Core::step`] costs, and a visit to every seat's place.
     ///
     /// # Errors
-    /// [`Refusal::TapeFull`] where the tape has 2^32 - 1 calls, all of which the seat has then seen, else
-    /// [`Refusal::NoMemory`] where a growth was refused, which the verdict and a command that is refused never want. Then
-    /// the call is no entry, and nothing is published.
+    /// [`Refusal::TapeFull`] if the tape has 2^32 - 1 calls, all of which the seat has then seen, else [`Refusal::NoMemory`] if a growth
+    /// was refused, which the verdict and a command that is refused never want. Then the call adds no entry, and nothing is published.
     pub fn call<R: Wait>(
         &self,
         rt: &R,
@@ -109,7 +105,7 @@ impl<B: Tag> board::Board<Core, B> {
         ensures from_scratch { IfOk result (λ a. IsTrueAfter seat.new.tape a.reply) }
         ensures refused { IfErr result (λ why. (whole : CoreTape)
             × IsRefused MayStep MayWantMemory whole seat.old seat.new command why) }
-        // To ask for the verdict wants no memory.
+        // To ask for the verdict needs no memory.
         ensures asked { command ≡ Command.Verdict → IfErr result (λ why. why ≡ Refusal.TapeFull) }
     {
         self.call_with_gate(rt, seat, command, &OpenGate)
@@ -134,15 +130,15 @@ impl<B: Tag> board::Board<Core, B> {
         ensures from_scratch { IfOk result (λ a. IsTrueAfter seat.new.tape a.reply) }
         ensures refused { IfErr result (λ why. (whole : CoreTape)
             × IsRefused MayStep MayWantMemory whole seat.old seat.new command why) }
-        // To ask for the verdict wants no memory.
+        // To ask for the verdict needs no memory.
         ensures asked { command ≡ Command.Verdict → IfErr result (λ why. why ≡ Refusal.TapeFull) }
     {
         self.carry_out(rt, gate, seat, command)
     }
 
-    /// Looks at what was last published, and shows the newest verdict that the seat has then seen: that of a tape which begins
-    /// with all that it had seen. It is never `None`. It takes no lock, no memory, and a few atomic steps. The price: while a
-    /// thread is stopped in the midst of a glance, the next call that publishes waits for it, and all others with that call.
+    /// Shows the newest published verdict that the seat has then seen: that of a tape which begins with all that it had seen. It is never
+    /// `None`. It takes no lock, no memory, and a few atomic steps. The price: while a thread is stopped in the midst of a glance, the next
+    /// call that publishes waits for it, and all others with that call.
     pub fn glance(&self, seat: &mut Seat<B>) -> Option<Glance>
         ensures same { (seat.new.number ≡ seat.old.number) × (seat.new.count ≡ seat.old.count) }
         ensures shows { IsSome result }
@@ -157,9 +153,8 @@ impl<B: Tag> board::Board<Core, B> {
         })
     }
 
-    /// The core, in the state after a legal tape that begins with all that these seats had seen. Where they are all seats
-    /// of the board, the tape has just their calls. It waits for glances that are still inside the published copy. It takes
-    /// the time of the seats, and no memory.
+    /// The core, in the state after a legal tape that begins with all that these seats had seen. If they are all seats of the board, the
+    /// tape has just their calls. It waits for glances that are still inside the published copy. Costs O(seats), and no memory.
     pub fn end<R: Wait>(self, rt: &R, seats: Vec<Seat<B>>) -> Core
         ensures { (tape : CoreTape) × LeadsTo tape result.machine
             × IsTapeOf self seats.items B.parts tape }

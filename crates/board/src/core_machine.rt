@@ -69,7 +69,7 @@ impl OneThread for Core {
     }
 }
 
-// A refused command is still an entry, which changes nothing. Want of memory makes none.
+// A refused command is still an entry, which changes nothing. A command that runs out of memory makes none.
 fn refuse(core: &mut Core, why: Refusal) -> Result<(Result<Reply, Refusal>, Verdict), AllocError>
     ensures same { core.new.machine ≡ core.old.machine }
     ensures entry { OnOk result (why ≢ NoMemory) }

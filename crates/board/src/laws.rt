@@ -11,9 +11,8 @@ ghost use Rattle.board.specs.CoreTape.{CoreTape, LeadsTo, opening_tape, calls_on
 
 use machine::no_false_alarm;
 
-/// No false alarm: where a tape opens on a strict store and its calls are of trials alone, refused ones among them, the
-/// history of the machine that it leads to is linearizable over all keys together. It is said of the tapes that the clauses
-/// of `call`, `glance` and `end` of a board speak of; no call cites it.
+/// No false alarm: if a tape opens on a strict store and has calls of trials alone, refused ones among them, its history is linearizable
+/// over all keys together. It holds for the tapes in the clauses of `call`, `glance` and `end` of a board; no call cites it.
 pub fn no_false_alarm_on_a_tape()
     ensures { (setup : Setup) (tape : CoreTape) (m : Machine) → setup.mode ≡ Strict
         → IsCount setup.replicas → IsPrefix (opening_tape (opening setup)) tape

@@ -1,10 +1,10 @@
 //! One monitor that many threads share: a lock round the one-thread object, one tape of its calls, glances that take no lock.
 //!
-//! Under the lock a call goes four steps: it is prepared, which alone may want memory; entered on the tape; carried out; and
-//! published. What is published stands in two copies, of which readers have one while the writer fills the other, so a glance waits
-//! for nobody. A seat keeps the newest publication that it has seen, and with it knows how the tape begins.
+//! Under the lock a call takes four steps: it is prepared, which alone may allocate; entered on the tape; carried out; and published. There
+//! are two copies of a publication: readers have one while the writer fills the other, so a glance does not block. A seat keeps the newest
+//! publication that it has seen, and with it knows how the tape begins.
 //!
-//! A call takes memory only where its result can be `AllocError`, or a refusal for want of memory.
+//! A call allocates only if its result can be `AllocError`, or a refusal because memory ran out.
 #![tactic(auto)]
 
 mod blank;

@@ -1,4 +1,4 @@
-//! What the lock holds.
+//! The content of the lock.
 ghost use Rattle.std.specs.Prelude.{◌≡◌, ◌+◌, ◌++◌, ◌∷◌, [], List, length, Some, None, IsSome, IfOk, IfErr, OnOk, MatchOption};
 ghost use Rattle.std.specs.List.{All, sum_by};
 ghost use mathlib.Core.List.{IsPrefix};
@@ -25,11 +25,11 @@ const MOST_ENTRIES: u64 = (1 << 32) - 1;
 pub struct Locked<X: OneThread, B: Tag, T: HoldsPublished<Published<X, B>>> {
     pub(crate) object: X,
     pub(crate) tape: WholeTape<X, B>,
-    // The two copies of what is published. None while a call publishes.
+    // The two copies of the publication. None while a call publishes.
     pub(crate) writer: Option<Writer<T, (), (), Unruled>>,
-    // How many calls there were: a ledger, of which each seat has the share that it made. For proofs alone.
+    // The number of calls: a ledger in which each seat has the share that it made. For proofs alone.
     pub(crate) calls: Book<B>,
-    // What no seat has of that ledger: nothing. Seats' shares are added to it as the board ends.
+    // The rest of that ledger, which no seat has: nothing. Seats' shares are added to it as the board ends.
     pub(crate) rest: Share<B>,
 }
 
@@ -47,7 +47,7 @@ impl<X: OneThread, B: Tag, T: HoldsPublished<Published<X, B>>> Model for Locked<
         × MatchOption d.writer ⊥ (λ w. T.holds w.desk.shown.value ≡ d.tape) };
 }
 
-// Puts a new value in the place of none. Its type has no `Drop`, so an assignment, which would drop the value before, can't be written.
+// Puts a new value in the place of none. Its type has no `Drop`, so an assignment can't be written.
 fn put<D>(place: &mut Option<D>, new: D)
     requires { place.old ≡ None }
     ensures { place.new ≡ Some new }
@@ -58,8 +58,7 @@ fn put<D>(place: &mut Option<D>, new: D)
     }
 }
 
-// Readers see this from now on. It waits for those that still read the copy that was shown before the last, takes no memory
-// and cannot fail.
+// Shows this to readers from now on. It waits for readers of the copy before the last, takes no memory and cannot fail.
 fn publish<P: Drop, T: HoldsPublished<P>, R: Wait>(
     rt: &R,
     writer: &mut Option<Writer<T, (), (), Unruled>>,
@@ -87,9 +86,9 @@ fn published_by<P: Drop, T: HoldsPublished<P>>(writer: &Option<Writer<T, (), (),
 }
 
 impl<X: OneThread, B: Tag, T: HoldsPublished<Published<X, B>>> Locked<X, B, T> {
-    /// Carries out a command of the seat, in four steps: it is prepared, entered on the tape, carried out and published. The word
-    /// of the board that counts the calls (`tape_length`) goes on with the tape. What the seat has then seen is what readers see;
-    /// where the command is refused for want of memory it has seen what it had seen before.
+    /// Carries out a command of the seat, in four steps: it is prepared, entered on the tape, carried out and published. The word of the
+    /// board that counts the calls (`tape_length`) goes on with the tape. The seat has then seen what readers see. If the command is
+    /// refused because memory ran out, it has seen the same as before.
     pub(crate) fn call<G: Gate, R: Wait>(
         &mut self,
         rt: &R,
@@ -142,8 +141,7 @@ impl<X: OneThread, B: Tag, T: HoldsPublished<Published<X, B>>> Locked<X, B, T> {
     }
 }
 
-// Takes the seats back, as the board ends. What it does is for its clauses alone: the tape begins with what each seat has seen, and
-// the seats' calls are all there were.
+// Takes the seats back, as the board ends: the tape begins with everything that they have seen, and has just their calls.
 pub(crate) fn gather<X: OneThread, B: Tag, T: HoldsPublished<Published<X, B>>>(
     tape_length: &TapeLength<X, B>,
     object: &X,

@@ -8,13 +8,13 @@ pub trait OneThread: Drop {
     /// The state of the machine. No value of it is made.
     type State;
 
-    /// What it is told.
+    /// Its commands.
     type Command: Drop;
 
-    /// What it says. A refusal may be a reply.
+    /// Its replies. A refusal may be a reply.
     type Reply: Drop;
 
-    /// What readers are shown of a state.
+    /// The summary of a state that readers see.
     type Summary: Copy;
 
     ghost state: { Self → Self.State };
@@ -25,13 +25,13 @@ pub trait OneThread: Drop {
     // Readers may be shown this in that state.
     ghost summarizes: { Self.State → Self.Summary → Type 0 };
 
-    // In that state the command may want memory.
+    // In that state the command may run out of memory.
     ghost may_want: { Self.State → Self.Command → Type 0 };
 
-    // The state that `commit` will bring, where a command is prepared.
+    // The state that `commit` will bring, if a command is prepared.
     ghost promised: { Self → Option Self.State };
 
-    /// What readers may be shown now.
+    /// The present summary for readers.
     fn summary(&self) -> Self::Summary
         ensures { summarizes (state self.now) result };
 

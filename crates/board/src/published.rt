@@ -1,4 +1,4 @@
-//! What is published, and the copy of it that readers take.
+//! The publication, and the copy of it that readers take.
 ghost use Rattle.std.specs.Prelude.{◌≡◌, ◌+◌, length};
 ghost use mathlib.Core.List.{IsPrefix};
 ghost use Rattle.board.specs.Tape.{IsSummaryAfter};
@@ -10,7 +10,7 @@ use left_right::Absorb;
 use std::alloc::AllocError;
 use std::marker::Model;
 
-/// What is published: a tape, and the summary of the state that it leads to. Contracts see it as its entries.
+/// A publication: a tape, and the summary of the state that it leads to. Contracts see it as its entries.
 #[derive(Drop)]
 pub struct Published<X: OneThread, B: Tag> {
     summary: X::Summary,
@@ -29,7 +29,7 @@ impl<X: OneThread, B: Tag> Model for Published<X, B> {
     ghost invariant = { λ p. IsSummaryAfter X.replies X.summarizes p.tape p.summary };
 }
 
-/// What is shown of a publication: the number of its calls, and the summary of the state after them.
+/// The visible part of a publication: the number of its calls, and the summary of the state after them.
 #[derive(Drop)]
 pub struct Shown<S> {
     pub call_count: u64,
@@ -55,7 +55,7 @@ impl<X: OneThread, B: Tag> Published<X, B> {
         }
     }
 
-    /// What it shows.
+    /// Its visible part.
     pub fn show(&self) -> Shown<X::Summary>
         ensures call_count { length self.now ≡ result.call_count + 1 }
         ensures shown { IsSummaryAfter X.replies X.summarizes self.now result.summary }
@@ -73,7 +73,7 @@ impl<X: OneThread, B: Tag> Published<X, B> {
         &self.tape
     }
 
-    /// Takes the other in its place, where that goes on with this one.
+    /// Takes the other in its place, if that goes on with this one.
     pub fn follow(&mut self, other: &Published<X, B>)
         ensures this { IsPrefix self.old self.new }
         ensures that { IsPrefix other.now self.new }
@@ -84,11 +84,10 @@ impl<X: OneThread, B: Tag> Published<X, B> {
     }
 }
 
-/// What readers take: one publication, in whose place a newer one is put. It has no list of operations, which would take
-/// memory: the writer puts the publication into the copy that nobody reads, and shows that one.
+/// The copy that readers take: one publication, which a newer one replaces. It has no list of operations, which would take memory.
 ///
-/// It is a bound, and [`PublishedCopy`] its only type, because a generic struct may not hold a type with ghost fields of a
-/// trait that a generic `impl` alone gives it: the `Writer` and `Reader` of a `PublishedCopy` have such fields of `Absorb`.
+/// It is a bound with one type, [`PublishedCopy`], since a generic struct may not hold a type with ghost fields of a trait that a generic
+/// `impl` alone gives it, as the `Writer` and `Reader` of a `PublishedCopy` have of `Absorb`.
 pub trait HoldsPublished<P: Drop>: Absorb<(), State = ()> + Drop {
     ghost holds: { Self → P };
 
@@ -105,7 +104,7 @@ pub trait HoldsPublished<P: Drop>: Absorb<(), State = ()> + Drop {
         ensures puts { holds self.new ≡ published };
 }
 
-/// One copy of what is published. No operation is absorbed.
+/// One copy of the publication. No operation is absorbed.
 #[derive(Drop)]
 pub struct PublishedCopy<P: Drop> {
     published: P,

@@ -1,4 +1,4 @@
-//! A seat of any object's board, what it tells others, and what it is answered.
+//! A seat of any object's board, its news for others, and its answers.
 ghost use Rattle.std.specs.Prelude.{◌≡◌, ◌+◌, length};
 ghost use mathlib.Core.List.{IsPrefix};
 ghost use Rattle.board.specs.Tape.{HasSeen, IsSummaryAfter};
@@ -13,7 +13,7 @@ use std::collections::LinkedList;
 use std::marker::Model;
 use std::sync::ledger::Share;
 
-/// What contracts see of a seat. No value of it is made.
+/// The view of a seat in contracts. No value of it is made.
 pub struct SeatView<S, C, R> {
     pub number: u32,
     /// The calls that were answered.
@@ -22,8 +22,7 @@ pub struct SeatView<S, C, R> {
     pub tape: LinkedList<TapeEntry<S, C, R>>,
 }
 
-/// A seat of any object's board: its number, how many of its calls were answered, and the tape that it has seen. Contracts
-/// see these three.
+/// A seat of any object's board: its number, how many of its calls were answered, and the tape that it has seen. Contracts see these three.
 #[derive(Drop)]
 pub struct Seat<
     X: OneThread,
@@ -49,8 +48,7 @@ impl<X: OneThread, B: Tag, T: HoldsPublished<Published<X, B>>> Model for Seat<X,
     ghost invariant = { λ s. (s.share.parts ≡ 1) × IsSome s.reader };
 }
 
-/// What a seat had seen, for other seats of the same board. Contracts see it as the tape. Its bytes are the number of
-/// calls and the summary of the state after them.
+/// The tape that a seat had seen, for other seats of the same board. Contracts see it as the tape.
 #[derive(Drop)]
 pub struct News<X: OneThread, B: Tag> {
     newest: Published<X, B>,
@@ -65,7 +63,7 @@ impl<X: OneThread, B: Tag> Model for News<X, B> {
     ghost view = { λ n. n.newest };
 }
 
-/// What a call that is an entry answers: the reply, the number of the entry, and what its seat had then seen, as news.
+/// The answer of a call that is an entry: the reply, the number of the entry, and the tape that its seat had then seen, as news.
 #[derive(Drop)]
 pub struct Answered<X: OneThread, B: Tag> {
     pub reply: X::Reply,
@@ -74,7 +72,7 @@ pub struct Answered<X: OneThread, B: Tag> {
     pub news: News<X, B>,
 }
 
-// Enters the published copy, and takes what it has, where that goes on with what is at hand.
+// Enters the published copy, and takes its tape if that continues the tape at hand.
 fn enter<X: OneThread, B: Tag, T: HoldsPublished<Published<X, B>>>(
     reader: Reader<T, (), Unruled>,
     newest: &mut Published<X, B>,
@@ -91,8 +89,7 @@ fn enter<X: OneThread, B: Tag, T: HoldsPublished<Published<X, B>>>(
 }
 
 impl<X: OneThread, B: Tag, T: HoldsPublished<Published<X, B>>> Seat<X, B, T> {
-    // Looks at the published copy, and shows the newest publication that it has then seen. It waits for nobody and takes no
-    // memory.
+    // Looks at the published copy, and shows the newest publication that it has then seen. It does not block and takes no memory.
     pub(crate) fn look(&mut self) -> Shown<X::Summary>
         ensures same { (self.new.number ≡ self.old.number) × (self.new.count ≡ self.old.count) }
         ensures seen { HasSeen self.new self.old.tape }
@@ -113,7 +110,7 @@ impl<X: OneThread, B: Tag, T: HoldsPublished<Published<X, B>>> Seat<X, B, T> {
         self.newest.follow(&news.newest);
     }
 
-    // What the seat has seen, for others. It takes no memory and cannot fail.
+    // The tape that the seat has seen, for others. It takes no memory and cannot fail.
     pub(crate) fn news(&self) -> News<X, B>
         ensures { result ≡ self.now.tape }
     {

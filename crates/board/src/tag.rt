@@ -1,8 +1,8 @@
-//! What names one board.
+//! The name of one board.
 use std::marker::Brand;
 use std::sync::ledger::Ledger;
 
-/// Names one board: the word of its tape, and its ledger. Where seats go to other threads, ask for `B: Tag + Send + Sync`.
+/// Names one board: the word of its tape, and its ledger. If seats go to other threads, ask for `B: Tag + Send + Sync`.
 pub trait Tag: Ledger {
     ghost use Rattle.logbook.specs.Pages.{Named};
 

@@ -1,5 +1,5 @@
-//! One tape: its entries, what a thread has seen of it, and the whole of it, with the right to go on. But for the number of
-//! its calls it exists in the proofs alone.
+//! One tape: its entries, the part that a thread has seen, and the whole of it, with the right to go on. Except for the number of its calls
+//! it exists in the proofs alone.
 ghost use Rattle.std.specs.Prelude.{◌≡◌, ◌+◌, ◌<◌, ◌^◌, ◌++◌, ◌∷◌, [], Some, length, true, MatchBool};
 ghost use mathlib.Core.List.{IsPrefix};
 ghost use Rattle.logbook.specs.Pages.{may_write};
@@ -24,8 +24,7 @@ pub enum TapeEntry<S, C, R> {
     Call(u32, C, R),
 }
 
-/// What a call adds to the tape: the seat's number, and the command and the reply as they were, which exist in the proofs
-/// alone.
+/// The entry that a call adds to the tape: the seat's number, and the command and the reply as they were, which exist in the proofs alone.
 #[derive(Drop)]
 pub struct NewEntry<C, R> {
     pub seat: u32,
@@ -125,7 +124,7 @@ impl<X: OneThread, B: Tag> SeenTape<X, B> {
         self.count
     }
 
-    /// A copy: what is known of the tape may be known in two places. Takes no memory.
+    /// A copy: two places may know the same part of the tape. Takes no memory.
     pub fn again(&self) -> SeenTape<X, B>
         ensures { result ≡ self.now }
     {
@@ -136,11 +135,11 @@ impl<X: OneThread, B: Tag> SeenTape<X, B> {
         }
     }
 
-    /// Whether it is no shorter than the other, and so begins with it. Else the other begins with this one.
+    /// Whether it is at least as long as the other, and so begins with it. Else the other begins with this one.
     pub fn covers(&self, other: &SeenTape<X, B>) -> bool
         ensures { MatchBool result (IsPrefix other.now self.now) (IsPrefix self.now other.now) }
     {
-        // Who has seen both knows that one of them begins with the other.
+        // A thread that has seen both knows that one of them begins with the other.
         let mut both = self.seen.again();
         both.learn(&other.seen);
         if other.count > self.count {
@@ -176,7 +175,7 @@ impl<X: OneThread, B: Tag> WholeTape<X, B> {
         self.count
     }
 
-    /// What is seen of it.
+    /// The part of the tape that is seen.
     pub fn seen(&self) -> SeenTape<X, B>
         ensures { result ≡ self.now }
     {

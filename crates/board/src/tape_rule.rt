@@ -1,5 +1,5 @@
-//! The book's lines, and the rule by which a tape goes on: each line names the cell that comes home with the next one, so
-//! who may write that cell knows the whole tape, and alone goes on with it.
+//! The book's lines, and the rule by which a tape goes on. Each line names the cell that comes home with the next one. So the holder of the
+//! right to that cell knows the whole tape, and alone goes on with it.
 ghost use Rattle.std.specs.Prelude.{◌≡◌, true, None};
 ghost use Rattle.logbook.specs.Pages.{may_write};
 ghost use Rattle.board.specs.TapeRule.{StaysHome};
@@ -12,7 +12,7 @@ use std::marker::PhantomData;
 
 /// A line of the book. No value of it is made.
 pub struct BookLine<E> {
-    /// The number of the tape that it stands on.
+    /// The number of its tape.
     pub tape: u64,
     /// The cell that comes home with the next line of the tape.
     pub next: u64,
@@ -56,7 +56,7 @@ pub type EntryOf<X> = TapeEntry<
     <X as OneThread>::Reply,
 >;
 
-/// What a call adds to a tape of `X`.
+/// The entry that a call adds to a tape of `X`.
 pub type NewEntryOf<X> = NewEntry<<X as OneThread>::Command, <X as OneThread>::Reply>;
 
 /// A line of the book of a tape of `X`.
@@ -65,10 +65,10 @@ pub type LineOf<X> = BookLine<EntryOf<X>>;
 /// A word of that book.
 pub type WordOf<X> = Word<LineOf<X>, u64, TapeRule>;
 
-/// What was seen of that book.
+/// The seen part of that book.
 pub type SeenOf<X> = Seen<LineOf<X>, u64, TapeRule>;
 
-/// What a step on that book is asked to write.
+/// The request of a step on that book.
 pub type OfferOf<X> = Offer<LineOf<X>, u64, TapeRule, NoTrade>;
 
 /// A step that makes a cell.
@@ -119,7 +119,7 @@ impl<X: OneThread> Plain<NewTape<X>, BookLine<TapeEntry<X::State, X::Command, X:
     ghost state = { λ b. None };
 }
 
-/// What a step adds to a tape, and the right to the cell that comes home with what follows.
+/// The line that a step adds to a tape, and the right to the cell that comes home with the next line.
 pub struct NewLine<C, R> {
     pub entry: NewEntry<C, R>,
     pub next: Pen,

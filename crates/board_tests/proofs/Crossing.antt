@@ -1,4 +1,4 @@
--- The news of a board of the one-thread object may go to other threads, whatever its tag.
+-- The news of a board of the one-thread object can be sent to other threads, whatever its tag.
 use denote.RattleType.{RattleType}
 use denote.Param.Send.{IsSend}
 use Rattle.std.specs.declared.sync.ledger.Ledger as ledger

@@ -1,4 +1,4 @@
-//! What the seats of a board do in turn, and what they are told.
+//! The actions of the seats of a board in turn, and their answers.
 ghost use Rattle.std.specs.Prelude.{◌≡◌};
 
 use crate::said::{Said, answer_of, plain_of, seen_of};
@@ -29,14 +29,14 @@ pub enum Line {
 #[derive(Clone, Copy)]
 pub enum Act {
     Call(Line),
-    /// It calls, and once more where the call wanted memory and a glance then shows what was told last.
+    /// It calls, and once more if the call ran out of memory and a glance then shows the last answer.
     CallTwice(Line),
     Glance,
     /// It learns the news of the last call, and glances.
     Learn,
 }
 
-/// The number of a seat, what it does, and the number of the entry and what is said then.
+/// The number of a seat, its action, and then the number of the entry and the answer.
 pub type Row = (u32, Act, u64, Said);
 
 fn append(kind: EventKind, name: Name, part: Part) -> Command {
@@ -63,7 +63,7 @@ fn command_of(line: Line) -> Command {
     }
 }
 
-// What the call is answered. Its news is kept.
+// The answer of the call. Its news is kept.
 fn call<B: Tag, R: Wait>(
     rt: &R,
     board: &Board<B>,
@@ -84,7 +84,7 @@ fn glance<B: Tag>(board: &Board<B>, seat: &mut Seat<B>) -> Option<(u64, Said)> {
     seen_of(board.glance(seat))
 }
 
-// What a seat is told, where this was told last.
+// The answer of a seat, after this last answer.
 fn act_once<B: Tag, R: Wait>(
     rt: &R,
     board: &Board<B>,
@@ -112,8 +112,8 @@ fn act_once<B: Tag, R: Wait>(
     }
 }
 
-/// Opens the board, and ends it after its seats did what the rows say, in turn, up to the first that was told otherwise: its
-/// place, if there is one, and the verdict of the end.
+/// Opens the board, lets its seats act as the rows say, in turn, and ends it. It stops at the first row with another answer, and returns
+/// its place, if there is one, and the verdict of the end.
 pub fn act_in_turn<R: Wait + Abort>(rt: &R, blank: Blank, rows: &[Row]) -> (Option<usize>, Said) {
     act_by::<Brand, _>(rt, blank, rows)
 }
@@ -134,7 +134,7 @@ fn act_by<B: Tag, R: Wait + Abort>(rt: &R, blank: Blank, rows: &[Row]) -> (Optio
     (other, plain_of(board.end(rt, seats).verdict()))
 }
 
-// The place of the first row that was told otherwise, or has no seat.
+// The place of the first row that has another answer, or no seat.
 fn first_other<B: Tag, R: Wait>(
     rt: &R,
     board: &Board<B>,

@@ -1,4 +1,4 @@
-//! What one seat does beside a call of another that a gate holds.
+//! The action of one seat during a call of another that a gate holds.
 ghost use Rattle.std.specs.Prelude.{◌≡◌, length};
 
 use crate::said::Said;
@@ -10,7 +10,7 @@ use std::process::Abort;
 use std::sync::Wait;
 use std::thread::{Threads, join};
 
-/// What a seat is answered or shown, if it came to that.
+/// The answer or the glance of a seat, if it came to that.
 pub type Told = Option<(u64, Said)>;
 
 /// A gate that holds a call, and what another seat does meanwhile, twice at most.
@@ -18,7 +18,7 @@ pub trait Beside: Gate {
     fn act<M: SharedBoard, R: Wait>(&self, rt: &R, board: &M, seat: &mut M::Seat) -> (Told, Told);
 }
 
-// The call of the second seat, and what the first does beside it.
+// The call of the second seat, and the action of the first during it.
 fn call_beside<M: SharedBoard + Sync, G: Beside + Sync, R: Threads + Wait + Sync>(
     rt: &R,
     board: &M,
@@ -39,8 +39,7 @@ where
     )
 }
 
-/// Opens the board, and ends it after the second seat called through the gate: what it was answered, and what the first was
-/// meanwhile.
+/// Opens the board, and ends it after the second seat called through the gate: its answer, and the answer of the first meanwhile.
 pub fn hold_call<G: Beside + Sync, R: Threads + Wait + Abort + Sync>(
     rt: &R,
     blank: Blank,

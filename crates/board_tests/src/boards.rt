@@ -17,7 +17,7 @@ pub fn two(alloc: Global) -> Config {
 /// The turns that a thread waits for another.
 pub const TURNS: u32 = 1_000_000;
 
-/// Whether another thread sets the flag within so many turns.
+/// Whether another thread sets the flag within `turns` turns.
 pub fn comes(flag: &AtomicBool, turns: u32) -> bool {
     for _ in 0..turns {
         if flag.load(Ordering::SeqCst) {

@@ -58,7 +58,7 @@ fn config(
     })
 }
 
-/// A board of two threads and so many seats, whose clients draw so many operations, which are these in turn.
+/// A board of two threads and several seats, whose clients draw these operations in turn.
 pub fn blank<R: Abort>(
     rt: &R,
     alloc: Global,

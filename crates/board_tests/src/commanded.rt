@@ -4,7 +4,7 @@ use edn::Refusal;
 use harness::{Command, Reply};
 use std::sync::Wait;
 
-/// What a call was answered: its commit and its reply.
+/// The answer of a call: its commit and its reply.
 pub type Heard = (u64, Result<Reply, Refusal>);
 
 /// A board that threads share, each by a seat of its own.
@@ -13,7 +13,7 @@ pub trait CommandedBoard {
 
     type News;
 
-    /// The commit and the reply of a command; None where the call is no entry.
+    /// The commit and the reply of a command; None if the call adds no entry.
     fn call<R: Wait>(&self, rt: &R, seat: &mut Self::Seat, command: Command) -> Option<Heard>;
 
     /// The commit of a command, and its news.
@@ -24,7 +24,7 @@ pub trait CommandedBoard {
         command: Command,
     ) -> Option<(u64, Self::News)>;
 
-    /// What a glance shows, once the seat has learned the news.
+    /// The result of a glance, once the seat has learned the news.
     fn glance_after(&self, seat: &mut Self::Seat, news: Self::News) -> Option<u64>;
 }
 

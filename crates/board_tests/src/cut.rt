@@ -49,7 +49,7 @@ struct Ended<S> {
     is_well: bool,
 }
 
-// What a seat was answered.
+// The answer of a seat.
 #[derive(Clone, Copy, PartialEq, Eq)]
 enum Heard {
     Drawn(u32),
@@ -105,7 +105,7 @@ fn carry_out<M: CommandedBoard, R: Wait>(
     finished == Heard::Other || finished == Heard::Gone
 }
 
-// Whether the client goes on: None where it has done what it was to do.
+// Whether the client goes on: None if it has done what it was to do.
 fn draw<M: CommandedBoard, R: Wait>(
     rt: &R,
     board: &M,
@@ -124,7 +124,7 @@ fn draw<M: CommandedBoard, R: Wait>(
     }
 }
 
-// Does what clients do, and draws again where its operation is open still. Whether it came to the end of its operations.
+// Does what clients do, and draws again if its operation is open still. Whether it came to the end of its operations.
 fn draw_all<M: CommandedBoard, R: Wait>(
     rt: &R,
     board: &M,
@@ -157,7 +157,7 @@ fn play<M: CommandedBoard, R: Wait>(
     }
 }
 
-// Cuts all events, and sets the kind anew. Whether both were done.
+// Cuts all events, and sets the kind again. Whether both were done.
 fn cut_once<M: CommandedBoard, R: Wait>(
     rt: &R,
     board: &M,
@@ -232,8 +232,8 @@ fn write_and_read(alloc: Global) -> Vec<Item> {
     vec![in alloc; write(), read()].unwrap_or(Vec::new(alloc))
 }
 
-/// While two clients run, a third seat cuts all events again and again: then the verdict is that of a fresh monitor which is
-/// given the events, and the commits of each seat rise.
+/// While two clients run, a third seat cuts all events again and again. Then the verdict is that of a fresh monitor with the same events,
+/// and the commits of each seat rise.
 #[test]
 fn cut_under_clients(rt: HostRuntime) {
     let alloc = rt.alloc();
@@ -242,8 +242,7 @@ fn cut_under_clients(rt: HostRuntime) {
     assert!(rt; all == [true, true, true, true]);
 }
 
-// Whether all seats came back and did what they were to do, the commits of each rise, and the verdict is that of a fresh
-// monitor.
+// Whether all seats came back and did what they were to do, the commits of each rise, and the verdict is that of a fresh monitor.
 fn run_and_cut<B: Tag + Send + Sync, R: Threads + Wait + Abort + Sync>(
     rt: &R,
     alloc: Global,

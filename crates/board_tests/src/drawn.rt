@@ -48,8 +48,8 @@ fn blank<R: Abort>(rt: &R, alloc: Global) -> Blank {
     }
 }
 
-/// Two seats carry out a trial: what one draws the other finishes. Thread 0 writes, and meanwhile thread 1 reads: it finds the
-/// write that is still open, which is no alarm. There is no fault to come.
+/// Two seats carry out a trial: the second one finishes the operation that the first one draws. Thread 0 writes, and meanwhile thread 1
+/// reads: it finds the write that is still open, which is not an alarm. There is no fault to come.
 #[test]
 fn trial_of_two_seats(rt: HostRuntime) {
     let rows = &[

@@ -119,8 +119,8 @@ where
     a.with(b).with(c.with(d))
 }
 
-/// Calls of 64 seats in four threads are the entries 1 to 64, each once. No call is left out, and no glance beside them
-/// shows nothing, or less than its seat had seen.
+/// Calls of 64 seats in four threads are the entries 1 to 64, each once. Each call has an entry, and a glance during them shows at least
+/// the tape that its seat had seen.
 #[test]
 fn calls_from_four_threads(rt: HostRuntime) {
     let (all, verdict) = call_at_once::<Brand, _>(&rt, blank(&rt, rt.alloc(), SEATS));
@@ -128,7 +128,7 @@ fn calls_from_four_threads(rt: HostRuntime) {
     assert!(rt; verdict == Said::Legal);
 }
 
-// What the calls come to, and the verdict of the end.
+// The results of the calls, and the verdict of the end.
 fn call_at_once<B: Tag + Send + Sync, R: Threads + Wait + Abort + Sync>(
     rt: &R,
     blank: Blank,

@@ -8,10 +8,10 @@ use edn::Gate;
 use std::sync::Wait;
 use std::sync::atomic::{AtomicBool, Ordering};
 
-/// The turns for which a gate holds its call, where no other is answered meanwhile.
+/// The turns for which a gate holds its call, if no other is answered meanwhile.
 const HELD: u32 = 20_000;
 
-// Holds a call before its entry is published, until another call is answered, for so many turns.
+// Holds a call before its entry is published, until another call is answered, for some turns.
 #[derive(Drop)]
 struct Hold {
     begun: AtomicBool,

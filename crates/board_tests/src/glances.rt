@@ -1,4 +1,4 @@
-//! Glances beside calls.
+//! Glances during calls.
 
 use crate::acts::{Act, Line, act_in_turn};
 use crate::beside::{Beside, Told, hold_call};
@@ -28,7 +28,7 @@ fn glance_follows_each_call(rt: HostRuntime) {
     assert!(rt; matches!(act_in_turn(&rt, blank(&rt, rt.alloc(), 2), rows), (None, _)));
 }
 
-// A moment of a call of the seat with this number, which lasts until a glance was made, for so many turns.
+// A moment of a call of the seat with this number, which lasts until a glance was made, for some turns.
 #[derive(Drop)]
 struct Moment {
     number: AtomicU32,
@@ -59,7 +59,7 @@ impl Moment {
         self.met.load(Ordering::SeqCst) && self.number.load(Ordering::SeqCst) == number
     }
 
-    // What a glance shows in this moment.
+    // The result of a glance in this moment.
     fn glance<M: SharedBoard>(&self, board: &M, seat: &mut M::Seat) -> Told {
         if !comes(&self.come, TURNS) {
             return None;
@@ -95,9 +95,8 @@ impl Beside for Meeting {
     }
 }
 
-/// While a call holds the lock, a glance in another thread answers: before the entry is published with what stood before
-/// it, and then with the entry. The gate is told the seat's number. So a glance that tries the lock, and shows nothing where
-/// it is held, fails here.
+/// While a call holds the lock, a glance in another thread answers: before the entry is published without it, and then with it. The gate
+/// gets the seat's number. So a glance that tries the lock, and shows nothing if it is held, fails here.
 #[test]
 fn glance_answers_while_a_call_holds_the_lock(rt: HostRuntime) {
     let meeting = Meeting {

@@ -1,5 +1,5 @@
-//! What threads and clients that share a board are answered: small histories through the calls of a board and its glances, and
-//! clients that run, each answer worked out by hand or compared with that of one thread. It has tests alone.
+//! The answers of threads and clients that share a board. Small histories run through the calls of a board and its glances, and clients
+//! run. Each answer is worked out by hand or compared with that of one thread. It has tests alone.
 #![tactic(auto)]
 
 #[cfg(test)]

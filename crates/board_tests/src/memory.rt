@@ -4,8 +4,8 @@ use crate::acts::{Act, Line, act_in_turn};
 use crate::boards::blank;
 use crate::said::Said;
 
-/// A call that wants memory is no entry: a glance shows what stood before it, and the same call again is the next entry. The
-/// test meets want of memory only where it is run with one allocation that fails, which the gate does not do.
+/// A call that runs out of memory adds no entry: a glance shows the state before it, and the same call again is the next entry. The test
+/// meets this case only if it is run with one allocation that fails, which the gate does not do.
 #[test]
 fn want_of_memory_is_no_entry(rt: HostRuntime) {
     let rows = &[

@@ -1,4 +1,4 @@
-//! What one seat tells another.
+//! News from one seat to another.
 
 use crate::acts::{Act, Line, act_in_turn};
 use crate::boards::blank;

@@ -22,7 +22,7 @@ fn append_there<M: CommandedBoard, R: Wait>(
     (seat, told)
 }
 
-// What a glance shows after the news, and the commit of a call after that.
+// The result of a glance after the news, and the commit of a call after that.
 fn learn_there<M: CommandedBoard, R: Wait>(
     rt: &R,
     board: &M,
@@ -91,8 +91,7 @@ where
     }
 }
 
-/// A seat that learns news in another thread sees by its next glance what the caller had seen, and its next call comes
-/// after that.
+/// A seat that learns news in another thread sees by its next glance what the caller had seen, and its next call comes after that.
 #[test]
 fn news_between_threads(rt: HostRuntime) {
     let alloc = rt.alloc();
@@ -100,7 +99,7 @@ fn news_between_threads(rt: HostRuntime) {
     assert!(rt; told == (true, Some((2, Some(2), Some(3)))));
 }
 
-// Whether the seats came back, and what they were told.
+// Whether the seats came back, and their answers.
 fn tell<B: Tag + Send + Sync, R: Threads + Wait + Abort + Sync>(
     rt: &R,
     blank: Blank,

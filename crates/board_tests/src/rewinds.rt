@@ -4,8 +4,8 @@ use crate::acts::{Act, Line, act_in_turn};
 use crate::boards::blank;
 use crate::said::Said;
 
-/// What one seat takes back, the other sees as if it had never come, once it was told; and it goes on from there. Key 7 is written
-/// 3 and read as 4. The read's end is taken back, and 3 is read in its place. There are no nine events.
+/// One seat takes back events, and the other sees them as if they had never come, once it has the news; and it goes on from there. Key 7 is
+/// written 3 and read as 4. The seat takes the read's end back, and then the read answers 3. There are no nine events.
 #[test]
 fn rewinds_between_calls_of_two_seats(rt: HostRuntime) {
     let rows = &[

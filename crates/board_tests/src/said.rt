@@ -1,4 +1,4 @@
-//! What a board says, as plain data.
+//! The answers of a board as plain data.
 use board::{Answered, Glance, Tag};
 use edn::Refusal;
 use harness::Reply;
@@ -14,7 +14,7 @@ pub enum Said {
     Unknown(u16, u32),
     Refused(u8),
     Drawn(u32, u32),
-    /// The operation took place, and there is nothing to tell.
+    /// The operation took place, without an answer.
     Served,
     Found(Option<i64>),
     /// Whatever else a board says.
@@ -44,7 +44,7 @@ fn plain_reply(reply: &Reply) -> Said {
     }
 }
 
-/// The number of the entry and what was said. The number is 0 where the call was no entry.
+/// The number of the entry and the answer. The number is 0 if the call added no entry.
 pub fn answer_of<B: Tag>(answer: &Result<Answered<B>, Refusal>) -> (u64, Said) {
     match answer {
         Ok(answered) => match &answered.reply {

@@ -20,8 +20,8 @@ use std::thread::Threads;
 // The tries after the first one by which all three faults have struck.
 const TRIES: u64 = 2;
 
-// How often the nemesis was about to tell how far the run has come, as it is after each try but the first. The client waits
-// before its first command until all faults must have struck.
+// How often the nemesis was about to report the progress of the run, as it is after each try but the first. The client waits before its
+// first command until all faults must have struck.
 #[derive(Drop)]
 struct Tries {
     count: AtomicU64,

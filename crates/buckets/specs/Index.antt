@@ -1,12 +1,12 @@
 -- Invariant: an index of things by buckets
 use Rattle.std.specs.Prelude.{◌≡◌, ℕ, ◌+◌, ◌*◌, ◌/◌, ◌%◌, ◌^◌, ◌<◌, ◌≤◌, Bool, false, List, map, length, get_or}
 
--- the bucket of a word, where there are so many
+-- the bucket of a word, with this number of buckets
 unfoldable pub word_bucket : ℕ → ℕ → ℕ
 word_bucket many word =
     (word % 2 ^ 64 * 11400714819323198485 % 2 ^ 64 + word / 2 ^ 64 * 13787848793156543929 % 2 ^ 64) % 2 ^ 64 / 2 ^ 32 * many / 2 ^ 32
 
--- the bucket of a hash, where there are so many
+-- the bucket of a hash, with this number of buckets
 unfoldable pub hash_bucket : ℕ → ℕ → ℕ
 hash_bucket many hash = hash * many / 2 ^ 64
 
@@ -17,8 +17,8 @@ pub record IsLast (buckets : List ℕ) (bucket n place : ℕ) : Type 0 where
   pub own : (p : ℕ) → place ≡ p + 1 → get_or buckets p 0 ≡ bucket
   pub later : (j : ℕ) → place ≤ j → j < n → get_or buckets j 0 ≡ bucket → ⊥
 
--- of things that are in these buckets the first are indexed, as many as before has places: last has of each bucket the place of its last
--- thing, and before of each thing that of the one before it in its bucket
+-- the first things in these buckets are indexed, as many as before has places. last has the place of the last thing of each bucket, and
+-- before has for each thing the place of the one before it in its bucket
 pub record IsIndex (buckets last before : List ℕ) : Type 0 where
   pub few : length before ≤ length buckets
   pub many : length last < 2 ^ 32

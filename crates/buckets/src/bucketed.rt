@@ -2,11 +2,11 @@
 ghost use Rattle.std.specs.Prelude.{◌≡◌, ℕ, ◌<◌, ◌^◌};
 ghost use Rattle.buckets.specs.Index.{hash_bucket, word_bucket};
 
-/// A thing that has a bucket, where there are so many.
+/// A thing that has a bucket, of a given number of buckets.
 pub trait Bucketed: Copy {
     ghost bucket: { ℕ → Self → ℕ };
 
-    /// The bucket, where there are so many. Takes constant time.
+    /// The bucket, of `many` buckets. Takes constant time.
     fn bucket(self, many: usize) -> usize
         requires some { 0 < many }
         requires few { many < 2 ^ 32 }

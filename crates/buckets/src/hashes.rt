@@ -10,7 +10,7 @@ use std::hash::{FoldHasher, Hash, Hasher};
 // There are always fewer hashes in an index, since its places are of 32 bits.
 const MANY: usize = 1073741820;
 
-/// The hash of the value. Takes the time of what the value feeds.
+/// The hash of the value. Costs O(the bytes that the value feeds).
 #[tactic(auto, unfolding(crate::specs::Hashes::hash_by))]
 pub fn hash_of<T: Hash>(value: &T) -> u64
     ensures { result ≡ hash_by T.hash_input value.now }
@@ -20,8 +20,8 @@ pub fn hash_of<T: Hash>(value: &T) -> u64
     hasher.finish()
 }
 
-/// Indexes all hashes, by more buckets than there are hashes. `AllocError` where memory was refused, or where there are too many
-/// hashes for places of 32 bits. Takes the time of the hashes that are not indexed yet, and of all where new buckets are made.
+/// Indexes all hashes, by more buckets than there are hashes. `AllocError` if memory was refused, or if there are too many hashes for
+/// places of 32 bits. Costs O(hashes that are not indexed yet), and O(all hashes) if new buckets are made.
 #[inline(never)]
 pub fn index_hashes(hashes: &[u64], index: &mut Index) -> Result<(), AllocError>
     requires index { Indexes hash_bucket hashes.now index.old.last.items index.old.before.items }

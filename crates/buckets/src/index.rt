@@ -5,12 +5,12 @@ ghost use Rattle.buckets.specs.Index.{Indexes};
 use crate::bucketed::Bucketed;
 use std::alloc::{AllocError, Global};
 
-/// The index of the first things of a list. A place is one more than where a thing stands, and zero where there is none.
+/// The index of the first things of a list. A place is one more than where a thing stands, and zero if there is none.
 #[derive(Drop)]
 pub struct Index {
-    /// Of each bucket the place of its last thing.
+    /// The place of the last thing of each bucket.
     pub last: Vec<u32>,
-    /// Of each thing the place of the one before it in its bucket.
+    /// For each thing the place of the one before it in its bucket.
     pub before: Vec<u32>,
 }
 
@@ -60,7 +60,7 @@ fn index_one<T: Bucketed>(items: &[T], index: &mut Index) -> Result<(), AllocErr
     Ok(())
 }
 
-// Takes all things out, and makes so many buckets, or more where there is memory for more: at most four times as many.
+// Takes all things out, and makes `wanted` buckets, or more if there is memory for more: at most four times as many.
 fn make_buckets(wanted: usize, index: &mut Index) -> Result<(), AllocError>
     requires { wanted < 2 ^ 32 }
     ensures none { index.new.before.items ≡ [] }
@@ -83,9 +83,9 @@ fn make_buckets(wanted: usize, index: &mut Index) -> Result<(), AllocError>
     Ok(())
 }
 
-/// Indexes all things. Where there are not more buckets than things, makes so many buckets as are wanted, or up to four times as
-/// many where the memory for them is there. `AllocError` where there is no memory for the buckets or for a place. Takes the time of
-/// the things that are not indexed yet, and of all where new buckets are made.
+/// Indexes all things. If there are not more buckets than things, makes as many as are wanted, or up to four times as many if the memory
+/// for them is there. `AllocError` if there is no memory for the buckets or for a place. Costs O(things that are not indexed yet), and
+/// O(all things) if new buckets are made.
 #[inline(never)]
 pub fn index_all<T: Bucketed>(
     items: &[T],

@@ -4,7 +4,7 @@
 //! one bucket, and the last thing is taken away in constant time. Things are words or hashes ([`Bucketed`]); anything
 //! else is indexed by its hash ([`hash_of`], [`index_hashes`]).
 //!
-//! A call takes memory only where its result can be `AllocError`.
+//! A call takes memory only if its result can be `AllocError`.
 #![tactic(auto)]
 
 mod bucketed;

@@ -24,11 +24,11 @@ use Rattle.cas_ends.proofs.Beginning.{EndsDone, after_invoke}
 abbrev pub AreComplete : List Mark → (LeanEnd → Type 0) → Type 0
 AreComplete marks L = (order : List Taken) (t : Option ℤ) → IsLegalOrder cas_register marks order t → EndsDone marks order → (e : LeanEnd) × L e × Covers marks e order t
 
--- what a mark makes of ends
+-- the ends that a mark makes of ends
 abbrev pub Next : List Mark → (LeanEnd → Type 0) → Mark → LeanEnd → Type 0
 Next marks L m f = (e : LeanEnd) × L e × Becomes marks e m f
 
--- an order that ends with what has returned, once the mark is there, did so before, or ends with what returns now
+-- an order that ends with an operation that has returned, once the mark is there, did so before, or ends with the one that returns now
 module _ (marks : List Mark) (m : Mark) (no_ok : (id : ℕ) (a : Answer) → m ≢ Returned id a) where
   pub ended_before : (order : List Taken) → EndsDone (marks ++ m ∷ []) order → EndsDone marks order
   ended_before order d = ⊎_elim inl
@@ -126,7 +126,7 @@ complete_by before (m ∷ more) L well c order t l done =
     front : (before : List Mark) (m : Mark) (more : List Mark) → AreWellFormed (before ++ m ∷ more) → AreWellFormed (before ++ m ∷ [])
     front before m more w xs ys n cut = w xs (ys ++ more) n (sym (append_assoc xs (n ∷ ys) more) ∙ ap (λ l. l ++ more) cut ∙ append_assoc before (m ∷ []) more)
 
--- what is pending behind an order may be left out
+-- pending operations behind an order may be left out
 pub cut_behind : (marks : List Mark) → IsLinearizable cas_register marks → (order : List Taken) × (t : Option ℤ) × IsLegalOrder cas_register marks order t × EndsDone marks order
 cut_behind marks lin =
     let s : UpToLast (λ (y : Taken). HasReturned marks y.id) lin.0 = up_to_last (λ (y : Taken). HasReturned marks y.id) (λ y. returned_or_not marks y.id) lin.0 in

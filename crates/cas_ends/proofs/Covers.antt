@@ -14,7 +14,7 @@ use Rattle.lean_ends.proofs.Covers.{Extra}
 use Rattle.cas_ends.specs.CasEnds.{Sets, IsCasOf}
 use Rattle.cas_ends.proofs.Steps.{run_same}
 
--- the read may stand where the value is v: what comes behind does not precede it
+-- the read may stand where the value is v: no operation behind it precedes it
 abbrev pub MayFind : List Mark → List Taken → ℕ → ℤ → Type 0
 MayFind marks order r v =
     (xs ys : List Taken) × (order ≡ xs ++ ys) × Run cas_register None xs (Some v) × ((y : Taken) → Contains ys y → ¬ Precedes marks y.id r)

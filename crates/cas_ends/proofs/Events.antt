@@ -1,4 +1,4 @@
--- each order of the history with one more fail, or crash, comes of what that makes of an end
+-- each order of the history with one more fail, or crash, stands for an end that this event makes of an old end
 use Rattle.std.proofs.Common.{ℕ, ℤ, inl, inr, ⊎_elim, Option, List, [], ◌∷◌, ◌++◌, refl, sym, subst}
 use Rattle.std.specs.List.{Contains}
 use Rattle.std.proofs.lemmas.List.Elements.{Contains-append_left, Contains-push, Contains-push_cases}
@@ -18,7 +18,7 @@ use Rattle.cas_ends.specs.CasEnds.{Becomes}
 use Rattle.cas_ends.proofs.Covers.{Covers}
 use Rattle.cas_ends.proofs.Ending.{find_was, covers_without}
 
--- what comes of an end by a mark, and stands for the order
+-- an end made by a mark, which stands for the order
 abbrev pub Leads : List Mark → Mark → LeanEnd → List Taken → Option ℤ → Type 0
 Leads marks m e order t = (f : LeanEnd) × Becomes marks e m f × Covers (marks ++ m ∷ []) f order t
 

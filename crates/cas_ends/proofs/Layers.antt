@@ -1,4 +1,4 @@
--- the fronts of the ends, layer upon layer
+-- the fronts that belong to the ends, layer upon layer
 use Rattle.std.proofs.Common.{◌≡◌, ℕ, ℤ, ◌⊎◌, inl, inr, ⊎_elim, Bool, true, false, IsTrue, List, [], ◌∷◌, ◌++◌, map, refl, sym, ◌∙◌, subst}
 use Rattle.std.specs.List.{Contains}
 use Rattle.std.proofs.lemmas.Bool.{true≢false, cases_Bool}
@@ -31,7 +31,7 @@ less_each_other marks e f a b =
     let bools = same_bool e.writes f.writes b.1 a.1 in
     λ i. record { end = ends i; writes = bools i }
 
--- what one more operation makes of a front it makes of a greater one
+-- the effect of one more operation on a front is its effect on a greater one
 module _ (marks : List Mark) (well : AreWellFormed marks) where
   pub next_of_greater : (d g f : Front) → IsLess marks d g → IsNext marks d f → (h : Front) × IsNext marks g h × IsLess marks f h
   next_of_greater d g f most n = ⊎_elim
@@ -79,7 +79,7 @@ module _ (marks : List Mark) (well : AreWellFormed marks) where
 abbrev pub AreClosed : List Mark → List Front → Type 0
 AreClosed marks fronts = (e f : Front) → Contains fronts e → IsNext marks e f → (g : Front) × Contains fronts g × IsLess marks f g
 
--- but for the last layer
+-- except for the last layer
 abbrev pub AreClosedBelow : List Mark → List Front → List Front → Type 0
 AreClosedBelow marks there layer = (e f : Front) → Contains there e → IsNext marks e f → Contains layer e ⊎ ((g : Front) × Contains there g × IsLess marks f g)
 
@@ -101,7 +101,7 @@ closed marks ends fronts are e f h n = ⊎_elim
     (λ g. g)
     (closed_below marks (map stays ends) (map stays ends) are.1.layers fronts are.0 (λ e f h n. inl h) are.1.are e f h n)
 
--- what was there is among the fronts
+-- a front that was there is among the fronts
 pub there_still : (marks : List Mark) (there layer : List Front) (layers : List (List Front)) (fronts last : List Front) → AreLayers marks there layer layers fronts last → (e : Front) → Contains there e → Contains fronts e
 there_still marks there layer [] fronts last a e h = subst (λ l. Contains l e) a.0 h
 there_still marks there layer (next ∷ more) fronts last a e h = there_still marks (there ++ next) next more fronts last a.1 e (Contains-append_left there next e h)
@@ -142,7 +142,7 @@ module _ (marks : List Mark) (well : AreWellFormed marks) (ends : List LeanEnd) 
       walked_on w.0 f true k xs c.2 m.0 m.1 (less_then marks (record { end = w.0; writes = true }) n.0 m.0 n.2 m.2))
       w.1
 
-  -- what a walk makes of an end is less than a front
+  -- the end that a walk makes of an end is less than a front
   pub walk_is_less : (e f : LeanEnd) (k : Bool) → Contains ends e → Walks marks e f k → (m : Front) × Contains fronts m × IsLess marks (record { end = f; writes = k }) m
   walk_is_less e f k h w = walked_on e f false k w.0 w.1 (stays e)
       (there_still marks (map stays ends) (map stays ends) are.1.layers fronts are.0 are.1.are (stays e) (stays_there ends e h)) (less_itself marks (stays e))

@@ -125,7 +125,7 @@ only_itself marks (x ∷ left) p e f h k a = ⊎_elim
     (Contains-cons_cases x left f k))
     (Contains-cons_cases x left e h)
 
--- what a mark leaves does not depend on how the same ends are listed
+-- the ends that a mark leaves do not depend on how the same ends are listed
 within : (marks : List Mark) (m : Mark) (ends others left these : List LeanEnd) → ((e : LeanEnd) → Contains ends e → Contains others e) → ((e : LeanEnd) → Contains others e → Contains ends e)
     → AreLeftBy marks m ends left → AreLeftBy marks m others these → (f : LeanEnd) → Contains left f → Contains these f
 within marks m ends others left these to from a b f h =

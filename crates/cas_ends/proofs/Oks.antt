@@ -1,4 +1,4 @@
--- each order of the history with one more ok comes of what the ok makes of an end
+-- each order of the history with one more ok stands for an end that the ok makes of an old end
 use Rattle.std.proofs.Common.{◌≡◌, ◌≢◌, ℕ, ℤ, inl, inr, ⊎_elim, true, false, IsTrue, Option, Some, None, List, [], ◌∷◌, ◌++◌, refl, sym, ap, ◌∙◌, subst}
 use Rattle.std.specs.List.{Contains}
 use Rattle.std.proofs.lemmas.List.Elements.{Contains-push}
@@ -45,7 +45,7 @@ module _ (marks : List Mark) (id : ℕ) (answer : Answer) (well : AreWellFormed 
   apart : (x : ℕ) (v : ℤ) → MayWrite longer x v → x ≢ id
   apart x v w s = w.not_returned (answer, subst (λ n. Contains longer (Returned n answer)) (sym s) returned)
 
-  -- the operation goes of an end that stands for the order, of which it is no free write
+  -- the operation is removed from an end that stands for the order and does not have it as a free write
   goes : (g : LeanEnd) (order : List Taken) (t : Option ℤ) → Covers marks g order t → ((x : ℕ) (v : ℤ) → Extra marks g order x v → x ≢ id)
       → (f : LeanEnd) × IsWithout g id f × Covers longer f order t
   goes g order t cov other =

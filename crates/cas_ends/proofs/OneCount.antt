@@ -61,7 +61,7 @@ empty_on marks there layer (next ∷ more) fronts last none a f h =
     let no : IsNone next = λ g k. (let e = a.0.each g k in none e.0 e.1) in
     ⊎_elim (λ k. k) (λ k. absurd (no f k)) (Contains-append_cases there next f (empty_on marks (there ++ next) next more fronts last no a.1 f h))
 
--- the fronts of some layers are among all of them
+-- the fronts in some layers are among all of them
 fronts_within : (marks : List Mark) (there layer : List Front) (layers : List (List Front)) (fronts last these those : List Front) (others : List (List Front)) (found end : List Front)
     → AreLayers marks there layer layers fronts last → AreLayers marks these those others found end → IsLayer marks found end []
     → AreWithin there these → AreWithin these there → AreWithin layer those → AreWithin those layer → AreWithin fronts found
@@ -97,7 +97,7 @@ layers_once marks there layer (next ∷ more) fronts last p a = layers_once mark
     (λ e f h k q. a.0.new f e k h (subst (IsLess marks f) (sym q) (less_itself marks f))))
     a.1
 
--- the fronts of some layers are no more than all of them
+-- the fronts in some layers are at most as many as all of them
 pub no_more : (marks : List Mark) (ends others : List LeanEnd) (fronts last found : List Front) → AreCasEnds marks ends → AreCasEnds marks others → AreSomeFronts marks ends fronts last → AreFronts marks others found
     → length fronts ≤ length found
 no_more marks ends others fronts last found a b f g =
@@ -122,7 +122,7 @@ more_if_more marks n ends fronts a f h =
     let m : n < length h.fronts = h.many in
     omega arith
 
--- something is counted only of a history that has a legal order, so a key that is dead is never blown
+-- something is counted only for a history that has a legal order, so a dead key is never over budget
 pub counted_order : (marks : List Mark) (n : ℕ) → HasMoreFronts marks n → IsLinearizable cas_register marks
 counted_order marks n h = by_ends h.ends h.are h.some
   where

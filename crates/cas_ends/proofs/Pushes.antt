@@ -36,7 +36,7 @@ module _ (marks : List Mark) (well : AreWellFormed marks) (e : LeanEnd) (p : Lis
   was_free : ¬ IsTrue (e.needed y.id)
   was_free n = not_in (c.needed y.id n).0
 
-  -- a read: what it finds does not matter
+  -- a read: its answer does not matter
   module _ (reads : Reads y.op) (same : u ≡ t) where
     down : (x : ℕ) (v : ℤ) → Extra marks e order x v → Extra marks e p x v
     down x v k = extra_down marks e p y x v (λ q. read_no_write marks well y.id v (y.op, invoked, reads) (subst (λ n. IsWriteOf marks n v) q k.may.write)) k

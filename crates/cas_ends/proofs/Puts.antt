@@ -10,7 +10,7 @@ use Rattle.lean_ends.proofs.Covers.{Extra}
 use Rattle.cas_ends.proofs.Once.{cas_no_read}
 use Rattle.cas_ends.proofs.Covers.{MayFind, CoversSame, CoversBehind, IsUpdate, Covers}
 
--- a read is no update
+-- a read is not an update
 pub no_read_update : (marks : List Mark) → AreWellFormed marks → (r : ℕ) → MayRead marks r → ¬ IsUpdate marks r
 no_read_update marks well r m u = ⊎_elim
     (λ w. read_no_write marks well r w.0 m.0 w.1)

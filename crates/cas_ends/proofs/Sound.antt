@@ -136,7 +136,7 @@ module _ (marks : List Mark) (id : ℕ) (op : Op) (e f : LeanEnd) (s : IsLeft ma
     not_failed = λ g. ⊎_elim w.not_failed (λ q. cc) (Contains-push_cases marks (Invoked id op) _ g);
   }
 
-  -- what precedes an older one did so before
+  -- an operation that precedes an older one did so before
   older : (y z : ℕ) (o : Op) → Contains marks (Invoked z o) → Precedes longer y z → Precedes marks y z
   older y z o h p = ⊎_elim (λ k. k) (λ k. absurd (new (Invoked z o) h (let q : Invoked id op ≡ Invoked z k.0 = k.1 in let i : z ≡ id = cc in i))) (Precedes-cases marks (Invoked id op) p)
 

@@ -67,13 +67,13 @@ cas_step op a b s w at =
     subst (λ n. IsOneOf (cas_register_apply n op.part s) (Some b, Done)) (sym w.0)
     (subst (λ p. IsOneOf (cas_register_apply Cas p s) (Some b, Done)) (sym w.1) ((cas_takes_place a b s (Some b) Done).1 (at, refl, refl)))
 
--- what a write finds, and leaves, does not depend on the state
+-- the answer of a write, and the state after it, do not depend on the state
 pub write_anywhere : (op : Op) (v : ℤ) (s s2 t : Option ℤ) (found : Found) → Writes op v → cas_register.Steps s op found t → cas_register.Steps s2 op found t
 write_anywhere op v s s2 t found w h =
     let at : (x : Option ℤ) → cas_register.Steps x op found t ≡ IsOneOf (cas_register_apply Write (Int v) x) (t, found) = λ x. ap (λ n. IsOneOf (cas_register_apply n op.part x) (t, found)) w.0 ∙ ap (λ p. IsOneOf (cas_register_apply Write p x) (t, found)) w.1 in
     subst (λ T. T) (sym (at s2)) (subst (λ T. T) (at s) h)
 
--- a cas is no read and no write
+-- a cas is neither a read nor a write
 pub no_read_cas : (op : Op) (a b : ℤ) → Sets op a b → ¬ Reads op
 no_read_cas op a b w r = let e : Cas ≡ Read = sym w.0 ∙ r.0 in cc
 

@@ -71,8 +71,8 @@ EndsCas marks e id a b f =
     (IsTrue (e.needed id) × IsWithout e id f)
     ⊎ ((d : LeanEnd) × (g : LeanEnd) × (writes : Bool) × Walks marks e d writes × (¬ IsTrue (d.needed id)) × IsSetBehind marks d id a b g × IsWithout g id f)
 
--- the ok of a read that answers v: the read may find v already; or a write of v takes place now just before the last write, where the
--- read may find it; or a walk leaves v
+-- the ok of a read that answers v. The read may find v already; or a write of v takes place now just before the last write, where the read
+-- may find it; or a walk leaves v
 abbrev pub EndsRead : List Mark → LeanEnd → ℕ → ℤ → LeanEnd → Type 0
 EndsRead marks e id v f =
     (IsTrue (e.finds id v) × IsWithout e id f)
@@ -87,14 +87,14 @@ Answers marks e id answer f =
     ⊎ (IsRead marks id × (answer ≡ Nothing) × ((d : LeanEnd) × (writes : Bool) × Walks marks e d writes × IsWithout d id f))
     ⊎ ((v : ℤ) × IsRead marks id × (answer ≡ Number v) × EndsRead marks e id v f)
 
--- what the mark makes of an end of the history before it
+-- the effect of the mark on an end of the history before it
 abbrev pub Becomes : List Mark → LeanEnd → Mark → LeanEnd → Type 0
 Becomes marks e (Invoked id op) f = Begins e id op f
 Becomes marks e (Returned id answer) f = Answers marks e id answer f
 Becomes marks e (Failed id) f = (¬ IsTrue (e.needed id)) × IsWithout e id f
 Becomes marks e (Crashed id) f = (IsRead marks id × IsWithout e id f) ⊎ ((¬ IsRead marks id) × (f ≡ e))
 
--- what more marks make of it
+-- the effect of several marks on it
 abbrev pub BecomesBy : List Mark → LeanEnd → List Mark → LeanEnd → Type 0
 BecomesBy marks e [] f = e ≡ f
 BecomesBy marks e (m ∷ more) f =
@@ -104,7 +104,7 @@ BecomesBy marks e (m ∷ more) f =
 abbrev pub IsCasEnd : List Mark → LeanEnd → Type 0
 IsCasEnd marks f = BecomesBy [] start marks f
 
--- what the mark makes of these ends, without those that are at most another one
+-- the ends that the mark makes of these ends, without those that are at most another one
 pub record AreLeftBy (marks : List Mark) (m : Mark) (ends left : List LeanEnd) : Type 0 where
   pub each : (f : LeanEnd) → Contains left f → (e : LeanEnd) × Contains ends e × Becomes marks e m f
   pub all : (e f : LeanEnd) → Contains ends e → Becomes marks e m f
@@ -136,7 +136,8 @@ IsNext marks e f =
     × ((SetsBehind marks e.end x f.end × (f.writes ≡ false))
     ⊎ ((e.writes ≡ false) × WritesBehind marks e.end x f.end × (f.writes ≡ true)))
 
--- what one more operation makes of a layer of fronts, without those that are less than a front that is there, or than another one
+-- the fronts that one more operation makes of a layer of fronts, without those that are less than a front that is there, or than another
+-- one
 pub record IsLayer (marks : List Mark) (there layer next : List Front) : Type 0 where
   pub each : (f : Front) → Contains next f → (e : Front) × Contains layer e × IsNext marks e f
   pub new : (f g : Front) → Contains next f → Contains there g → ¬ IsLess marks f g
@@ -144,7 +145,7 @@ pub record IsLayer (marks : List Mark) (there layer next : List Front) : Type 0 
       → (g : Front) × Contains (there ++ next) g × IsLess marks f g
   pub apart : Pairwise (λ e f. (¬ IsLess marks e f) × (¬ IsLess marks f e)) next
 
--- with what is there, layer upon layer, these are the fronts, of which the last layer is this one
+-- together with those that are there, layer upon layer, these are the fronts, and this one is the last layer
 abbrev pub AreLayers : List Mark → List Front → List Front → List (List Front) → List Front → List Front → Type 0
 AreLayers marks there layer [] fronts last = (there ≡ fronts) × (layer ≡ last)
 AreLayers marks there layer (next ∷ more) fronts last =
@@ -153,7 +154,7 @@ AreLayers marks there layer (next ∷ more) fronts last =
 abbrev pub stays : LeanEnd → Front
 stays e = record { end = e; writes = false }
 
--- these are fronts of the ends, of some layers
+-- these are some layers of the fronts that belong to the ends
 pub record AreSomeFronts (marks : List Mark) (ends : List LeanEnd) (fronts last : List Front) : Type 0 where
   pub layers : List (List Front)
   pub are : AreLayers marks (map stays ends) (map stays ends) layers fronts last

@@ -1,4 +1,4 @@
--- The line of a key may go to another thread, and threads may share one.
+-- The line of a key can be sent to another thread, and threads may share one.
 use denote.Param.Send.{IsSend, IsSync, sendable}
 use Rattle.std.proofs.Crossing.{crosses}
 use Rattle.frontier.proofs.Crossing.{any_send, any_sync}

@@ -1,4 +1,4 @@
--- the events below an index are the first so many, since indices rise
+-- the events below an index are a prefix, since indices rise
 use Rattle.std.proofs.Common.{◌≡◌, ℕ, zero, suc, ◌+◌, ◌<◌, ◌≤◌, ⊎_elim, Bool, true, false, not, nat_lt, nat_le, Option, None, List, [], ◌∷◌, ◌++◌, length, take, drop, slice_index_or, refl, sym, ap, ◌∙◌, subst, append_assoc, arith}
 use Rattle.std.proofs.lemmas.Bool.{cases_Bool, cases_lt, lt-ltb, le-ltb, le-leb, lt-leb}
 use Rattle.std.proofs.lemmas.List.{take_all, get_or_default, length-map, take-append-drop}
@@ -79,7 +79,7 @@ fewer p (x ∷ xs) (suc k) d lt fails =
     (λ not_it. (let e : length (filter (λ y. p y.0) (x ∷ xs)) ≡ length (filter (λ y. p y.0) xs) = ap length (filter-no (λ y. p y.0) x xs not_it) in omega arith))
     (cases_Bool (p x.0))
 
--- a cut takes events away exactly where the last index is not below it
+-- a cut takes events away exactly if the last index is not below it
 pub loses_last : (events : List (ℕ × Event)) → IsHistory events → (n i d : ℕ) → i + 1 ≡ length events → nat_le n (slice_index_or (places_of events) i d) ≡ nat_lt (length (events_below n events)) (length events)
 loses_last events history n i d last =
     ⊎_elim
@@ -99,7 +99,7 @@ loses_last events history n i d last =
         let same : slice_index_or (places_of events) i e ≡ slice_index_or (places_of events) i d = get_or_default (places_of events) i e d (omega arith) in
         lt-ltb (slice_index_or (places_of events) k e) n (omega arith)
 
--- some are below n exactly where the first is
+-- some are below n exactly if the first is
 pub begins_first : (events : List (ℕ × Event)) → IsHistory events → (n d : ℕ) → 0 < length events → nat_lt (slice_index_or (places_of events) 0 d) n ≡ nat_lt 0 (length (events_below n events))
 begins_first [] history n d some = absurd (omega arith)
 begins_first (x ∷ events) history n d some =

@@ -154,7 +154,7 @@ module _ (kind : ModelKind) (budget : ℕ) (events : List (ℕ × Event)) (index
     may_follow : MayFollow (marks (entries_of events)) (mark_by the_id event.kind op)
     may_follow = well_with kind budget events (index, event) history entry entries (marks (entries_of events)) [] (mark_by the_id event.kind op) (sym (marks-append (entries_of events) (entry ∷ [])))
 
-    -- what is open after the event, and where it is noted
+    -- the open operations after the event, if it is noted
     busy_then : (q : ℕ) → busy_of (events ++ (index, event) ∷ []) q ≡ busy_by (busy_of events) p op.key (act_by event.kind op) q
     busy_then q = ap (λ (f : ℕ → Option ℕ). f q) (busy_of-push events (index, event)) ∙ ap (λ o. busy_after (busy_of events) o q) speaks
 
@@ -175,7 +175,7 @@ module _ (kind : ModelKind) (budget : ℕ) (events : List (ℕ × Event)) (index
     pub closed_then : (q : ℕ) → closed_by p event.kind ≡ Some q → busy_of (events ++ (index, event) ∷ []) q ≡ None
     closed_then q is = busy_then q ∙ none_closed p op.key op (busy_of events) event.kind q is
 
-    -- what a step says of the key
+    -- the key's status after a step
     abbrev pub status_at : Step → KeyStatus
     status_at steps.Alive = status.Alive
     status_at steps.Dead = status.Dead index
@@ -217,7 +217,7 @@ module _ (kind : ModelKind) (budget : ℕ) (events : List (ℕ × Event)) (index
             subst (λ r. IsKeyStatus kind budget (entries_of (events ++ (index, event) ∷ [])) (status_at r)) is
             (by_step step (step_of_answer (CountsMoreThan kind) (object_of kind) kills budget (marks (entries_of events)) (mark_by the_id event.kind op) may_follow before step (here.right (marks (entries_of events)) is_live.stands may_follow)))
 
-        -- what the frontier stands for after a step of Alive, now or once it is carried out
+        -- the meaning of the frontier after a step of Alive, now or once it is carried out
         pub marks_stepped : (next : List Mark → Type 0) → TakesUnlessOver (any_view_of live.frontier).stands next (mark_by id event.kind op) step → step ≡ steps.Alive → next (marks (entries_of (events ++ (index, event) ∷ [])))
         marks_stepped next kept is =
             let same_kept = subst (λ n. TakesUnlessOver (any_view_of live.frontier).stands next (mark_by n event.kind op) step) same_id kept in
@@ -227,7 +227,7 @@ module _ (kind : ModelKind) (budget : ℕ) (events : List (ℕ × Event)) (index
 pub alive_at_first : (kind : ModelKind) (budget : ℕ) → IsKeyStatus kind budget [] status.Alive
 alive_at_first kind budget = (none_blown (CountsMoreThan kind) budget, fronts_of_none (object_of kind) (IsLinearizable-empty (object_of kind)))
 
--- what is kept of a key that stands so
+-- the kept state of such a key
 module _ (kind : ModelKind) (budget : ℕ) (events : List (ℕ × Event)) (state : KeyState) (stands : IsKeyState kind budget events state) where
   pub is_alive : (live : LiveKey) → state ≡ Alive live → IsAlive kind budget events × IsLiveKey kind budget events live
   is_alive live is = subst (IsKeyState kind budget events) is stands

@@ -1,4 +1,4 @@
--- events that are lent, found at their places
+-- borrowed events, found at their places
 use Rattle.std.proofs.Common.{◌≡◌, ℕ, zero, suc, ◌+◌, ◌<◌, Some, List, [], ◌∷◌, ◌++◌, length, take, drop, slice_get, slice_index_or, sym, ap, ◌∙◌, subst, append_assoc, arith}
 use Rattle.std.proofs.lemmas.List.{take-map, drop-map}
 use Rattle.std.proofs.lemmas.List.Elements.{All-take, All-drop}
@@ -36,7 +36,7 @@ module _ (lent : List Event) where
       one : (e : Event) × (slice_get lent x ≡ Some e) × (take (suc i) events ≡ take i events ++ (x, e) ∷ [])
       one = found events are.are_lent i x d (subst (λ l. i < length l) are.places_are lt) (subst (λ l. x ≡ slice_index_or l i d) are.places_are is)
 
-      -- each place is one of what is lent
+      -- each place is one of the borrowed events
       pub stands_within : x < length lent
       stands_within = slice_get_within lent x one.0 one.1
 

@@ -20,7 +20,7 @@ passed_over (y ∷ xs) (suc k) p none x is ne =
     cond_other y.0 p (Some y.1) (noted_of (take (suc k) xs) p) (other y (noted_of (take k xs) p) p none)
     ∙ passed_over xs k p (left y (noted_of (take k xs) p) p none) x is ne
 
--- what is noted is in the first pair that names the process
+-- the note of a process is the first pair that names it
 pub noted_here : (xs : List (ℕ × ℕ)) (k p i : ℕ) → noted_of (take k xs) p ≡ None → slice_get xs k ≡ Some (p, i) → noted_of xs p ≡ Some i
 noted_here [] k p i none is = (let x : ℕ × ℕ = (p, i) in let clash : None ≡ Some x = is in cc)
 noted_here (y ∷ xs) zero p i none is = (let same : y ≡ (p, i) = cc in cond_same y.0 p (Some y.1) (noted_of xs p) (ap (λ (z : ℕ × ℕ). z.0) same) ∙ ap (λ (z : ℕ × ℕ). Some z.1) same)

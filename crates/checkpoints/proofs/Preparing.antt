@@ -28,7 +28,7 @@ module _ (kind : ModelKind) (budget : ℕ) (events : List (ℕ × Event)) (index
         (noted_others index p event.kind (noted_of live.invocations) (noted_of after.invocations) noted) (noted_as index p event.kind (noted_of live.invocations) (noted_of after.invocations) noted);
   }
 
-  -- what is prepared is the event
+  -- the event is prepared
   pub will_be_live : after.closes ≡ closed_by p event.kind → (any_view_of after.frontier).will_stand (marks (entries_of (events ++ (index, event) ∷ []))) → WillBeLive kind budget (events ++ (index, event) ∷ []) after
   will_be_live closes stands = record {
     stands = stands;

@@ -11,7 +11,7 @@ use Rattle.checkpoints.specs.declared.key_state.KeyState.{KeyState}
 use Rattle.checkpoints.specs.KeyState.{IsKeyState}
 use Rattle.checkpoints.specs.Saved.{AreSaved}
 
--- what holds whatever came of it holds where it went well
+-- a fact about any result holds for a good one
 pub always : {T E P : Type 0} (result : Result T E) → P → OnOk result P
 always (Ok x) p = p
 always (Err e) p = tt
@@ -59,7 +59,7 @@ module _ (kind : ModelKind) (budget : ℕ) where
         subst (IsKeyState kind budget (take (64 * count) events)) (sym is)
         (subst (λ n. IsKeyState kind budget (take n events) (slice_index_or saved (count - 1) d)) more (are.each (count - 1) d (omega arith)))
 
-    -- the saved states of the first so many events
+    -- the saved states of the first k events
     pub AreSaved-take : (k : ℕ) → k ≤ length events → AreSaved kind budget (take k events) (take (k / 64) saved)
     AreSaved-take k le =
         let within : 64 * length saved ≤ length events = are.within in

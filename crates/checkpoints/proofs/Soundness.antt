@@ -1,4 +1,4 @@
--- what a line keeps where its prepared change is carried out, dropped or replaced
+-- the invariant of a line if its prepared change is carried out, dropped or replaced
 use Rattle.std.proofs.Common.{◌≡◌, ℕ, ◌/◌, ◌<◌, ◌≤◌, Option, Some, None, option_map, List, [], ◌∷◌, ◌++◌, length, take, sym, ap, ◌∙◌, subst, arith}
 use Rattle.std.proofs.lemmas.List.{take_all, take-map, map-append}
 use Rattle.std.specs.declared.boxed.Box.{Box}
@@ -29,11 +29,11 @@ use Rattle.checkpoints.proofs.Judging.{status_is}
 use Rattle.checkpoints.proofs.Cutting.{IsHistory-take, length-places}
 use Rattle.checkpoints.proofs.SavedStates.{AreSaved-take}
 
--- the status of a state is that of what it was judged by
+-- the status of a state is that of the events that it was judged by
 pub status_right : (kind : ModelKind) (budget : ℕ) (events : List (ℕ × Event)) (state : KeyState) → IsKeyState kind budget events state → (s : KeyStatus) → s ≡ status_of state → IsKeyStatus kind budget (entries_of events) s
 status_right kind budget events state stands s is = subst (IsKeyStatus kind budget (entries_of events)) (sym is) (status_is kind budget events state stands)
 
--- the status of what a state becomes is that of what it is judged by then
+-- the status of a state after a change is that of the events that it is judged by then
 pub next_right : (kind : ModelKind) (budget : ℕ) (events : List (ℕ × Event)) (state : KeyState) (next : Next) → IsNext kind budget events state next → (s : KeyStatus) → s ≡ status_by state next → IsKeyStatus kind budget (entries_of events) s
 next_right kind budget events state Stays is s eq = status_right kind budget events state is s eq
 next_right kind budget events (Alive live) Goes is s eq = subst (IsKeyStatus kind budget (entries_of events)) (sym eq) is.0
@@ -57,7 +57,7 @@ module _ (kind : ModelKind) (budget : ℕ) (events : List (ℕ × Event)) (place
   pushed x standing next new_saved history stands are =
       record { history = history; places_are = all_and events places now.places_are x; stands = stands; saved_are = are }
 
-  -- the first so many events are kept
+  -- the first k events are kept
   pub cut_brought : (k : ℕ) → k ≤ length places → (next : Next) → IsNext kind budget (take k events) state next → IsBrought kind budget (take k events) (take k places) state next (take (k / 64) saved)
   cut_brought k le next stands = record {
     history = IsHistory-take k events now.history;
@@ -78,11 +78,11 @@ module _ (kind : ModelKind) (budget : ℕ) (events : List (ℕ × Event)) (place
         saved_are = subst (λ l. AreSaved other new_budget l new_saved) (sym same) are;
       }
 
-  -- the key stands for the first so many, where these are all
+  -- the key stands for the first k events if these are all
   pub all_stand : (k : ℕ) → length places ≤ k → IsKeyState kind budget (take k events) state
   all_stand k le = subst (λ l. IsKeyState kind budget l state) (sym (take_all k events (omega (arith, many_places)))) now.stands
 
--- a fact of the fields is one of what a caller sees
+-- a fact of the fields is a fact that a caller sees
 abbrev pub history_of : ModelKind → ℕ → List (ℕ × Event) → KeyHistory
 history_of kind budget events = record { kind = kind; budget = budget; events = events }
 

@@ -44,7 +44,7 @@ IsLinearizable-empty o = (
 pub AreWellFormed-front : (front entries : List Entry) → IsFront front entries → AreWellFormed (marks entries) → AreWellFormed (marks front)
 AreWellFormed-front front entries is well before after m cut = well before (after ++ marks is.0) m (sym (append_assoc before (m ∷ after) (marks is.0)) ∙ ap (λ l. l ++ marks is.0) cut ∙ sym (marks-append front is.0) ∙ ap marks is.1)
 
--- a front of the entries with one more is all of them, or a front of the entries
+-- a prefix of the entries with one more is all of them, or a prefix of the entries
 front_cases : (entries : List Entry) (e : Entry) (front : List Entry) → IsFront front (entries ++ e ∷ []) → (front ≡ entries ++ e ∷ []) ⊎ IsFront front entries
 front_cases entries e front is =
     ⊎_elim
@@ -98,7 +98,7 @@ module _ (more : Count) (o : Object) (budget : ℕ) (entries : List Entry) (e : 
     many = b.many;
   }
 
-  -- the last entry is no ok that finds more than the budget
+  -- the last entry is not an ok that finds more than the budget
   abbrev pub IsNotBlownHere : Type 0
   IsNotBlownHere = (id : ℕ) (answer : Answer) → e.mark ≡ Returned id answer → ¬ more (marks entries) budget
 
@@ -112,7 +112,7 @@ module _ (more : Count) (o : Object) (budget : ℕ) (entries : List Entry) (e : 
     least = λ j b. ⊎_elim (λ c. absurd (before j c)) (λ c. (let q : e.index ≡ j = c.0 in omega arith)) (blown_cases j b);
   }
 
-  -- what is over stays over, since the index rises
+  -- a key over budget stays so, since the index rises
   pub over_stays : (i : ℕ) → IsRising (entries ++ e ∷ []) → IsBlownIndexBy more budget entries i → IsBlownIndexBy more budget (entries ++ e ∷ []) i
   over_stays i rising over = record {
     blown = blown_before i over.blown;
@@ -144,7 +144,7 @@ module _ (more : Count) (o : Object) (budget : ℕ) (entries : List Entry) (e : 
     λ front is. ⊎_elim (λ q. subst (λ l. IsLinearizable o (marks l)) (sym q) all) (fronts front) (front_cases entries e front is),
   )
 
-  -- what is dead stays dead: with no legal order nothing is counted, so the budget is not blown later
+  -- a dead key stays dead: with no legal order nothing is counted, so its budget is not exceeded later
   pub dead_stays : (last : Entry) → ((before : List Mark) → more before budget → IsLinearizable o before) → AreWellFormed (marks (entries ++ e ∷ [])) → IsWithinBudgetBy more budget entries → EndsShortestBadFront o entries last → IsWithinBudgetBy more budget (entries ++ e ∷ []) × EndsShortestBadFront o (entries ++ e ∷ []) last
   dead_stays last some_order well before dead = (
     within before (λ id answer is many. dead.bad (IsLinearizable-front o (dead.before ++ last ∷ []) entries (AreWellFormed-front entries (entries ++ e ∷ []) (e ∷ [], refl) well) dead.front (some_order (marks entries) many))),

@@ -2,8 +2,8 @@
 use Rattle.std.specs.Prelude.{ℕ, ◌+◌, ◌-◌, ◌%◌, ◌^◌, min, if◌then◌else◌, Option, Some, None, length}
 use Rattle.linspec.specs.KeyHistory.{KeyHistory, events_below, loses_at}
 
--- what a line has, and what commit will bring, where a change is prepared; how many replays the committed changes took, and how
--- many the prepared one. A replay is one event that is given to what judges the key, for the first time or again
+-- the history of a line, and the one that commit will bring, if a change is prepared. Then the replays of the committed changes, and those
+-- of the prepared one. A replay is one event that the judge of the key gets, for the first time or again
 pub record KeyLineView : Type 0 where
   pub now : KeyHistory
   pub next : Option KeyHistory
@@ -13,7 +13,7 @@ pub record KeyLineView : Type 0 where
 abbrev pub at_rest : KeyHistory → ℕ → KeyLineView
 at_rest h replayed = record { now = h; next = None; replayed = replayed; prepared_replays = 0 }
 
--- this is prepared, and took so many replays
+-- this is prepared, and took n replays
 abbrev pub with_next : KeyHistory → ℕ → KeyLineView → KeyLineView
 with_next next due line =
     record { now = line.now; next = Some next; replayed = line.replayed; prepared_replays = due }

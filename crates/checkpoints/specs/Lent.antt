@@ -1,9 +1,9 @@
--- Promise: the events of a line, as they are lent to it
+-- Promise: the events of a line, as it borrows them
 use Rattle.std.specs.Prelude.{◌≡◌, ℕ, Some, List, map, slice_get}
 use Rattle.std.specs.List.{All}
 use Rattle.events.specs.declared.event.Event.{Event}
 
--- each of these events stands in what is lent, at its index
+-- each of these events is in the borrowed list, at its index
 abbrev pub AreLentBy : List Event → List (ℕ × Event) → Type 0
 AreLentBy lent events = All (λ x. slice_get lent x.0 ≡ Some x.1) events
 
@@ -11,7 +11,7 @@ AreLentBy lent events = All (λ x. slice_get lent x.0 ≡ Some x.1) events
 abbrev pub places_of : List (ℕ × Event) → List ℕ
 places_of events = map (λ x. x.0) events
 
--- these are the events at these places of what is lent
+-- these are the events at these places of the borrowed list
 pub record AreAt (lent : List Event) (places : List ℕ) (events : List (ℕ × Event)) : Type 0 where
   pub places_are : places ≡ places_of events
   pub are_lent : AreLentBy lent events

@@ -1,4 +1,4 @@
--- Invariant: what a key that is alive keeps of its events
+-- Invariant: the facts that a key that is alive keeps of its events
 use Rattle.std.specs.Prelude.{◌≡◌, ℕ, Option, Some, None, List, [], ◌∷◌}
 use Rattle.models.specs.declared.model_kind.ModelKind.{ModelKind}
 use Rattle.events.specs.declared.event.EventKind.{EventKind}
@@ -38,8 +38,8 @@ pub record IsLiveKey (kind : ModelKind) (budget : ℕ) (events : List (ℕ × Ev
   pub budget_is : (any_view_of live.frontier).budget ≡ budget
   pub knows : KnowsOpen events live
 
--- once what is prepared is carried out, the frontier will stand for the events, and what is open after
--- them is known. The process that is closed then has no open operation
+-- after the prepared change is carried out, the frontier will stand for the events, and the key knows the operations that are open after
+-- them. The process that is closed then has no open operation
 pub record WillBeLive (kind : ModelKind) (budget : ℕ) (events : List (ℕ × Event)) (live : LiveKey)
     : Type 0 where
   pub stands : (any_view_of live.frontier).will_stand (marks (entries_of events))
@@ -48,7 +48,7 @@ pub record WillBeLive (kind : ModelKind) (budget : ℕ) (events : List (ℕ × E
   pub knows : KnowsOpen events live
   pub closed : (p : ℕ) → live.closes ≡ Some p → busy_of events p ≡ None
 
--- the operation that an event is of, where this one was open
+-- the operation that an event is of, if this one was open
 abbrev pub id_by : ℕ → EventKind → Option ℕ → Option ℕ
 id_by index Invoke was = Some index
 id_by index Ok was = was

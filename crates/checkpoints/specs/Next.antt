@@ -1,4 +1,4 @@
--- Invariant: what becomes of a key by a change that is prepared
+-- Invariant: the effect of a prepared change on a key
 use Rattle.std.specs.Prelude.{ℕ, List}
 use Rattle.models.specs.declared.model_kind.ModelKind.{ModelKind}
 use Rattle.events.specs.declared.event.Event.{Event}
@@ -18,7 +18,7 @@ GoesOn kind budget events (Alive live) =
 GoesOn kind budget events (Dead i) = ⊥
 GoesOn kind budget events (Over i) = ⊥
 
--- where this becomes of a key whose state is this one now, its state then is right for the events
+-- if a key with this state changes so, its next state is right for the events
 abbrev pub IsNext : ModelKind → ℕ → List (ℕ × Event) → KeyState → Next → Type 0
 IsNext kind budget events state Stays = IsKeyState kind budget events state
 IsNext kind budget events state Goes = GoesOn kind budget events state
@@ -26,7 +26,7 @@ IsNext kind budget events state (Dies i) = IsKeyState kind budget events (Dead i
 IsNext kind budget events state (Blows i) = IsKeyState kind budget events (Over i)
 IsNext kind budget events state (Becomes other) = IsKeyState kind budget events other.value
 
--- what is known of the key then. A key that goes on is alive now and then
+-- the status of the key then. A key that goes on is alive now and then
 abbrev pub status_by : KeyState → Next → KeyStatus
 status_by state Stays = status_of state
 status_by state Goes = status_of state

@@ -51,7 +51,7 @@ impl Invocations {
         }
     }
 
-    /// Notes the index for the process, in place of the one that was noted. `AllocError` where there is no memory for it: then
+    /// Notes the index for the process, in place of the one that was noted. `AllocError` if there is no memory for it: then
     /// all is as it was.
     #[tactic(auto, using(crate::proofs::Noted::noted_set))]
     pub(crate) fn note(&mut self, process: u32, index: u32) -> Result<(), AllocError>

@@ -39,9 +39,9 @@ struct Change {
     kept: usize,
     /// All events that the line then has: for proofs alone, no byte of memory.
     told: Told,
-    /// What becomes of the key.
+    /// The next state of the key.
     next: Next,
-    /// What becomes of the saved states.
+    /// The change of the saved states.
     saves: Saves,
     /// So many events were judged again for it.
     replays: u64,
@@ -49,18 +49,18 @@ struct Change {
 
 /// Where the events of one key stand, in the order in which they came, and what is known of the key. It is alive while every
 /// beginning of the events is linearizable (Herlihy and Wing 1990, section 2); else it is dead at the event that ends the
-/// shortest beginning that is not. Where an ok finds more ends than the budget just before it, the key is over at that ok,
+/// shortest beginning that is not. If an ok finds more ends than the budget just before it, the key is over at that ok,
 /// whatever else is known of it (this project's own).
 ///
 /// A line is that of one key because it is given that key's events alone; it looks at no key itself. It has no event of its
-/// own, but where each one stands in the whole history, in 4 bytes. Whoever has it judge events again lends it that history.
+/// own, but if each one stands in the whole history, in 4 bytes. Whoever has it judge events again lends it that history.
 ///
-/// Before the event that follows a 64th one it saves a copy of the ends, with the status, to go back to where events are cut. A
-/// key that is dead or over has no ends, and then the status alone is saved. So beside the places of its events a line takes
-/// the memory of its ends once for each 64 events: at 2^20 events 16,384 times, which is 1 GiB where a copy takes 64 KiB.
+/// Before the event that follows a 64th one it saves a copy of the ends, with the status, to go back to where events are cut. A key that is
+/// dead or over has no ends, and then the status alone is saved. So in addition to the places of its events a line takes the memory of its
+/// ends once for each 64 events. At 2^20 events that is 16,384 times, which is 1 GiB if a copy takes 64 KiB.
 ///
-/// Each change is prepared, which may fail and changes nothing but what is prepared, and then committed. What was prepared
-/// before is dropped. An event is prepared on the ends themselves, so no copy of them is made for it.
+/// Each change is prepared, which may fail and changes nothing but what is prepared, and then committed. A change that was prepared before
+/// is dropped. An event is prepared on the ends themselves, so no copy of them is made for it.
 pub struct KeyLine {
     alloc: Global,
     kind: ModelKind,
@@ -130,14 +130,14 @@ impl KeyLine {
         })
     }
 
-    /// Prepares to append this event, and gives the status that [`commit`](Self::commit) will bring. The index is the
-    /// event's place in the whole history. It takes the time of what the event does to the ends of the events so far, which
-    /// [`AnyFrontier::prepare`](frontier::AnyFrontier::prepare) tells, and copies none of them, but for the event that follows
-    /// a 64th one, before which a copy is saved. It is one replay.
+    /// Prepares to append this event, and gives the status that [`commit`](Self::commit) will bring. The index is the event's place in the
+    /// whole history. It costs what the event does to the ends of the events so far
+    /// ([`AnyFrontier::prepare`](frontier::AnyFrontier::prepare)). It copies no ends, except before the event that follows a 64th one, when
+    /// it saves a copy. It is one replay.
     ///
     /// # Errors
     ///
-    /// `AllocError` where memory was refused: then nothing is prepared, and the rest is as it was.
+    /// `AllocError` if memory was refused: then nothing is prepared, and the rest is as it was.
     #[inline(always)]
     pub fn prepare_push(&mut self, index: u32, event: &Event) -> Result<KeyStatus, AllocError>
         requires { IsHistory (self.old.now.events ++ (index, event.now) ∷ []) }
@@ -156,14 +156,13 @@ impl KeyLine {
         Ok(status)
     }
 
-    /// Prepares to keep the events whose index is below `n` alone, and gives the status that [`commit`](Self::commit) will
-    /// bring. The whole history is lent. It takes the time of a copy of the ends that were saved after the last 64th event that
-    /// stays, and of fewer than 64 replays: of the events behind it, each given to that copy. Where it takes no event away, it
-    /// makes none, and copies no end.
+    /// Prepares to keep the events whose index is below `n` alone, and gives the status that [`commit`](Self::commit) will bring. `lent` is
+    /// the whole history. It costs a copy of the ends that were saved after the last 64th event that stays, and fewer than 64 replays: of
+    /// the events behind it, each given to that copy. If it takes no event away, it makes none, and copies no end.
     ///
     /// # Errors
     ///
-    /// `AllocError` where memory was refused: then nothing is prepared, and the rest is as it was.
+    /// `AllocError` if memory was refused: then nothing is prepared, and the rest is as it was.
     pub fn prepare_cut(&mut self, n: u32, lent: &[Event]) -> Result<KeyStatus, AllocError>
         requires { AreLentBy lent.now self.old.now.events }
         ensures status { IfOk result (IsStatusOf (cut_at n self.old.now)) }
@@ -204,14 +203,13 @@ impl KeyLine {
         Ok(status)
     }
 
-    /// Prepares to judge the same events by another kind of object and another budget, and gives the status that
-    /// [`commit`](Self::commit) will bring. The whole history is lent. It takes the time of the line's events, each given to a
-    /// fresh frontier, which is one replay each; a copy of the ends is saved after each 64th that others follow. What was saved
-    /// before goes.
+    /// Prepares to judge the same events by another kind of object and another budget, and gives the status that [`commit`](Self::commit)
+    /// will bring. `lent` is the whole history. It costs O(the line's events), each given to a fresh frontier, which is one replay each. A
+    /// copy of the ends is saved after each 64th that others follow. States that were saved before are removed.
     ///
     /// # Errors
     ///
-    /// `AllocError` where memory was refused: then nothing is prepared, and the rest is as it was.
+    /// `AllocError` if memory was refused: then nothing is prepared, and the rest is as it was.
     pub fn prepare_rebuild(
         &mut self,
         kind: ModelKind,
@@ -299,7 +297,7 @@ impl KeyLine {
     ///
     /// # Errors
     ///
-    /// `AllocError` where memory was refused: then nothing is prepared, and the rest is as it was.
+    /// `AllocError` if memory was refused: then nothing is prepared, and the rest is as it was.
     pub fn push(&mut self, index: u32, event: &Event) -> Result<(), AllocError>
         requires { IsHistory (self.old.now.events ++ (index, event.now) ∷ []) }
         ensures ok { OnOk result (self.new
@@ -316,7 +314,7 @@ impl KeyLine {
     ///
     /// # Errors
     ///
-    /// `AllocError` where memory was refused: then nothing is prepared, and the rest is as it was.
+    /// `AllocError` if memory was refused: then nothing is prepared, and the rest is as it was.
     pub fn cut(&mut self, n: u32, lent: &[Event]) -> Result<(), AllocError>
         requires { AreLentBy lent.now self.old.now.events }
         ensures ok { OnOk result (self.new ≡ at_rest (cut_at n self.old.now)
@@ -333,7 +331,7 @@ impl KeyLine {
     ///
     /// # Errors
     ///
-    /// `AllocError` where memory was refused: then nothing is prepared, and the rest is as it was.
+    /// `AllocError` if memory was refused: then nothing is prepared, and the rest is as it was.
     pub fn rebuild(
         &mut self,
         kind: ModelKind,
@@ -350,15 +348,15 @@ impl KeyLine {
         Ok(())
     }
 
-    /// What is known of the key.
+    /// The status of the key.
     pub fn status(&self) -> KeyStatus
         ensures { IsStatusOf self.now.now result }
     {
         self.state.status()
     }
 
-    /// How many events the committed changes gave to what judges the key: one for each event that was pushed, and one for each that a
-    /// cut or a rebuild gave again. It stops at the greatest `u64`.
+    /// How many events the committed changes gave to the judge of the key: one for each event that was pushed, and one for each that a cut
+    /// or a rebuild gave again. It stops at the greatest `u64`.
     pub fn replayed(&self) -> u64
         ensures { result ≡ self.now.replayed }
     {
@@ -366,7 +364,7 @@ impl KeyLine {
         count
     }
 
-    /// How many replays the prepared change took, which [`commit`](Self::commit) adds to those of the changes before; and 0 where
+    /// How many replays the prepared change took, which [`commit`](Self::commit) adds to those of the changes before; and 0 if
     /// none is prepared.
     pub fn prepared_replays(&self) -> u64
         ensures { result ≡ self.now.prepared_replays }
@@ -407,7 +405,7 @@ fn clear(prepared: &mut Option<Prepared>)
     *prepared = None;
 }
 
-// Keeps the change until it is carried out; what was prepared before is dropped. A function of its own, as `clear`.
+// Keeps the change until it is carried out, and drops a change that was prepared before. A function of its own, as `clear`.
 fn keep(prepared: &mut Option<Prepared>, change: Prepared)
     ensures { prepared.new ≡ Some change }
 {

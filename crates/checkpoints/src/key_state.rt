@@ -32,7 +32,7 @@ impl KeyState {
         Ok(KeyState::Alive(live))
     }
 
-    /// What is known of the key.
+    /// The status of the key.
     pub(crate) fn status(&self) -> KeyStatus
         ensures { result ≡ status_of self.now }
     {

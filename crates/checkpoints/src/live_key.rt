@@ -17,7 +17,7 @@ use linspec::laws::never_kills_law;
 use models::ModelKind;
 use std::alloc::{AllocError, Global};
 
-/// The ends of the events so far, and for each process with an open operation the index of its invocation. Where one more
+/// The ends of the events so far, and for each process with an open operation the index of its invocation. If one more
 /// event is prepared, the frontier has it, and `closes` is the process that it leaves with no open operation, if it does.
 #[derive(Drop)]
 pub(crate) struct LiveKey {

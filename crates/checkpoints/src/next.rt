@@ -1,11 +1,11 @@
-//! What becomes of a key by a change that is prepared.
+//! The next state of a key by a prepared change.
 ghost use Rattle.std.specs.Prelude.{◌≡◌};
 ghost use Rattle.checkpoints.specs.Next.{status_by};
 
 use crate::key_state::KeyState;
 use linspec::KeyStatus;
 
-/// What becomes of a key's state where the change is carried out.
+/// The next state of a key when the change is carried out.
 #[derive(Drop)]
 pub(crate) enum Next {
     /// The key stands as it stood: it is dead or over, the event is of no operation, or a cut takes no event away.
@@ -21,7 +21,7 @@ pub(crate) enum Next {
 }
 
 impl Next {
-    /// What will be known of the key that stands so now.
+    /// The next status of a key with this state.
     pub(crate) fn status(&self, state: &KeyState) -> KeyStatus
         ensures { result ≡ status_by state.now self.now }
     {

@@ -16,10 +16,10 @@ use events::Event;
 use models::ModelKind;
 use std::alloc::{AllocError, Global};
 
-// After so many events of a key its state is saved again.
+// The number of events of a key after which its state is saved again.
 const EVERY: usize = 64;
 
-/// What becomes of the saved states.
+/// The change of the saved states.
 #[derive(Drop)]
 pub(crate) enum Saves {
     /// Those of the events that stay are kept.
@@ -28,7 +28,7 @@ pub(crate) enum Saves {
     Anew(Vec<KeyState>),
 }
 
-/// Carries out what becomes of the saved states, where so many events are kept.
+/// Carries out the change of the saved states when `kept` events are kept.
 pub(crate) fn keep_or_renew(saved: &mut Vec<KeyState>, kept: usize, saves: Saves)
     ensures { saved.new.items ≡ saved_by kept saves saved.old.items }
 {
@@ -38,8 +38,8 @@ pub(crate) fn keep_or_renew(saved: &mut Vec<KeyState>, kept: usize, saves: Saves
     }
 }
 
-/// Prepares one more event of a key that has so many, and says what becomes of the key. Where these are a multiple of 64, a copy
-/// of how the key stands after them is saved first, unless there is one. The event is prepared on the key itself.
+/// Prepares one more event of a key, and returns its next state. If these are a multiple of 64, a copy of how the key stands after them is
+/// saved first, unless there is one. The event is prepared on the key itself.
 pub(crate) fn prepare_event(
     state: &mut KeyState,
     saved: &mut Vec<KeyState>,
@@ -68,8 +68,8 @@ pub(crate) fn prepare_event(
     state.prepare(index, event)
 }
 
-// Saves a copy of the state after so many events where one is missing: there is to be one for each 64 events. All that is to be
-// saved of these events is then saved, whatever event follows.
+// Saves a copy of the state if one is due after these events and missing: there is one for each 64 events. All states that these events
+// need are then saved, whatever event follows.
 fn save_if_due(
     saved: &mut Vec<KeyState>,
     state: &KeyState,
@@ -91,8 +91,7 @@ fn save_if_due(
     Ok(())
 }
 
-/// How the key stands after the events at these places, judged from the first on, with what is saved of it. Each event is
-/// counted.
+/// The state of the key after the events at these places, judged from the first on, with its saved copies. Each event is counted.
 pub(crate) fn judged_anew(
     alloc: Global,
     kind: ModelKind,
@@ -125,7 +124,7 @@ pub(crate) fn judged_anew(
     Ok((state, saved))
 }
 
-// The state after 64 times so many events: a saved one, or that without events.
+// The state after 64 n events: a saved one, or that without events.
 fn state_at(
     alloc: Global,
     kind: ModelKind,

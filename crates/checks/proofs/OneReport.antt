@@ -91,7 +91,7 @@ taken_or_admitted (more v vs) old m n a b =
     let same : a.0 ≡ b.0 = (one_more old a.0 a.1.0 a.1.1 a.1.3).1 ∙ ap (λ (x : Event). appended x old) event ∙ sym b.1.3 in
     taken_or_admitted vs b.0 m n (subst (λ (w : Machine). TakesAll w vs m) same a.2) b.2
 
--- an element that is refused is not admitted, and is refused for one reason
+-- a refused element is not admitted, and has one reason
 refused_or_admitted : (m mid : Machine) (v : Value) (why : Refusal) → RefusesElement m v why → AdmitsElement m v mid → ⊥
 refused_or_admitted m mid v why refuses admits = ⊎_elim
     (λ none. none.1 admits.0 admits.1)
@@ -148,7 +148,7 @@ refused_once setup bytes i j why other a b =
     let found = one_first a.taken b.taken a.next b.next a.later b.later (opening setup) a.machine b.machine why other text a.admits b.admits a.refuses b.refuses in
     (sym a.counted ∙ found.0 ∙ b.counted, found.1)
 
--- what is no element's refusal comes alone
+-- a refusal of another kind than an element's comes alone
 no_text_refused : (bytes : List ℕ) (values : Values) (why : Refusal) → IsText bytes values → IsOfBytes (Refused why) → IsWhy bytes why → ⊥
 no_text_refused bytes values (Unreadable place) text is why = why.0 values text
 no_text_refused bytes values NoMemory text is why = is

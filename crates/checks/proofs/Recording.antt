@@ -42,7 +42,7 @@ pub if_err_so : {X E : Type 0} {P Q : E → Type 0} (r : Result X E) → ((e : E
 if_err_so (Ok x) so p = tt
 if_err_so (Err e) so p = so e p
 
--- the lines of want of memory and of a reader that failed, spelled out
+-- the lines of out of memory and of a reader that failed, spelled out
 thirteen : decimal 13 ≡ 49 ∷ 51 ∷ []
 thirteen = decimal-digits_of 13 (omega arith) (omega arith)
 
@@ -56,7 +56,7 @@ pub read_failed_line : (bytes : List ℕ) → bytes ≡ codes "refused 20 ReadFa
 read_failed_line bytes is = is ∙ ap (λ d. line_of (codes "refused " ∷ d ∷ codes " " ∷ codes "ReadFailed" ∷ [] ∷ [])) (sym twenty)
 
 module _ (before after : Option (List ℕ)) (write_failed is_flushed : Bool) (status : ℕ) where
-  -- the line of a refusal was written, or that of want of memory
+  -- the line of a refusal was written, or that of out of memory
   pub put_line : (why : Refusal) → why ≢ ReadFailed → (line : Result (String Global) AllocError) → IfOk line (λ text. string_bytes text ≡ refusal_line why) → IsPut (line_or_no_memory line) 3 before after write_failed is_flushed status
       → (told : Refusal) × ((told ≡ why) ⊎ ((told ≡ NoMemory) × (why ≢ ReadFailed))) × IsPut (refusal_line told) 3 before after write_failed is_flushed status
   put_line why other (Ok text) is put = (why, inl refl, subst (λ l. IsPut l 3 before after write_failed is_flushed status) is put)
@@ -70,27 +70,27 @@ module _ (before after : Option (List ℕ)) (write_failed is_flushed : Bool) (st
     put,
   )
 
-  -- the line of an event that is refused was written, or that of want of memory
+  -- the line of a refused event was written, or that of out of memory
   pub told_event : (i : ℕ) (why : Refusal) (line : Result (String Global) AllocError) → IfOk line (λ text. string_bytes text ≡ event_line i why) → IsPut (line_or_no_memory line) 3 before after write_failed is_flushed status
       → (x : Findings) × StandsFor x (RefusedEvent i why) × IsTold x before after write_failed is_flushed status
   told_event i why (Ok text) is put = (RefusedEvent i why, inl refl, subst (λ l. IsPut l 3 before after write_failed is_flushed status) is put)
   told_event i why (Err e) is put = (Refused NoMemory, inr (refl, λ e. cc), put)
 
--- what is found where all was taken is what the bytes come to
+-- the finding if all was taken is that of the bytes
 pub all_taken : (setup : Setup) → IsSetup setup → (bytes : List ℕ) (end : Machine) → IsTaken setup bytes end → (found : Findings) → Finds end found → ComesTo setup bytes found
 all_taken setup opens bytes end is (Judged verdict text) finds = (opens, (end, is, finds))
 all_taken setup opens bytes end is (RefusedEvent i why) finds = absurd finds
 all_taken setup opens bytes end is (Refused why) finds = subst (λ w. ComesTo setup bytes (Refused w)) (sym finds) (inl (opens, tt))
 
--- what a loaded monitor judges
+-- the judged history of a loaded monitor
 pub loaded_now : (monitor : MonitorView) (c : ℕ) (kind : ModelKind) (budget : ℕ) (events : List Event) → monitor ≡ at_rest (with_events events (opening_of c kind budget)) 0 → monitor.now ≡ with_all c kind budget events
 loaded_now monitor c kind budget events is = ap (λ m. m.now) is ∙ events_in_turn events (opening_of c kind budget)
 
--- the reader has not failed, where it is not said that it has
+-- the reader has not failed, if it is not said that it has
 unfailed : (setup : Setup) (left : Option (List ℕ)) (read_failed : Bool) (input : List ℕ) (findings : Findings) → IsFound setup input left read_failed findings → findings ≢ Refused ReadFailed → read_failed ≡ false
 unfailed setup left read_failed input findings found other = ⊎_elim (λ a. a.1) (λ b. ⊎_elim (λ failed. absurd (other failed.0)) (λ memory. memory.1) b) found
 
--- what was told is what was found, or want of memory
+-- the written findings are those that were found, or out of memory
 pub checks : (setup : Setup) (left left' : Option (List ℕ)) (read_failed : Bool) (before after : Option (List ℕ)) (write_failed is_flushed : Bool) (status : ℕ) (input : List ℕ) → Consumes left left' input
     → (findings : Findings) → IsFound setup input left' read_failed findings → (told : Findings) → StandsFor told findings → IsTold told before after write_failed is_flushed status
     → Checks setup left left' read_failed before after write_failed is_flushed status
@@ -113,7 +113,7 @@ pub checks_none : (setup : Setup) (held before after : Option (List ℕ)) (write
     → Checks setup held held true before after write_failed is_flushed status
 checks_none setup held before after write_failed is_flushed status told which tells = checks setup held held true before after write_failed is_flushed status [] (reads_none held) (Refused ReadFailed) (inr (inl (refl, refl))) told which tells
 
--- what is read of a file that was opened is what it holds, where that is known
+-- the read bytes of an opened file are those that it holds, if that is known
 pub consumes_held : (held left left' : Option (List ℕ)) (input : List ℕ) → IfSome held (λ bytes. left ≡ Some bytes) → Consumes left left' input → Consumes held left' input
 consumes_held None left left' input is read = tt
 consumes_held (Some bytes) left left' input is read = subst (λ l. Consumes l left' input) is read
@@ -151,12 +151,12 @@ read_up_to bytes values text pushed v left behind c old events pushes i counted 
       refuses = refuses;
     }
 
--- but for want of memory an event is refused by a test
+-- a test refuses an event, unless memory ran out
 pub declined : (c : ℕ) (events : List Event) (e : Event) (why : Refusal) → MayRefuse c events e why → why ≢ NoMemory → Refuses c events e why
 declined c events e NoMemory h other = absurd (other refl)
 declined c events e _ h other = h
 
--- what is pushed comes behind what was there
+-- the pushed events come behind the old ones
 pushed_behind : (c : ℕ) (old : List Event) (vs : Values) (new : List Event) → PushesAll c old vs new → (events : List Event) × (new ≡ old ++ events)
 pushed_behind c old none new same = ([], same ∙ sym (append-nil old))
 pushed_behind c old (more v vs) new all =
@@ -210,7 +210,7 @@ module _ (setup : Setup) (whole : List Event) (verdicts : (n : ℕ) → (v : Ver
   pub taken : (bytes : List ℕ) (values : Values) → IsText bytes values → PushesAll setup.concurrency [] values whole → IsTaken setup bytes (machine_with setup whole)
   taken bytes values text pushes = record { values = values; text = text; takes = taken_from [] values pushes }
 
--- what is found of a whole history that was read of the bytes is what they come to
+-- the finding for a whole history that was read from the bytes is that of the bytes
 pub whole_comes_to : (setup : Setup) → IsSetup setup → (bytes : List ℕ) (events : List Event) → IsRead bytes setup.concurrency [] events None → (r : Result Findings Refusal)
     → ((end : Machine) → end.judged ≡ with_all setup.concurrency setup.kind setup.budget events → IfOk r (Finds end))
     → OnOk r ((n : ℕ) → (v : Verdict) × IsVerdictOn (rewound n (with_all setup.concurrency setup.kind setup.budget events)) v) → IfOk r (ComesTo setup bytes)

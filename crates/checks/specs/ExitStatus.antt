@@ -1,4 +1,4 @@
--- Promise: what the program ends with
+-- Promise: the exit status of the program
 use Rattle.std.specs.Prelude.{ℕ}
 use Rattle.linspec.specs.declared.verdict.Verdict.{Verdict}
 use Rattle.linspec.specs.declared.verdict.Verdict.TheVariants.{Legal, Illegal, Unknown}

@@ -35,7 +35,7 @@ abbrev pub PushesAll : ℕ → List Event → Values → List Event → Type 0
 PushesAll c old none new = new ≡ old
 PushesAll c old (more v vs) new = (mid : List Event) × PushesElement c old v mid × PushesAll c mid vs new
 
--- the bytes are a text, of which the first i elements were pushed, and the next one is refused for this
+-- the bytes are a text; the first i elements were pushed, and the next one is refused for this
 pub record IsReadUpTo (bytes : List ℕ) (c : ℕ) (old new : List Event) (i : ℕ) (why : Refusal) : Type 0 where
   pub pushed : Values
   pub next : Value
@@ -45,7 +45,7 @@ pub record IsReadUpTo (bytes : List ℕ) (c : ℕ) (old new : List Event) (i : �
   pub pushes : PushesAll c old pushed new
   pub refuses : RefusesNext c new next why
 
--- the bytes are a text, of which all elements were pushed; or all before the first that is refused
+-- the bytes are a text; all elements were pushed, or all before the first that is refused
 abbrev pub IsRead : List ℕ → ℕ → List Event → List Event → Option (ℕ × Refusal) → Type 0
 IsRead bytes c old new None = (values : Values) × IsText bytes values × PushesAll c old values new
 IsRead bytes c old new (Some first) = IsReadUpTo bytes c old new first.0 first.1

@@ -1,5 +1,5 @@
--- Promise: what a recorded history comes to. Its elements are events, which the machine takes in turn, up to the first that it
--- refuses (this project's own)
+-- Promise: the findings about a recorded history. Its elements are events, which the machine takes in turn, up to the first that it refuses
+-- (this project's own)
 use Rattle.std.specs.Prelude.{◌≡◌, ℕ, List, [], ◌∷◌, ◌⊎◌, codes, decimal, Ok, Err}
 use Rattle.edn.specs.Value.{Value, Values, none, more, joined}
 use Rattle.edn.specs.Text.{IsText}
@@ -61,14 +61,14 @@ pub record IsTaken (setup : Setup) (bytes : List ℕ) (end : Machine) : Type 0 w
   pub text : IsText bytes values
   pub takes : TakesAll (opening setup) values end
 
--- what is found where this machine has taken all: the verdict and the report, from scratch; or memory ran out
+-- the findings if this machine has taken all: the verdict and the report, from scratch; or memory ran out
 abbrev pub Finds : Machine → Findings → Type 0
 Finds end (Judged verdict text) = IsVerdictOn end.judged verdict × IsReport end.judged text.items
 Finds end (RefusedEvent i why) = ⊥
 Finds end (Refused why) = why ≡ NoMemory
 
--- what the bytes come to. A setup that can't be opened is refused first; then bytes that are no text are, whatever their elements
--- are. Memory may run out
+-- the findings about the bytes. A setup that can't be opened is refused first; then invalid bytes are, whatever their elements are. Memory
+-- may run out
 abbrev pub ComesTo : Setup → List ℕ → Findings → Type 0
 ComesTo setup bytes (Judged verdict text) = IsSetup setup × ((end : Machine) × IsTaken setup bytes end × Finds end (Judged verdict text))
 ComesTo setup bytes (RefusedEvent i why) = IsSetup setup × IsRefusedAt setup bytes i why

@@ -19,14 +19,14 @@ use std::thread::Threads;
 
 /// Reads a recorded history to its end, judges it, writes what it comes to, and gives the exit status.
 ///
-/// That is the report, whose last line is that of the verdict; or one line: `refused NUMBER NAME event I`, where I elements
-/// were taken and the next one was refused, or `refused NUMBER NAME` for what is no element's refusal: `ReadFailed` where
-/// the reader has failed, and else what [`Config::check`] refuses, `Unreadable` with its place, `NoMemory`. It is flushed. The
-/// status is that of the verdict, else 3, and 3 too where the writer has failed.
+/// The text is the report, whose last line is that of the verdict; or it is one line. `refused NUMBER NAME event I` says that I elements
+/// were taken and the next one was refused. `refused NUMBER NAME` is for other refusals: `ReadFailed` if the reader has failed, and else
+/// those of [`Config::check`], `Unreadable` with its place, `NoMemory`. It is flushed. The status is that of the verdict, else 3, and 3 too
+/// if the writer has failed.
 ///
-/// The bytes are held once, and one element at a time. So many workers, 1 to 64, judge the keys, and what is written is the
-/// same by any number of them. It waits for the reader, the workers and the writer. The onlooker is told on the way how
-/// many events are taken, and when they are judged.
+/// The bytes are held once, and one element at a time. So many workers, 1 to 64, judge the keys, and what is written is the same by any
+/// number of them. It waits for the reader, the workers and the writer. The onlooker gets the number of accepted events on the way, and the
+/// moment when they are judged.
 pub fn check_text<
     X: Wait + Threads + Sync,
     R: Read + Failed,
@@ -59,9 +59,8 @@ pub fn check_text<
     tell(rt, alloc, &findings, writer)
 }
 
-/// Judges the recorded history in a file: [`check_text`] of what the file has, with the same status, cost and waiting. A
-/// file that can't be opened is told as `ReadFailed`, with status 3. The onlooker is told of each read, and of one that fails with
-/// the path.
+/// Judges the recorded history in a file: [`check_text`] of the file's bytes, with the same status, cost and waiting. A file that can't be
+/// opened is reported as `ReadFailed`, with status 3. The onlooker gets each read, and a failed one with the path.
 pub fn check_file<X: Wait + Threads + Opens + Sync, W: Write + Failed + Flushes, L: Onlooker>(
     rt: &X,
     alloc: Global,
@@ -94,7 +93,7 @@ pub fn check_file<X: Wait + Threads + Opens + Sync, W: Write + Failed + Flushes,
     }
 }
 
-/// A reader, at whose reads somebody looks on, who is told of one that fails by this name of what is read.
+/// A reader with an onlooker, who gets each failed read with this name of the input.
 #[derive(Drop)]
 pub struct SeenFile<'a, R, L> {
     pub file: R,
@@ -127,8 +126,8 @@ impl<'a, R: Read, L: Onlooker> Read for SeenFile<'a, R, L> {
     }
 }
 
-// Writes what was found, or the line of want of memory where there is none for it, flushes, and gives the exit status: 3 where
-// the writer has failed.
+// Writes the findings, or the line of out of memory if there is none for it, flushes, and gives the exit status: 3 if the writer has
+// failed.
 fn tell<X: Wait, W: Write + Failed + Flushes>(
     rt: &X,
     alloc: Global,

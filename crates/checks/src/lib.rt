@@ -1,10 +1,10 @@
 //! A recorded history, from its bytes to the text that says what it comes to: the report, or the line of a refusal.
 //!
-//! The bytes are read whole, and then element by element: one that is spelled plainly by `plain_events`, any other by `edn` and
-//! `events`. Each is pushed on a history, and the whole history is loaded into a monitor. How a text is written in the end, and
-//! with which exit status, is told here for `confirms` and `runs` too.
+//! The bytes are read whole, and then element by element: one that is spelled plainly by `plain_events`, any other by `edn` and `events`.
+//! Each is pushed on a history, and the whole history is loaded into a monitor. This crate also writes the final text and gives the exit
+//! status for `confirms` and `runs`.
 //!
-//! A call takes memory only where its result can be `AllocError`, or a refusal for want of memory.
+//! A call allocates only if its result can be `AllocError`, or a refusal because memory ran out.
 #![tactic(auto)]
 
 mod check;

@@ -7,13 +7,13 @@ use std::{fs, io};
 
 /// Opens files to read them, and says what a path stands for.
 ///
-/// A clause over what paths hold is said of any such system, of which the code that opens a file knows nothing else: so it can't
-/// be met by a file of another path. Of the system's own files nothing is known.
+/// A clause over the contents of paths holds for any such system. The code that opens a file knows nothing else of the system, so another
+/// file's content can't meet the clause. Nothing is known of the system's own files.
 pub trait Opens {
     /// A file that is read.
     type Opened: Read + Drop;
 
-    // What the file of this path holds, where it is known.
+    // The content of the file of this path, if it is known.
     ghost holds: { Self → List ℕ → Option (List ℕ) } = { λ _ _. None };
 
     /// Opens the file of this path to read it.

@@ -14,15 +14,15 @@ use onlookers::Onlooker;
 use plain_events::plain_event;
 use std::alloc::Global;
 
-/// Pushes the events that the elements of a text spell, in turn, up to the first that is refused: it is given where there is
-/// one, by how many were pushed before it, and why.
+/// Pushes the events that the elements of a text spell, in turn, up to the first that is refused. It returns this one, if there is one: the
+/// number of events before it, and the reason.
 ///
-/// The text is read once, also behind a refused element, since a place where it is no text comes first. One element is held at
-/// a time. The onlooker is told how many are pushed.
+/// The text is read once, also behind a refused element, since an unreadable place comes first. One element is held at a time. The onlooker
+/// gets the number of pushed events.
 ///
 /// # Errors
 ///
-/// `Unreadable` where the bytes are no text, with its place; `NoMemory` where memory is refused.
+/// `Unreadable` if the bytes are not a text, with its place; `NoMemory` if memory is refused.
 pub fn read_events<L: Onlooker>(
     alloc: Global,
     history: &mut History,
@@ -96,8 +96,8 @@ fn push_spelled(history: &mut History, spelled: Result<Event, Refusal>) -> Resul
     history.push(event)
 }
 
-// What is given where an element is refused for this and so many were pushed, once the rest of the text was read. Want of
-// memory is no element's.
+// The result if an element is refused for this reason after `pushed` events, once the rest of the text was read. Out of memory is never the
+// refusal of an element.
 fn refused_at(
     alloc: Global,
     elements: Elements,

@@ -22,25 +22,24 @@ use std::alloc::{AllocError, Global};
 use std::mem::forget;
 use std::thread::Threads;
 
-/// What a recorded history comes to.
+/// The findings about a recorded history.
 #[derive(Drop)]
 pub enum Findings {
     /// Every element was taken: the verdict on all events, and the report.
     Judged(Verdict, Vec<u8>),
     /// So many elements were taken, and the next one was refused.
     RefusedEvent(usize, Refusal),
-    /// What is no element's refusal.
+    /// A refusal of another kind than an element's.
     Refused(Refusal),
 }
 
-/// Judges a text whose elements are events, in turn, up to the first that is refused. What [`Config::check`] refuses is
-/// found before anything is read.
+/// Judges a text whose elements are events, in turn, up to the first that is refused. The refusals of [`Config::check`] come before
+/// anything is read.
 ///
-/// Where the bytes are no text, that is what is found, even if an element before that place would be refused. The bytes are read
-/// once, and one element of them is held at a time. Where all are taken, so many workers, 1 to 64, judge the keys, at the cost of
-/// [`Monitor::load`]; the calling thread is one of them, and waits for the others. What is found is the same by any number of them.
-/// The onlooker is told on the way how many events are taken, and when they are judged. What was judged stays in memory until the
-/// process ends.
+/// If the bytes are not a text, that is the finding, even if an element before that place would be refused. The bytes are read once, and
+/// one element of them is held at a time. If all are taken, `workers` workers, 1 to 64, judge the keys, at the cost of [`Monitor::load`];
+/// the calling thread is one of them, and waits for the others. The findings are the same by any number of them. The onlooker gets the
+/// number of accepted events on the way, and the moment when they are judged. The judged history stays in memory until the process ends.
 pub fn judge_text<X: Threads + Sync, L: Onlooker>(
     rt: &X,
     alloc: Global,
@@ -61,7 +60,7 @@ pub fn judge_text<X: Threads + Sync, L: Onlooker>(
     }
 }
 
-// The same. What is no element's refusal is an error.
+// The same. A refusal of another kind than an element's is an error.
 fn found_in<X: Threads + Sync, L: Onlooker>(
     rt: &X,
     alloc: Global,
@@ -94,7 +93,7 @@ fn found_in<X: Threads + Sync, L: Onlooker>(
     }
 }
 
-// What a whole history comes to. It is then known to have a verdict at each of its lengths.
+// The findings about a whole history. It is then known to have a verdict at each of its lengths.
 fn judge_history<X: Threads + Sync, L: Onlooker>(
     rt: &X,
     alloc: Global,
@@ -116,8 +115,8 @@ fn judge_history<X: Threads + Sync, L: Onlooker>(
     let monitor = Monitor::load(rt, alloc, history, kind, budget, workers, &OpenGate)?;
     monitor.some_verdicts();
     let told = told_by(alloc, &monitor, onlooker);
-    // A check is the last thing that its process does, and the system takes the memory back as a whole: to give back each piece by
-    // itself takes a sixth of all, where there are many keys.
+    // A check is the last work of its process, and the system takes the memory back as a whole. To give back each piece by itself takes a
+    // sixth of all if there are many keys.
     forget(monitor);
     told
 }
@@ -134,8 +133,7 @@ fn told_by<L: Onlooker>(alloc: Global, monitor: &Monitor, onlooker: &L) -> Resul
     Ok(Findings::Judged(verdict, text))
 }
 
-/// The line of an event that is refused, where so many were taken before it, as `refused 6 BadIndex event 1`. Takes memory
-/// for the line.
+/// The line of an event that is refused after `taken` accepted ones, as `refused 6 BadIndex event 1`. Takes memory for the line.
 pub fn event_text(alloc: Global, taken: usize, refusal: &Refusal) -> Result<String, AllocError>
     ensures { IfOk result (λ text. string_bytes text ≡ event_line taken refusal.now) }
 {

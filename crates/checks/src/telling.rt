@@ -1,4 +1,4 @@
-//! What is told in the end: a text or the line of a refusal, written whole, and the exit status.
+//! The final output: a text or the line of a refusal, written whole, and the exit status.
 ghost use Rattle.std.specs.Prelude.{◌≡◌, ◌≢◌, ◌⊎◌};
 ghost use Rattle.edn.specs.declared.refusal.Refusal.{Refusal as RefusalValue};
 ghost use Rattle.line_loop.specs.RefusalLine.{refusal_line};
@@ -15,10 +15,10 @@ use std::sync::Wait;
 /// The exit status of a refusal, of a usage fault and of a fault in printing.
 pub const REFUSED: u8 = 3;
 
-// The line of want of memory, for which none may be left.
+// The line of out of memory, for which no memory may be left.
 const NO_MEMORY: &[u8] = b"refused 13 NoMemory\n";
 
-// The line of a reader that failed, which no want of memory may stand for.
+// The line of a reader that failed, which the line of out of memory may not replace.
 const READ_FAILED: &[u8] = b"refused 20 ReadFailed\n";
 
 /// The exit status of a verdict: 0 legal, 1 illegal, 2 unknown.
@@ -32,8 +32,8 @@ pub fn status_of_verdict(verdict: &Verdict) -> u8
     }
 }
 
-/// Writes the line of a refusal, or that of want of memory where there is none for it, flushes, and gives 3. The line of
-/// `ReadFailed` takes no memory. It waits for the writer.
+/// Writes the line of a refusal, or that of out of memory if there is none for it, flushes, and gives 3. The line of `ReadFailed` takes no
+/// memory. It waits for the writer.
 pub(crate) fn put_refusal<X: Wait, W: Write + Failed + Flushes>(
     rt: &X,
     alloc: Global,
@@ -51,8 +51,8 @@ pub(crate) fn put_refusal<X: Wait, W: Write + Failed + Flushes>(
     }
 }
 
-/// Writes the line of a refusal, or that of want of memory where there was none for it, flushes, and gives 3. It waits for
-/// the writer, and takes no memory of its own.
+/// Writes the line of a refusal, or that of out of memory if there was none for it, flushes, and gives 3. It waits for the writer, and
+/// takes no memory of its own.
 pub fn put_refused<X: Wait, W: Write + Failed + Flushes>(
     rt: &X,
     line: Result<String, AllocError>,
@@ -68,7 +68,7 @@ pub fn put_refused<X: Wait, W: Write + Failed + Flushes>(
     }
 }
 
-/// Writes a text whole, flushes, and gives this status; or 3, where the writer has failed. It waits for the writer, and
+/// Writes a text whole, flushes, and gives this status; or 3, if the writer has failed. It waits for the writer, and
 /// takes no memory of its own.
 pub fn put_text<X: Wait, W: Write + Failed + Flushes>(
     rt: &X,

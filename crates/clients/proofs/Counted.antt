@@ -76,7 +76,7 @@ module _ (is_such : Command → Bool) where
       → All (λ (t : CoreSeat). IsPrefix t.tape tape) rest
   others_seen tape s rest seen = λ k d within. seen (suc k) d (omega (arith, within))
 
-  -- what the seats count is on the tape
+  -- the counted calls of the seats are on the tape
   pub counted : (tape : CoreTape) (n : ℕ) (seats : List CoreSeat) → AreCounted n seats
       → All (λ (s : CoreSeat). IsPrefix s.tape tape) seats → sum_by (λ (s : CoreSeat). s.count) seats ≤ such_from n tape
   counted tape n [] own seen = omega arith
@@ -84,7 +84,7 @@ module _ (is_such : Command → Bool) where
       let others = counted tape (n + 1) rest (others_counted n s rest own) (others_seen tape s rest seen) in
       omega (arith, first_counted tape n s rest own seen, others, one_seat n tape, sum_by-cons (λ (t : CoreSeat). t.count) s rest)
 
-  -- and beside it what later seats have there
+  -- and with it those of later seats
   pub counted_with : (tape : CoreTape) (n last : ℕ) (seats : List CoreSeat) → last ≡ n + length seats → AreCounted n seats
       → All (λ (s : CoreSeat). IsPrefix s.tape tape) seats → sum_by (λ (s : CoreSeat). s.count) seats + such_from last tape ≤ such_from n tape
   counted_with tape n last [] size own seen =

@@ -48,7 +48,7 @@ made_then : (a b c : CoreSeat) (xs ys : Calls) → HasMade a xs b → HasMade b 
 made_then a b c [] ys p q = none_then a b c ys p q
 made_then a b c (call ∷ xs) ys p q = (p.0, p.1, made_then p.0 b c xs ys p.2 q)
 
--- what is no entry is told so
+-- a call that adds no entry says so
 pub told_none : (whole before after : CoreTape) (command : Command) (why : Refusal) → IsNoEntry MayStep MayWantMemory why whole command before after → MayBeNoCall (Err why)
 told_none whole before after command TapeFull cause = tt
 told_none whole before after command NoMemory cause = tt
@@ -132,7 +132,7 @@ pub spares : (o : Option Refusal) → ((why : Refusal) → ¬ (o ≡ Some why)) 
 spares None none lost = lost
 spares (Some why) none lost = none why refl
 
--- where the run is not refused for what it met, it came to its end
+-- if none of the refusals of a run occurs, it came to its end
 pub has_played : (thread : ℕ) (old begun new : CoreSeat) (why : Option Refusal) → MadeNone old begun → 2 ≤ length begun.tape
     → CameFrom thread draws begun new (End why) → ¬ RefusesRun why → HasPlayed thread old new
 has_played thread old begun new why none seen came heard = (begun, none, seen, (came.0, came.1, to_end came.2.2)) where
@@ -159,7 +159,7 @@ struck_by : (a b : CoreSeat) (reply : CoreReply) → ((why : Refusal) → reply 
 struck_by a b reply fine (inl one) = ((Nemesis, reply) ∷ [], (b, one, none_self b), (refl, fine, tt))
 struck_by a b reply fine (inr none) = ([], none.0, tt)
 
--- it was answered; or refused, and not for what the run is refused for
+-- it was answered; or refused, but not by a refusal of the run
 pub struck_well : (a b : CoreSeat) (result : CoreReply) (reply : Reply) → result ≡ Ok reply → IsTold a Nemesis result b → GoesOnStriking a b
 struck_well a b result reply is told = struck_by a b result (λ why e. absurd (cc (sym is ∙ e))) told
 

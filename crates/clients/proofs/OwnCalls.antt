@@ -1,4 +1,4 @@
--- The calls of one seat on a tape: where there are no more of them than it made since it was so, they are just those.
+-- The calls of one seat on a tape: if they are no more than it made since then, they are just those.
 use Rattle.std.proofs.Common.{◌≡◌, ℕ, ◌+◌, ◌≤◌, Bool, true, false, [], ◌∷◌, ◌++◌, length, refl, sym, ap, subst, ◌∙◌, arith, length-append, append_assoc}
 use Rattle.std.specs.Prelude.{◌==◌, ◌&&◌, if◌then◌else◌}
 use mathlib.Core.List.{IsPrefix}
@@ -48,7 +48,7 @@ nil_right : (xs : Calls) → xs ++ [] ≡ xs
 nil_right [] = refl
 nil_right (x ∷ xs) = ap (λ (ys : Calls). x ∷ ys) (nil_right xs)
 
--- what adds nothing is empty
+-- a list that adds nothing is empty
 pub none_more : (xs ys zs : Calls) → ys ≡ xs ++ zs → length ys ≤ length xs → ys ≡ xs
 none_more xs ys [] e few = e ∙ nil_right xs
 none_more xs ys (z ∷ zs) e few = absurd (omega (arith, few, ap length e, length-append xs (z ∷ zs)))

@@ -1,4 +1,4 @@
--- What follows from what clauses say of a result.
+-- Consequences of the clauses about a result.
 use Rattle.std.proofs.Common.{Result, Ok, Err, IfOk, IfErr}
 use Rattle.std.specs.Prelude.{IsErrAnd}
 

@@ -73,7 +73,7 @@ each_of_trial (Call k c r ∷ rest) each = (
   each_of_trial rest (λ seat. rest_such (k == seat) (c, r) (calls_of seat rest) (each seat)),
 )
 
--- what comes of a run has calls of trials alone
+-- the tape of a run has calls of trials alone
 pub run_of_trial : (threads : ℕ) (first last : Machine) (run : IsRun threads first last) → AreOfTrial (calls_on run.tape)
 run_of_trial threads first last run = each_of_trial run.tape each where
   each : (seat : ℕ) → AreSuch is_of_trial (calls_of seat run.tape)
@@ -87,7 +87,7 @@ run_of_trial threads first last run = each_of_trial run.tape each where
       (cases_eq seat threads))
       (cases_lt seat threads)
 
--- what each seat that ran has made, which belongs to trials alone
+-- the calls of each seat that ran, which belong to trials alone
 ran : (seats back : List CoreSeat) (place : ℕ) (old new : CoreSeat) → HaveRun (λ (s : CoreSeat). s) seats back → place < length seats
     → slice_get seats place ≡ Some old → slice_get back place ≡ Some new → (calls : Calls) × HasMade old calls new × AreSuch is_of_trial calls
 ran seats back place old new run within at_old at_new = go (nat_lt (place + 1) (length seats)) refl where

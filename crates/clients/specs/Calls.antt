@@ -9,7 +9,7 @@ use Rattle.board.specs.declared.seat.SeatView.{SeatView}
 use Rattle.board.specs.Tape.{HasSeen}
 use Rattle.board.specs.CoreTape.{CoreReply, CoreTape}
 
--- what is seen of a seat of the one-thread object's board
+-- the visible part of a seat of the one-thread object's board
 abbrev pub CoreSeat : Type 0
 CoreSeat = SeatView Machine Command CoreReply
 
@@ -43,7 +43,7 @@ MayBeNoCall (Err TapeFull) = Unit {0}
 MayBeNoCall (Err NoMemory) = Unit {0}
 MayBeNoCall reply = ⊥
 
--- the command was answered so: by a call, or it is none, since the tape was full or a growth was refused
+-- the command was answered so: by a call, or it is none, since the tape was full or an allocation fails
 abbrev pub IsTold : CoreSeat → Command → CoreReply → CoreSeat → Type 0
 IsTold old command reply new =
     MadeOne old new command reply ⊎ (MadeNone old new × MayBeNoCall reply)

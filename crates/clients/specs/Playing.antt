@@ -20,7 +20,7 @@ IsAfterRefusal NotOpen next = next ≡ Draw
 IsAfterRefusal Stale next = next ≡ Draw
 IsAfterRefusal why next = next ≡ End (Some why)
 
--- the client is to do this at this stage; where the run is refused for what it met, it ends at any
+-- the client is to do this at this stage; if the run is refused, it ends at any
 abbrev pub StandsAt : Stage → Next → Type 0
 StandsAt stage Draw = stage ≡ draws
 StandsAt stage (End why) = (stage ≡ has_ended) ⊎ RefusesRun why

@@ -1,4 +1,4 @@
--- Promise: what clients and the nemesis do (this project's own)
+-- Promise: the actions of clients and of the nemesis (this project's own)
 use Rattle.std.specs.Prelude.{◌≡◌, ℕ, ◌+◌, ◌-◌, ◌<◌, ◌≤◌, List, [], ◌∷◌, length, Ok, Err, Some, slice_get}
 use Rattle.edn.specs.declared.refusal.Refusal.{Refusal}
 use Rattle.edn.specs.declared.refusal.Refusal.TheVariants.{NotOpen, HistoryFull, TapeFull, NoMemory, Stale}
@@ -9,7 +9,7 @@ use Rattle.machine.specs.declared.command.Reply.TheVariants.{Drawn, Pending}
 use Rattle.board.specs.CoreTape.{CoreReply}
 use Rattle.clients.specs.Calls.{CoreSeat, Calls, MadeNone, HasMade}
 
--- what a client does next: it draws, serves a ticket, finishes a ticket, or nothing more. Then it has ended, or it gave up
+-- the next step of a client: it draws, serves a ticket, finishes a ticket, or nothing more. Then it has ended, or it gave up
 pub data Stage : Type 0 where
   draws : Stage
   serves : ℕ → Stage
@@ -25,8 +25,8 @@ IsNext thread (finishes ticket) command = command ≡ Finish ticket
 IsNext thread has_ended command = ⊥
 IsNext thread gives_up command = ⊥
 
--- it serves what it drew, finishes what it served, and then draws again; so it does where there may be an operation later.
--- Where there is none for it, it ends
+-- it serves what it drew, finishes what it served, and then draws again; so it does if there may be an operation later.
+-- If there is none for it, it ends
 abbrev pub after_reply : Stage → Reply → Stage
 after_reply draws (Drawn ticket index) = serves ticket
 after_reply draws Pending = draws
@@ -36,7 +36,7 @@ after_reply (finishes ticket) reply = draws
 after_reply has_ended reply = has_ended
 after_reply gives_up reply = gives_up
 
--- where others completed or cut its operation, it draws again. Where the run is refused for this, it gives up. Any other refusal
+-- if others completed or cut its operation, it draws again. If the run is refused for this, it gives up. Any other refusal
 -- ends it
 abbrev pub after_refusal : Refusal → Stage
 after_refusal NotOpen = draws
@@ -70,7 +70,7 @@ IsOfRun TapeFull = Unit {0}
 IsOfRun NoMemory = Unit {0}
 IsOfRun why = ⊥
 
--- these calls ask for faults alone, and none is refused for what a run is refused for
+-- these calls ask for faults alone, and none has a refusal of the whole run
 abbrev pub AreStrikes : Calls → Type 0
 AreStrikes [] = Unit {0}
 AreStrikes (call ∷ calls) =

@@ -21,7 +21,7 @@ calls_of number (Opening m ∷ rest) = calls_of number rest
 calls_of number (Call seat command reply ∷ rest) =
     if seat == number then (command, reply) ∷ calls_of number rest else calls_of number rest
 
--- on the tape the seat of each of so many threads has just the calls of the client of its number, from its first draw to its end
+-- on the tape the seat of each of these threads has just the calls of the client of its number, from its first draw to its end
 abbrev pub ArePlayed : ℕ → CoreTape → Type 0
 ArePlayed threads tape =
     (thread : ℕ) → thread < threads → Plays thread draws (calls_of thread tape) has_ended
@@ -31,8 +31,8 @@ abbrev pub IsBegunBy : ℕ → CoreTape → Type 0
 IsBegunBy number (Opening m ∷ Call seat command reply ∷ rest) = seat ≡ number
 IsBegunBy number tape = ⊥
 
--- a legal tape that opens on the first machine leads to the last. It has the calls of the clients of so many threads, those of
--- the nemesis on the seat after theirs, and no others. The nemesis asks before any client does
+-- a legal tape that opens on the first machine leads to the last. It has the calls of the clients of `threads` threads, those of the
+-- nemesis on the seat after theirs, and no others. The nemesis asks before any client does
 pub record IsRun (threads : ℕ) (first last : Machine) : Type 0 where
   pub tape : CoreTape
   pub opens : IsPrefix (opening_tape first) tape
@@ -46,8 +46,8 @@ pub record IsRun (threads : ℕ) (first last : Machine) : Type 0 where
 abbrev pub MayNotRun : Refusal → Type 0
 MayNotRun why = IsOfRun why ⊎ (why ≡ NoSeat)
 
--- why there is none that is opened so, by the first test that it does not pass: no object is opened so; its clients are too many,
--- since the nemesis takes one of 64 seats; it does not come to its end
+-- why there is no run with this setup, by the first test that fails. No object is opened so; its clients are too many, since the nemesis
+-- takes one of 64 seats; or it does not come to its end
 abbrev pub HasNoRun : Setup → Refusal → Type 0
 HasNoRun setup why =
     MayNotOpen setup why

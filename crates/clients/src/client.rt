@@ -10,18 +10,18 @@ use edn::{Gate, OpenGate, Refusal};
 use harness::{Command, Reply};
 use std::sync::Wait;
 
-/// What a client does next.
+/// The next action of a client.
 #[derive(Drop)]
 pub(crate) enum Next {
     /// It draws.
     Draw,
-    /// It ends, where it was refused with the refusal.
+    /// It ends, if it was refused with the refusal.
     End(Option<Refusal>),
 }
 
-/// The client of a thread: it draws, serves and finishes, one operation after the other, until there is none for it or it
-/// is refused, and then gives the refusal. The gate begins before its first command and ends after the answer to that. Of each
-/// operation that it draws it notes how many events there were.
+/// The client of a thread: it draws, serves and finishes, one operation after the other, until there is none for it or it is refused, and
+/// then gives the refusal. The gate begins before its first command and ends after the answer to that. For each operation that it draws it
+/// notes the number of events.
 pub(crate) fn play<M: SharedBoard, G: Gate, R: Wait>(
     rt: &R,
     board: &M,
@@ -62,7 +62,7 @@ fn take_turn<M: SharedBoard, G: Gate, R: Wait>(
     }
 }
 
-// Serves and finishes what was drawn. Where it may draw later, it lets others go on.
+// Serves and finishes what was drawn. If it may draw later, it lets others go on.
 fn carry_out<M: SharedBoard, R: Wait>(
     rt: &R,
     board: &M,

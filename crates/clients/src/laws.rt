@@ -17,10 +17,10 @@ ghost use Rattle.clients.specs.Runs.{ArePlayed, AreServedInOrder, IsBegunBy, IsR
 
 use machine::no_false_alarm;
 
-/// Where all seats of a board went to clients and the nemesis when they were new, and came back, the board's tape has calls
-/// of trials alone: each call of these seats is on it, once, and nothing else is. So each client has there just the calls
-/// that it made, from its first draw to its end, and the nemesis has its own on the last seat, of which the first is before
-/// all calls of clients. What comes of a run has calls of trials alone for that. [`run_on`](crate::run_on) cites it.
+/// If all seats of a board went to clients and the nemesis when they were new, and came back, the board's tape has calls of trials alone.
+/// Each call of these seats is on it, once, and nothing else is. So each client has there just its own calls, from its first draw to its
+/// end. The nemesis has its own on the last seat, and the first of them is before all calls of clients. So the tape of a run has calls of
+/// trials alone. [`run_on`](crate::run_on) cites it.
 pub fn trials_alone()
     ensures trials { (m : Machine) (seats back : List CoreSeat) (tape : CoreTape)
         → IsFresh (opening_tape m) seats → HaveRun (λ seat. seat) seats back
@@ -45,10 +45,9 @@ pub fn trials_alone()
         → AreOfTrial (calls_on run.tape) }
 {}
 
-/// Where a tape opens on a strict store and its calls are of trials alone, refused ones among them, the operations in the
-/// order in which they were served on it are a legal order of the history to which it leads, over all keys together. So no
-/// verdict on that is Illegal. It is said of the tapes of which `no_false_alarm_on_a_tape` of `board` says that their
-/// histories are linearizable; no call cites it.
+/// If a tape opens on a strict store and its calls are of trials alone, refused ones among them, it leads to a history with a legal order.
+/// That order has the operations in the order in which they were served, over all keys together. So no verdict on that is Illegal. It is
+/// said of the tapes of which `no_false_alarm_on_a_tape` of `board` says that their histories are linearizable; no call cites it.
 pub fn serves_are_the_order()
     ensures order { (setup : Setup) (tape : CoreTape) (m : Machine) → setup.mode ≡ Strict
         → IsCount setup.replicas → IsPrefix (opening_tape (opening setup)) tape
@@ -61,9 +60,8 @@ pub fn serves_are_the_order()
     no_false_alarm();
 }
 
-/// No run of a strict store is a false alarm: the history to which it leads is linearizable, over all keys together, and its
-/// operations in the order in which they were served are a legal order of it. So no verdict on it is Illegal.
-/// [`run_trial`](crate::run_trial) cites it.
+/// No run of a strict store is a false alarm: its history is linearizable, over all keys together. Its operations in the order in which
+/// they were served are a legal order of it. So no verdict on it is Illegal. [`run_trial`](crate::run_trial) cites it.
 pub fn no_false_alarm_in_a_run()
     ensures order { (setup : Setup) (threads : ℕ) (m : Machine) → setup.mode ≡ Strict
         → IsCount setup.replicas → (run : IsRun threads (opening setup) m)

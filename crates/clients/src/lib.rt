@@ -1,7 +1,7 @@
 //! Client threads: each has a seat of a board, and carries out what it draws against the store, while one more seat has the
 //! nemesis strike.
 //!
-//! A call takes memory only where its result can be `AllocError`, or a refusal for want of memory.
+//! A call allocates only if its result can be `AllocError`, or a refusal because memory ran out.
 #![tactic(auto)]
 
 mod client;

@@ -1,4 +1,4 @@
-//! What those do who have nothing to do now.
+//! The pauses of clients without work.
 ghost use Rattle.std.specs.Prelude.{◌+◌, ◌≤◌, length};
 ghost use Rattle.clients.specs.Calls.{MadeNone};
 
@@ -23,7 +23,7 @@ pub(crate) fn wait_for_a_call<M: SharedBoard, R: Wait>(rt: &R, board: &M, seat: 
     unreachable!()
 }
 
-/// Lets others go on until they have made so many calls, or for some turns where they don't. It takes no lock.
+/// Lets others go on until they have made `calls` calls, or for some turns if they don't. It takes no lock.
 pub(crate) fn let_others_call<M: SharedBoard>(board: &M, seat: &mut M::Seat, calls: u64)
     ensures { MadeNone (M.view seat.old) (M.view seat.new) }
 {
@@ -37,7 +37,7 @@ pub(crate) fn let_others_call<M: SharedBoard>(board: &M, seat: &mut M::Seat, cal
     }
 }
 
-// How many calls had been made, by what was last published.
+// How many calls had been made, by the last publication.
 fn calls_made<M: SharedBoard>(board: &M, seat: &mut M::Seat) -> u64
     ensures made { MadeNone (M.view seat.old) (M.view seat.new) }
     ensures seen { 1 ≤ result → result + 1 ≤ length (M.view seat.new).tape }

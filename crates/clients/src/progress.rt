@@ -1,4 +1,4 @@
-//! What the threads of a run tell one another, beside the board.
+//! The messages between the threads of a run, in addition to the board.
 
 use std::sync::atomic::{AtomicBool, AtomicU64, Ordering};
 

@@ -17,7 +17,7 @@ use std::sync::Wait;
 use std::thread;
 use std::thread::{Threads, join};
 
-// A seat whose thread has ended, and the refusal that it met, where that is one of the run.
+// A seat whose thread has ended, and the refusal that it met, if that is one of the run.
 #[derive(Drop)]
 struct Ended<S> {
     seat: S,
@@ -27,20 +27,20 @@ struct Ended<S> {
 /// Runs clients, each in a thread of its own: the seat at place `i` is that of the client of thread `i`, and the last one
 /// that of the nemesis. So there are 1 to 64 seats, one more than there are threads.
 ///
-/// A client draws, serves and finishes, one operation after the other, until there is none for it; where others completed
-/// or cut its operation, it draws again, and where there may be one later, it lets others go on before that. The nemesis
-/// asks for its first fault before any client begins, and each client begins once it has seen a call. Then the nemesis
-/// strikes until all clients have ended; where no fault is due, it lets others make some calls first. The gate begins by the
-/// place of a client before its first command, and ends after the answer to that; it is called outside the lock. The watch
-/// is told how far the run has come, where it wants to know, by glances from the nemesis's seat: they take no lock.
+/// A client draws, serves and finishes, one operation after the other, until there is none for it. If others completed or cut its
+/// operation, it draws again. If there may be one later, it lets others go on before that. The nemesis asks for its first fault before any
+/// client begins, and each client begins once it has seen a call. Then the nemesis strikes until all clients have ended; where no fault is
+/// due, it lets others make some calls first. The gate begins by the place of a client before its first command, and ends after the answer
+/// to that; it is called outside the lock. The watch gets the progress of the run, if it wants it, by glances from the nemesis's seat: they
+/// take no lock.
 ///
 /// A client whose thread can't be started runs in the thread that was to start it, and so does the nemesis, once the
 /// clients have ended, which then asks no more. The call waits until all of them have ended. It takes memory for the seats
 /// and the threads, and else costs what their calls on the board cost.
 ///
 /// # Errors
-/// [`Refusal::HistoryFull`], [`Refusal::TapeFull`] or [`Refusal::NoMemory`], where a seat met it: that of the lowest place,
-/// but where the nemesis's first ask met it, no client begins. And `NoMemory` where a growth was refused. The seats are then
+/// [`Refusal::HistoryFull`], [`Refusal::TapeFull`] or [`Refusal::NoMemory`], if a seat met it: that of the lowest place,
+/// but if the nemesis's first ask met it, no client begins. And `NoMemory` if an allocation fails. The seats are then
 /// dropped. Any other refusal ends the seat's own part alone.
 pub fn run_clients<
     B: Tag + Send + Sync,
@@ -97,7 +97,7 @@ where
     come_back(alloc, played?, struck)
 }
 
-// All seats, where none met a refusal of the run; else that of the first that did.
+// All seats, if none met a refusal of the run; else that of the first that did.
 fn come_back<S: Drop>(
     alloc: Global,
     played: Vec<Ended<S>>,
@@ -192,7 +192,7 @@ fn play_with<M: SharedBoard, G: Gate, R: Wait>(
     }
 }
 
-// The refusal, where it is one that a run is refused for: a full history, a full tape, or want of memory.
+// The refusal, if it is one of those of a run: a full history, a full tape, or out of memory.
 fn of_run(why: Option<Refusal>) -> Option<Refusal>
     ensures refused { IfSome result IsOfRun }
     ensures none { result ≡ None → ¬ RefusesRun why }
@@ -204,7 +204,7 @@ fn of_run(why: Option<Refusal>) -> Option<Refusal>
     }
 }
 
-// The clients, each in a thread of its own where one can be made. Then they have all ended.
+// The clients, each in a thread of its own if one can be made. Then they have all ended.
 fn play_all<M: SharedBoard + Sync, G: Gate + Sync, R: Threads + Wait + Sync>(
     rt: &R,
     board: &M,

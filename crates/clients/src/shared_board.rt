@@ -13,7 +13,7 @@ pub trait SharedBoard {
 
     ghost view: { Self.Seat → CoreSeat };
 
-    /// Carries out a command. It is refused where the command is, or where the call is no entry.
+    /// Carries out a command. It is refused if the command is, or if the call adds no entry.
     fn call<R: Wait>(
         &self,
         rt: &R,
@@ -22,7 +22,7 @@ pub trait SharedBoard {
     ) -> Result<Reply, Refusal>
         ensures { IsTold (view seat.old) command result (view seat.new) };
 
-    /// What was last published, if it can be seen. It takes no lock and waits for nobody.
+    /// The last publication, if it can be seen. It takes no lock and does not block.
     fn glance(&self, seat: &mut Self::Seat) -> Option<Glance>
         ensures made { MadeNone (view seat.old) (view seat.new) }
         ensures call_count { IfSome result (λ g. length (view seat.new).tape ≡ g.call_count + 1) };

@@ -10,11 +10,11 @@ use edn::Refusal;
 use harness::Command;
 use std::sync::Wait;
 
-// The calls of others between two tries, where no fault was due. So it takes few of the turns at the lock, and a fault strikes
+// The calls of others between two tries, if no fault was due. So it takes few of the turns at the lock, and a fault strikes
 // some events late at most.
 const CALLS: u64 = 8;
 
-/// Asks for the first fault, before any client has begun, and gives the refusal, where it is refused.
+/// Asks for the first fault, before any client has begun, and gives the refusal, if it is refused.
 pub(crate) fn ask_first<M: SharedBoard, R: Wait>(
     rt: &R,
     board: &M,
@@ -25,8 +25,8 @@ pub(crate) fn ask_first<M: SharedBoard, R: Wait>(
     board.call(rt, seat, Command::Nemesis).err()
 }
 
-/// Has the nemesis strike until the clients have ended, or until it is refused, and then gives the refusal. Where no fault is
-/// due, others go on before the next try. Between two tries it tells the watch, where that wants to know.
+/// Has the nemesis strike until the clients have ended, or until it is refused, and then gives the refusal. If no fault is due, others go
+/// on before the next try. Between two tries it reports to the watch, if that wants to know.
 pub(crate) fn strike<M: SharedBoard, W: Watch, R: Wait>(
     rt: &R,
     board: &M,
@@ -63,7 +63,7 @@ fn try_once<M: SharedBoard, R: Wait>(rt: &R, board: &M, seat: &mut M::Seat) -> O
     }
 }
 
-// Tells the watch how far the run has come, where it wants to know and a glance shows it.
+// Tells the watch how far the run has come, if it wants to know and a glance shows it.
 fn tell<M: SharedBoard, W: Watch>(board: &M, progress: &Progress, watch: &mut W, seat: &mut M::Seat)
     ensures { MadeNone (M.view seat.old) (M.view seat.new) }
 {

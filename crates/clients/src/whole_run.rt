@@ -20,18 +20,18 @@ use std::marker::Brand;
 use std::sync::Wait;
 use std::thread::Threads;
 
-/// Opens a board as configured, with a seat for the client of each thread and one for the nemesis, runs them to their end,
-/// and gives the object to which the board's one tape leads. The watch is told meanwhile how far the run has come. It waits
-/// and costs as [`run_clients`] does.
+/// Opens a board as configured, with a seat for the client of each thread and one for the nemesis, and runs them to their end. It returns
+/// the object to which the board's one tape leads. The watch gets the progress of the run meanwhile. It waits and costs as [`run_clients`]
+/// does.
 ///
-/// Where the store is strict, its history is linearizable (Herlihy and Wing 1990) over all keys together, whatever clients
+/// If the store is strict, its history is linearizable (Herlihy and Wing 1990) over all keys together, whatever clients
 /// and faults did, in any interleaving: an illegal verdict would be a false alarm. The operations in the order in which they
 /// were served are a legal order of it.
 ///
 /// # Errors
-/// Those of [`Blank::new`] for as many seats, and so [`Refusal::NoSeat`] where the concurrency is 64; else those of
-/// [`run_clients`], or [`Refusal::NoSeat`] where the published copy gave a seat no place. They come in this order: of a run
-/// that is not opened none of the latter.
+/// Those of [`Blank::new`] for as many seats, and so [`Refusal::NoSeat`] if the concurrency is 64; else those of [`run_clients`], or
+/// [`Refusal::NoSeat`] if the published copy gave a seat no place. They come in this order: a run that is not opened has none of the
+/// refusals of [`run_clients`].
 pub fn run_trial<W: Watch + Send + Drop, R: Threads + Wait + Sync>(
     rt: &R,
     alloc: Global,
@@ -61,7 +61,7 @@ pub fn run_trial<W: Watch + Send + Drop, R: Threads + Wait + Sync>(
 /// which its one tape leads. It waits and costs as [`run_clients`] does.
 ///
 /// # Errors
-/// Those of [`run_clients`], or [`Refusal::NoSeat`] where the published copy gave a seat no place.
+/// Those of [`run_clients`], or [`Refusal::NoSeat`] if the published copy gave a seat no place.
 pub fn run_on<
     B: Tag + Send + Sync,
     G: Gate + Sync,

@@ -1,4 +1,4 @@
--- Promise: what the words of the command line ask for
+-- Promise: the order in the words of the command line
 use Rattle.std.specs.Prelude.{◌≡◌, ◌≤◌, ◌⊎◌, ℕ, Bool, true, false, List, codes, Option, Some, None, option_and_then, unwrap_or, Result, Ok, Err, IsOk, MatchResult, String, string_bytes}
 use Rattle.std.specs.declared.alloc.Global.{Global}
 use Rattle.edn.specs.declared.refusal.Refusal.TheVariants.{NoMemory}
@@ -28,12 +28,12 @@ IsWithinLimits (Run config) =
     IsSetup (setup_of config) × (config.concurrency ≤ 63)
     × ((texts : RunTexts) × (run_spelled texts ≡ Ok (setup_of config)))
 
--- the text, where it comes of the words
+-- the text, if it comes of the words
 abbrev pub if_given : Option ValueSource → Option (List ℕ) → Option (List ℕ)
 if_given (Some CommandLine) text = text
 if_given _ text = None
 
--- the first text that the words give of the option, or this one where they give none
+-- the first text that the words give of the option, or this one if they give none
 abbrev pub text_found : Found → List ℕ → List ℕ → List ℕ
 text_found found id default =
     unwrap_or (if_given (option_and_then (λ a. a.source) (matched_of found id)) (first_value found id)) default
@@ -56,7 +56,7 @@ AreRunTexts found defaults texts =
     × (texts.mode.now ≡ text_found found (codes "mode") defaults.mode.now)
     × (texts.faults.now ≡ text_found found (codes "faults") defaults.faults.now)
 
--- how many workers the text of the option spells; where the words give none it is one
+-- how many workers the text of the option spells; if the words give none it is one
 abbrev pub workers_found : Found → Option ℕ
 workers_found found = number_within 1 64 (text_found found (codes "workers") (codes "1"))
 
@@ -67,7 +67,7 @@ IsFlagFound found id flag =
     × ((one_text found id ≡ Some (codes "true")) → (flag ≡ true))
     × ((one_text found id ≡ Some (codes "false")) → (flag ≡ false))
 
--- there is the configuration that the texts spell, or the stop by what they miss
+-- there is the configuration that the texts spell, or the stop for the text that cannot be read
 abbrev pub JudgesAsFound : Found → Result Config Stop → Type 0
 JudgesAsFound found result =
     (defaults : JudgingTexts) × (judging_spelled defaults ≡ Ok default_setup)
@@ -76,19 +76,19 @@ JudgesAsFound found result =
     (λ config. judging_spelled texts ≡ Ok (setup_of config))
     (λ stop. (why : Misspelled) × (judging_spelled texts ≡ Err why) × IsStopBy why stop))
 
--- where there is a configuration to judge by, the order is such a one; else there is the stop
+-- if there is a configuration to judge by, the order is such a one; else there is the stop
 abbrev pub AfterJudging : Found → (Config → Result Order Stop → Type 0) → Result Order Stop → Type 0
 AfterJudging found IsSuch result =
     (judged : Result Config Stop) × JudgesAsFound found judged
     × MatchResult judged (λ config. IsSuch config result) (λ stop. result ≡ Err stop)
 
--- lines are answered by this configuration, and the script is strict where that was found
+-- lines are answered by this configuration, and the script is strict if that was found
 abbrev pub ScriptsAsFound : Found → Config → Result Order Stop → Type 0
 ScriptsAsFound found config result =
     (is_strict : Bool) × (result ≡ Ok (Script config is_strict)) × IsFlagFound found (codes "strict") is_strict
 
--- the file that was found is judged by this configuration, by so many workers; or there is a usage fault, where none was found, or
--- the text of the workers spells no such number; or memory was refused
+-- the found file is judged by this configuration, by this number of workers. Or there is a usage fault, if none was found, or the text of
+-- the workers spells no such number. Or memory was refused
 abbrev pub ChecksAsFound : Found → Config → Result Order Stop → Type 0
 ChecksAsFound found config result =
     MatchResult result
@@ -98,8 +98,8 @@ ChecksAsFound found config result =
     (λ stop. (stop ≡ IsRefused NoMemory)
     ⊎ (IsUsageFault stop × ((first_value found (codes "FILE") ≡ None) ⊎ (workers_found found ≡ None))))
 
--- the order that was found is to be shown of the history that was found, which is read by this configuration; or there is a usage
--- fault, where one of the files was not found; or memory was refused
+-- the found order is confirmed for the found history, read by this configuration. Or there is a usage fault, if one of the files is
+-- missing. Or memory was refused
 abbrev pub ConfirmsAsFound : Found → Config → Result Order Stop → Type 0
 ConfirmsAsFound found config result =
     MatchResult result
@@ -109,8 +109,8 @@ ConfirmsAsFound found config result =
     (λ stop. (stop ≡ IsRefused NoMemory)
     ⊎ (IsUsageFault stop × ((first_value found (codes "FILE") ≡ None) ⊎ (first_value found (codes "ORDER") ≡ None))))
 
--- clients run by the configuration that the texts of a run spell, or there is the stop by what they miss; or memory was
--- refused, where they spell one
+-- clients run by the configuration that the texts of a run spell, or there is the stop for the text that cannot be read; or memory was
+-- refused, if they spell one
 abbrev pub RunsAsFound : Found → Result Order Stop → Type 0
 RunsAsFound found result =
     (defaults : RunTexts) × (run_spelled defaults ≡ Ok default_run)

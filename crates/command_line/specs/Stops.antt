@@ -1,4 +1,4 @@
--- Promise: what stands in place of an order
+-- Promise: the alternatives to an order
 use Rattle.std.specs.Prelude.{◌≡◌, ◌⊎◌}
 use Rattle.clap.specs.Words.{kind_of}
 use Rattle.clap.specs.declared.error.kind.ErrorKind.{ErrorKind}
@@ -23,7 +23,7 @@ abbrev pub IsUsageFault : Stop → Type 0
 IsUsageFault (Words error) = ¬ IsRequest (kind_of error)
 IsUsageFault (Refused why) = why ≡ NoMemory
 
--- what texts that spell no configuration come to: a usage fault of the option, or the refusal
+-- the stop for texts that spell no configuration: a usage fault of the option, or the refusal
 abbrev pub IsStopBy : Misspelled → Stop → Type 0
 IsStopBy (Unread option) stop = IsUsageFault stop
 IsStopBy (IsRefused why) stop = stop ≡ Refused why

@@ -5,11 +5,11 @@ use clap::{Arg, ArgAction, Command};
 use run_plans::{JudgingTexts, RunTexts};
 use std::alloc::{AllocError, Global};
 
-/// How many workers judge where the words do not say it.
+/// How many workers judge if the words do not say it.
 pub(crate) const WORKERS: &str = "1";
 
-// An option that takes a value; the help calls the value by the word `value`, and shows the default. What is taken where none is
-// given is not said here: `order` says it.
+// An option that takes a value; the help calls the value by the word `value`, and shows the default. `order` has the default value, not
+// this function.
 fn an_option<'a>(
     alloc: Global,
     name: &'static str,

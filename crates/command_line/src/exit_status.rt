@@ -1,4 +1,4 @@
-//! The exit status where a script has ended, and where there is no order.
+//! The exit status where a script has ended, and if there is no order.
 ghost use Rattle.std.specs.Prelude.{◌≡◌, ◌⊎◌, MatchOption, MatchResult};
 ghost use Rattle.command_line.specs.Stops.{IsHelp};
 ghost use Rattle.checks.specs.ExitStatus.{status_of};
@@ -13,7 +13,7 @@ use std::alloc::Global;
 use std::io::{Eprint, Print};
 
 /// The exit status after a script: 0 legal, 1 illegal, 2 unknown, 3 for a script that its first refusal closed, and 3 for a
-/// refusal of the whole, whose line goes to standard error. It may wait for that; where there is no memory for the line, or an
+/// refusal of the whole, whose line goes to standard error. It may wait for that; if there is no memory for the line, or an
 /// error, nothing is said.
 pub fn status_after<P: Eprint, L: Onlooker>(
     rt: &P,
@@ -35,7 +35,7 @@ pub fn status_after<P: Eprint, L: Onlooker>(
     }
 }
 
-/// Says on standard error that standard output took no more, where its writer has failed; nothing else says it, since what
+/// Says on standard error that standard output took no more, if its writer has failed; nothing else says it, since what
 /// is written there is lost. It may wait for standard error, whose errors are passed over.
 pub fn say_unwritten<P: Eprint, W: Failed, L: Onlooker>(
     rt: &P,
@@ -48,8 +48,8 @@ pub fn say_unwritten<P: Eprint, W: Failed, L: Onlooker>(
     }
 }
 
-/// The exit status where there is no order: 0 for help and the version, which go to standard output, else 3, and 3 too
-/// where they can't be written, which is then said. A usage fault and a refusal line go to standard error, whose errors are
+/// The exit status if there is no order: 0 for help and the version, which go to standard output, else 3, and 3 too
+/// if they can't be written, which is then said. A usage fault and a refusal line go to standard error, whose errors are
 /// passed over. It may wait for either.
 pub fn status_of_stop<P: Print + Eprint, L: Onlooker>(
     rt: &P,

@@ -1,4 +1,4 @@
-//! What the program says of itself.
+//! The program's texts about itself.
 
 use models::each_kind;
 use onlookers::each_hint;
@@ -27,7 +27,7 @@ A line that is refused changes nothing and is answered by `refused NUMBER NAME`.
 pub const STRICT: &str =
     "The first line that is refused ends the script, with status 3; without it each is answered and passed over";
 
-/// What somebody at a terminal is told who has to type what the program reads.
+/// The hint for somebody at a terminal who has to type the program's input.
 pub const TYPED: &str =
     "reading events from the terminal, a line each, until Ctrl-D; jepmon --help says more";
 

@@ -1,5 +1,5 @@
-//! The words of the command line: which order they give, what the program says of itself, and the exit status where a script has
-//! ended or no order was given. What an order then does stands in `scripts`, `checks`, `confirms` and `runs`.
+//! The words of the command line: the order that they give, the program's texts about itself, and the exit status after a script or without
+//! an order. `scripts`, `checks`, `confirms` and `runs` carry out the orders.
 #![tactic(auto)]
 
 mod commands;

@@ -17,7 +17,7 @@ use models::ModelKind;
 use run_plans::{JudgingTexts, Misspelled, OptionName, RunTexts, workers_in};
 use std::alloc::{AllocError, Global};
 
-/// What the words ask the program to do.
+/// The order in the words for the program.
 #[derive(Drop)]
 pub enum Order {
     /// Answers the lines of standard input.
@@ -54,21 +54,21 @@ pub enum Order {
 /// Why there is no order.
 #[derive(Drop)]
 pub enum Stop {
-    /// Help or the version was asked for; or the words are none that the program knows. The kind of the error tells which.
+    /// Help or the version was asked for; or the words are none that the program knows. The kind of the error says which.
     Words(clap::Error),
     /// A number is out of its limits, or memory was refused.
     Refused(Refusal),
 }
 
-/// The order that the words after the program's name give. Without words it is `script` with its defaults, and takes no
-/// memory; else it takes memory for the table of the options and for what they say.
+/// The order that the words after the program's name give. Without words it is `script` with its defaults, and takes no memory; else it
+/// takes memory for the table of the options and for their values.
 ///
 /// # Errors
 ///
-/// `Words` where help or the version is asked for; for words that are none of the program's, for a value that is no number,
-/// for a model, a mode or faults of another name, and for a seed, a number of operations, of keys or of workers out of its
-/// limits. `Refused` for another number out of its limits: `BadBudget` first, then `BadConcurrency`, which `run` has
-/// above 63 too, then `NoSuchReplica`; and with `NoMemory` where memory is refused.
+/// `Words` for help and the version. Also for words that the program does not have, for a value that is not a number, for a model, a mode
+/// or faults of another name. And for a seed, a number of operations, of keys or of workers out of its limits. `Refused` for another number
+/// out of its limits: `BadBudget` first, then `BadConcurrency`, which `run` has above 63 too, then `NoSuchReplica`; and with `NoMemory` if
+/// memory is refused.
 pub fn order_of(alloc: Global, words: &[String]) -> Result<Order, Stop>
     ensures defaults { length words.now ≡ 0 → (config : Config)
         × (result ≡ Ok (Order.Script config false)) × (setup_of config ≡ default_setup) }
@@ -91,12 +91,12 @@ pub fn order_of(alloc: Global, words: &[String]) -> Result<Order, Stop>
     order_by(alloc, name, options)
 }
 
-/// The order of the command of this name, by what was found of its options: of `run`, of `check`, of `confirm`, else of `script`.
-/// It takes memory for the parts of a run, for the path of a file, and for a usage fault.
+/// The order of the command of this name, from the found options: of `run`, of `check`, of `confirm`, else of `script`. It takes memory for
+/// the parts of a run, for the path of a file, and for a usage fault.
 ///
 /// # Errors
 ///
-/// Those of [`order_of`], but for help and for words that are none of the program's.
+/// Those of [`order_of`], except for help and for words that the program does not have.
 pub fn order_by(alloc: Global, name: &str, options: &ArgMatches) -> Result<Order, Stop>
     ensures within { IfOk result IsWithinLimits }
     ensures run { name.now ≡ codes "run" → RunsAsFound (found_of options.now) result }
@@ -247,8 +247,7 @@ fn judging_texts<'a>(options: &ArgMatches<'a>, defaults: &JudgingTexts<'static>)
     }
 }
 
-// The text that the words give of an option, or this one where they give none. What `clap` shows as the default in its help
-// is passed over.
+// The text that the words give of an option, or this one if they give none. The default in the help of `clap` is passed over.
 fn text_or<'a>(options: &ArgMatches<'a>, id: &str, default: &'static str) -> &'a str
     ensures { result.now ≡ text_found (found_of options.now) id.now default.now }
 {
@@ -283,8 +282,7 @@ fn taken_by(option: OptionName) -> &'static str {
     }
 }
 
-/// Why there is no order of words that are no text: `Words`, or `Refused` with `NoMemory` where there is no memory to say
-/// it.
+/// Why words that are not text give no order: `Words`, or `Refused` with `NoMemory` if there is no memory to say it.
 pub fn no_text(alloc: Global) -> Stop
     ensures { IsUsageFault result }
 {
@@ -314,10 +312,10 @@ fn usage(command: &mut Command, message: &str) -> Stop
     }
 }
 
-/// What an error in these words is to the program: itself, where help or the version is asked for; else a usage fault.
+/// The meaning of an error in these words for the program: itself for help and the version; else a usage fault.
 ///
-/// Script takes no file, and says so where it was given one; and so does the program where the name of a file stands in place of
-/// a command. It takes memory for what it says.
+/// Script takes no file, and says so if it was given one; and so does the program where the name of a file stands in place of a command. It
+/// takes memory for its message.
 pub fn stop_at(alloc: Global, words: &[String], error: clap::Error) -> Stop
     ensures asked { IsRequest (kind_of error) → result ≡ Stop.Words error }
     ensures fault { (¬ IsRequest (kind_of error)) → IsUsageFault result }
@@ -377,7 +375,7 @@ fn is_script_with_file(words: &[String]) -> bool {
         })
 }
 
-// The usage fault that an error is; or want of memory.
+// The usage fault of an error; or out of memory.
 fn fault_of(error: clap::Error) -> Stop
     requires { ¬ IsRequest (kind_of error) }
     ensures { IsUsageFault result }

@@ -1,4 +1,4 @@
--- what two readers came to, and what was told of it
+-- the result of two readers, and the text about it
 use Rattle.std.proofs.Common.{◌≡◌, ◌≢◌, ℕ, inr, ⊎_elim, Bool, false, Option, Some, IfSome, List, sym, subst}
 use Rattle.std.specs.Io.KnownBytes.{Consumes}
 use Rattle.edn.specs.declared.refusal.Refusal.TheVariants.{ReadFailed}
@@ -9,7 +9,7 @@ use Rattle.confirms.specs.declared.found.Found.TheVariants.{Refused, RefusedOrde
 use Rattle.confirms.specs.Confirms.{Confirms, Input, IsFound, IsTold, StandsFor}
 
 module _ (c : ℕ) (kind : ModelKind) (history order : Input) where
-  -- neither has failed, where it is not said that one has
+  -- neither has failed, if it is not said that one has
   unfailed : (found : Found) → IsFound c kind history order found → found ≢ Refused ReadFailed → found ≢ RefusedOrder ReadFailed
       → (history.has_failed ≡ false) × (order.has_failed ≡ false)
   unfailed found is a b =

@@ -34,7 +34,7 @@ pub count_of_values : (es : List Edn) → count_of (values_of es) ≡ length es
 count_of_values [] = refl
 count_of_values (e ∷ es) = ap (λ n. n + 1) (count_of_values es) ∙ (omega arith)
 
--- what an element lists, by whether it is a vector
+-- the list in an element, by whether it is a vector
 pub listed_vector : (v : Value) (vs : Values) → Some vs ≡ elements_in v → vs ≡ listed_in v
 listed_vector (vector ws) vs is = cc
 listed_vector nil vs is = cc

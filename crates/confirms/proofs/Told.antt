@@ -1,4 +1,4 @@
--- what was told
+-- the written line
 use Rattle.std.proofs.Common.{◌≡◌, ◌≢◌, ℕ, inl, inr, Bool, Option, Some, None, IfSome, IfOk, Result, Ok, Err, String, string_bytes, List, [], ◌∷◌, refl, sym, ap, ◌∙◌, subst, arith}
 use Rattle.std.specs.Prelude.{codes}
 use Rattle.std.specs.declared.alloc.AllocError.{AllocError}
@@ -25,7 +25,7 @@ twenty = decimal-digits_of 20 (omega arith) (omega arith)
 pub order_failed_line : (bytes : List ℕ) → bytes ≡ codes "refused 20 ReadFailed order\n" → bytes ≡ order_line ReadFailed
 order_failed_line bytes is = is ∙ ap (λ d. line_of (codes "refused " ∷ d ∷ codes " " ∷ codes "ReadFailed" ∷ [] ∷ codes " order" ∷ [])) (sym twenty)
 
--- the line of what was found was put, or that of want of memory
+-- the line of the finding was put, or that of out of memory
 module _ (before after : Option (List ℕ)) (write_failed is_flushed : Bool) (status : ℕ) where
   pub told_line : (found : Found) → found ≢ Refused ReadFailed → found ≢ RefusedOrder ReadFailed → (line : Result (String Global) AllocError) → IfOk line (λ text. string_bytes text ≡ found_text found)
       → (n : ℕ) → n ≡ found_status found → PutsLine line n before after write_failed is_flushed status

@@ -1,4 +1,4 @@
--- Promise: what is read of a recorded history and of an order, found and said (this project's own)
+-- Promise: the reading of a recorded history and of an order, the finding and its line (this project's own)
 use Rattle.std.specs.Prelude.{◌≡◌, ◌≢◌, ℕ, Bool, true, false, List, Option, ◌⊎◌}
 use Rattle.std.specs.Io.KnownBytes.{Consumes, IsAtEnd}
 use Rattle.edn.specs.declared.refusal.Refusal.TheVariants.{NoMemory, ReadFailed}
@@ -8,7 +8,7 @@ use Rattle.confirms.specs.declared.found.Found.{Found}
 use Rattle.confirms.specs.declared.found.Found.TheVariants.{Refused, RefusedOrder}
 use Rattle.confirms.specs.Found.{ComesTo, found_text, found_status}
 
--- what a reader gave, had left, and whether it has failed
+-- the bytes that a reader gave, those that are left, and whether it has failed
 pub record Input : Type 0 where
   pub bytes : List ℕ
   pub left : Option (List ℕ)
@@ -18,8 +18,8 @@ pub record Input : Type 0 where
 abbrev pub WasRead : Input → Type 0
 WasRead input = IsAtEnd input.left × (input.has_failed ≡ false)
 
--- what was found of two readers: what their bytes come to, where both were read to their ends and have not failed; or one has
--- failed; or none has, and memory ran out
+-- the finding for two readers. Either both were read to their ends and have not failed, and it is that of their bytes; or one has failed;
+-- or none has, and memory ran out
 abbrev pub IsFound : ℕ → ModelKind → Input → Input → Found → Type 0
 IsFound c kind history order found =
     (WasRead history × WasRead order × ComesTo c kind history.bytes order.bytes found)
@@ -27,15 +27,15 @@ IsFound c kind history order found =
     ⊎ (((found ≡ RefusedOrder ReadFailed) × (order.has_failed ≡ true))
     ⊎ ((found ≡ Refused NoMemory) × (history.has_failed ≡ false) × (order.has_failed ≡ false))))
 
--- a writer was told of what was found
+-- a writer got the line of the finding
 abbrev pub IsTold : Found → Option (List ℕ) → Option (List ℕ) → Bool → Bool → ℕ → Type 0
 IsTold found = IsPut (found_text found) (found_status found)
 
--- the line of what was found was written; or that of want of memory in its place, but never for a reader that failed
+-- the line of the finding was written; or that of out of memory in its place, but never for a reader that failed
 abbrev pub StandsFor : Found → Found → Type 0
 StandsFor told found = (told ≡ found) ⊎ ((told ≡ Refused NoMemory) × (found ≢ Refused ReadFailed) × (found ≢ RefusedOrder ReadFailed))
 
--- readers of a history and of an order that had these left, and have those left after it, and what a writer was told of them
+-- readers of a history and of an order with these rests before and after, and the line that a writer got
 pub record Confirms (c : ℕ) (kind : ModelKind) (left left' : Option (List ℕ)) (read_failed : Bool)
     (order_left order_left' : Option (List ℕ)) (order_failed : Bool)
     (before after : Option (List ℕ)) (write_failed is_flushed : Bool) (status : ℕ) : Type 0 where
@@ -47,8 +47,8 @@ pub record Confirms (c : ℕ) (kind : ModelKind) (left left' : Option (List ℕ)
   pub is_found : IsFound c kind (record { bytes = input; left = left'; has_failed = read_failed }) (record { bytes = order; left = order_left'; has_failed = order_failed }) found
   pub told : IsTold found before after write_failed is_flushed status
 
--- the same of a reader of a history, and of an order in a file that holds these bytes, where that is known, however much of them
--- was read, and whether a read failed or not
+-- the same for a reader of a history, and for an order in a file that holds these bytes, if that is known. Any part of the file may have
+-- been read, and a read may have failed
 abbrev pub ConfirmsInput : ℕ → ModelKind → Option (List ℕ) → Option (List ℕ) → Bool → Option (List ℕ) → Option (List ℕ) → Option (List ℕ) → Bool → Bool → ℕ → Type 0
 ConfirmsInput c kind left left' read_failed order_held before after write_failed is_flushed status =
     (order_left : Option (List ℕ)) × (order_failed : Bool)

@@ -1,4 +1,4 @@
--- Promise: what an order of a recorded history comes to, and what is said of it (this project's own)
+-- Promise: the finding for an order of a recorded history, and its line (this project's own)
 use Rattle.std.specs.Prelude.{◌≡◌, ℕ, ◌⊎◌, Some, None, List, [], ◌∷◌, codes, decimal}
 use Rattle.edn.specs.Refusals.{number_of, name_of, IsWhy}
 use Rattle.edn.specs.declared.refusal.Refusal.{Refusal}
@@ -20,27 +20,27 @@ use Rattle.confirms.specs.Listing.{IsOrderText, ListsUpTo}
 use Rattle.confirms.specs.declared.found.Found.{Found}
 use Rattle.confirms.specs.declared.found.Found.TheVariants.{Shown, RefusedEvent, Refused, RefusedElement, RefusedOrder}
 
--- what an order shows of these events: it is one of theirs, which are linearizable; or it is none, for this reason, before which
--- all fits
+-- the result of an order of these events: it is one of theirs, which are linearizable; or it is none, for this reason, before which all
+-- fits
 abbrev pub Shows : ModelKind → List Event → List ℕ → Confirmation → Type 0
 Shows kind events ids Linearizable = IsWitness kind events ids × IsLinearizable (product (λ _. kind)) (marks_in events)
 Shows kind events ids (NoOrder unfit) =
     ¬ IsWitness kind events ids × IsUnfit kind events ids unfit × StandsFirst kind events ids unfit
 
--- what is refused of the history that the bytes spell; or memory ran out
+-- the refusal of the history that the bytes spell; or memory ran out
 abbrev pub IsHistoryRefused : ℕ → List ℕ → Found → Type 0
 IsHistoryRefused c bytes (RefusedEvent i why) = (events : List Event) × IsRead bytes c [] events (Some (i, why))
 IsHistoryRefused c bytes (Refused why) = IsWhy bytes why ⊎ MayNotStart c why
 IsHistoryRefused c bytes _ = ⊥
 
--- what is refused of the order that the bytes list; or memory ran out
+-- the refusal of the order that the bytes list; or memory ran out
 abbrev pub IsOrderRefused : List ℕ → Found → Type 0
 IsOrderRefused bytes (RefusedElement i) = ListsUpTo bytes i
 IsOrderRefused bytes (RefusedOrder why) = IsWhy bytes why
 IsOrderRefused bytes (Refused why) = why ≡ NoMemory
 IsOrderRefused bytes _ = ⊥
 
--- what is refused of the order for this; want of memory is not the order's
+-- the refusal of the order for this; out of memory is not the order's
 abbrev pub refused_of_order : Refusal → Found
 refused_of_order NoMemory = Refused NoMemory
 refused_of_order why = RefusedOrder why
@@ -49,7 +49,7 @@ refused_of_order why = RefusedOrder why
 abbrev pub IsWhole : ℕ → List ℕ → List Event → Type 0
 IsWhole c bytes events = IsRead bytes c [] events None
 
--- what the bytes of a history and those of an order come to
+-- the finding for the bytes of a history and those of an order
 abbrev pub ComesTo : ℕ → ModelKind → List ℕ → List ℕ → Found → Type 0
 ComesTo c kind bytes order (Shown said) = (events : List Event) × IsWhole c bytes events × ((ids : List ℕ) × IsOrderText order ids × Shows kind events ids said)
 ComesTo c kind bytes order (RefusedEvent i why) = IsHistoryRefused c bytes (RefusedEvent i why)
@@ -86,7 +86,7 @@ status_of_misfit _ = 1
 abbrev pub unfit_line : Unfit → List ℕ
 unfit_line unfit = line_of (opening_of unfit.why ∷ codes " place " ∷ decimal unfit.place ∷ codes " event " ∷ decimal unfit.event ∷ codes " " ∷ word_of unfit.why ∷ [])
 
--- the line of what is refused of an order
+-- the line of the refusal of an order
 abbrev pub order_line : Refusal → List ℕ
 order_line why = line_of (codes "refused " ∷ decimal (number_of why) ∷ codes " " ∷ name_of why ∷ place_text why ∷ codes " order" ∷ [])
 

@@ -10,7 +10,7 @@ abbrev pub AreIndices : Values → List ℕ → Type 0
 AreIndices none ids = ids ≡ []
 AreIndices (more v vs) ids = (id : ℕ) × (others : List ℕ) × IsNumber (2 ^ 32) v id × AreIndices vs others × (ids ≡ id ∷ others)
 
--- what an element lists: the elements of a vector, or itself
+-- the list in an element: the elements of a vector, or itself
 abbrev pub listed_in : Value → Values
 listed_in (vector vs) = vs
 listed_in v = more v none

@@ -1,4 +1,4 @@
--- Invariant: a line that is told
+-- Invariant: a line that is written
 use Rattle.std.specs.Prelude.{ℕ, Bool, List, Option, Result, Ok, Err, String, string_bytes}
 use Rattle.std.specs.declared.alloc.AllocError.{AllocError}
 use Rattle.std.specs.declared.alloc.Global.{Global}
@@ -6,7 +6,7 @@ use Rattle.edn.specs.declared.refusal.Refusal.TheVariants.{NoMemory}
 use Rattle.line_loop.specs.RefusalLine.{refusal_line}
 use Rattle.checks.specs.Checks.{IsPut}
 
--- the line was put with this status; or that of want of memory, where there was none
+-- the line was put with this status; or that of out of memory, if there was none
 abbrev pub PutsLine : Result (String Global) AllocError → ℕ → Option (List ℕ) → Option (List ℕ) → Bool → Bool → ℕ → Type 0
 PutsLine (Ok line) line_status = IsPut (string_bytes line) line_status
 PutsLine (Err e) line_status = IsPut (refusal_line NoMemory) 3

@@ -13,18 +13,18 @@ use std::alloc::Global;
 use std::io::{Read, Write};
 use std::sync::Wait;
 
-/// Reads a recorded history of so many threads and an order of its operations to their ends, writes what the order shows, where
-/// each key is an object of this kind, and flushes it, and gives the exit status.
+/// Reads a recorded history of `concurrency` threads and an order of its operations to their ends, where each key is an object of this kind. It
+/// writes and flushes the result of the order, and returns the exit status.
 ///
-/// That is one line. `linearizable`, with 0, is written only where the order is one of the history, which is linearizable then.
-/// `no order place P event E WHY`, with 1, where it is none: the operation that event E invokes, at place P of the order, does not
-/// fit there, and of the history nothing is said. A line that begins with `refused`, with 3, where something can't be read so:
-/// of the history as `check` says it; of the order `refused 5 BadValue order place P event E WHY`, where its list can be none of
-/// the history's operations, `refused 5 BadValue order element I`, where I elements were taken and the next one is no index, and
-/// `refused NUMBER NAME order`. The status is 3 too where the writer has failed.
+/// That is one line. `linearizable`, with 0, is written only if the order is one of the history, which is linearizable then. `no order
+/// place P event E WHY`, with 1, if it is none: the operation that event E invokes, at place P of the order, does not fit there, and of
+/// the history nothing is said. A line that begins with `refused`, with 3, says that something can't be read. For the history it is that of
+/// `check`. For the order it is `refused 5 BadValue order place P event E WHY` if the list cannot be one of the history's operations. It is
+/// `refused 5 BadValue order element I` if I elements were taken and the next one is not an index, and `refused NUMBER NAME order` else.
+/// The status is 3 too if the writer has failed.
 ///
-/// The bytes are held once, and the elements of the order. It waits for the readers and the writer. The onlooker is told on the
-/// way how many events are taken.
+/// The bytes are held once, and the elements of the order. It waits for the readers and the writer. The onlooker gets the number of
+/// accepted events on the way.
 pub fn confirm_text<
     X: Wait,
     R: Read + Failed,
@@ -73,9 +73,9 @@ pub fn confirm_text<
     tell(rt, alloc, &found, writer)
 }
 
-/// Reads a recorded history and an order of its operations from two files: [`confirm_text`] of what they have, with the same
-/// status, cost and waiting. A file that can't be opened is told as `ReadFailed`, with status 3. The onlooker is told of each
-/// read, and of one that fails with the path.
+/// Reads a recorded history and an order of its operations from two files: [`confirm_text`] of their bytes, with the same status, cost and
+/// waiting. A file that can't be opened is reported as `ReadFailed`, with status 3. The onlooker gets each read, and a failed one with the
+/// path.
 pub fn confirm_file<X: Wait + Opens, W: Write + Failed + Flushes, L: Onlooker>(
     rt: &X,
     alloc: Global,
@@ -117,8 +117,8 @@ pub fn confirm_file<X: Wait + Opens, W: Write + Failed + Flushes, L: Onlooker>(
     }
 }
 
-/// Reads a recorded history from a reader and an order of its operations from a file: [`confirm_text`] of what they have, with
-/// the same status, cost and waiting. The onlooker is told of each read of the file, and of one that fails with its path.
+/// Reads a recorded history from a reader and an order of its operations from a file: [`confirm_text`] of their bytes, with the same
+/// status, cost and waiting. The onlooker gets each read of the file, and a failed one with its path.
 pub fn confirm_input<X: Wait + Opens, R: Read + Failed, W: Write + Failed + Flushes, L: Onlooker>(
     rt: &X,
     alloc: Global,

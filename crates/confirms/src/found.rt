@@ -1,4 +1,4 @@
-//! What an order of a recorded history comes to.
+//! The finding for an order of a recorded history.
 ghost use Rattle.std.specs.Prelude.{◌≡◌, ◌⊎◌, [], None, IfOk, IfErr};
 ghost use Rattle.edn.specs.Refusals.{IsWhy};
 ghost use Rattle.processes.specs.Threads.{MayNotStart};
@@ -15,26 +15,26 @@ use onlookers::Onlooker;
 use std::alloc::Global;
 use witness::{Confirmation, confirm};
 
-/// What an order of a recorded history comes to.
+/// The finding for an order of a recorded history.
 #[derive(Drop)]
 pub enum Found {
-    /// Both were read to their ends: what the order shows.
+    /// Both were read to their ends: the result of the order.
     Shown(Confirmation),
     /// So many elements of the history were taken, and the next one was refused.
     RefusedEvent(usize, Refusal),
-    /// What is refused of the history, and no element's refusal.
+    /// A refusal of the history, other than that of an element.
     Refused(Refusal),
     /// So many elements of the order list indices, and the next one does not.
     RefusedElement(usize),
-    /// What is refused of the order, and no element's refusal.
+    /// A refusal of the order, other than that of an element.
     RefusedOrder(Refusal),
 }
 
-/// Reads a history of so many threads from bytes whose elements are events, and an order of its operations from others, and says
-/// what the order shows, where each key is an object of this kind.
+/// Reads a history of `concurrency` threads from bytes whose elements are events, and an order of its operations from others. It returns the
+/// result of the order, where each key is an object of this kind.
 ///
-/// What is refused of the history is found first. The bytes of each are read to their end. Takes the time of the bytes, and that
-/// of [`confirm`]. The onlooker is told how many events are taken, and what is refused.
+/// A refusal of the history comes first. The bytes of each are read to their end. Costs O(bytes), and what [`confirm`] costs. The onlooker
+/// gets the number of accepted events, and the refusal.
 pub fn confirm_bytes<L: Onlooker>(
     alloc: Global,
     concurrency: u32,
@@ -55,7 +55,7 @@ pub fn confirm_bytes<L: Onlooker>(
     }
 }
 
-// What the order shows of the history.
+// The result of the order for the history.
 fn shown(alloc: Global, history: History, kind: ModelKind, order: &[u32]) -> Found
     ensures { ((said : Confirmation) × (result ≡ Found.Shown said)
         × Shows kind history.events order.now said)
@@ -120,7 +120,7 @@ fn order_of<L: Onlooker>(alloc: Global, bytes: &[u8], onlooker: &L) -> Result<Ve
     }
 }
 
-/// What is refused of the order for this. Want of memory is not the order's.
+/// The refusal of the order for this. Out of memory is not the order's.
 pub(crate) fn refused_order(refusal: Refusal) -> Found
     ensures { result ≡ refused_of_order refusal }
 {

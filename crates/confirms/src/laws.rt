@@ -7,8 +7,8 @@ ghost use Rattle.confirms.specs.Listing.{IsOrderText};
 ghost use Rattle.confirms.specs.Found.{ComesTo, IsWhole};
 ghost use Rattle.confirms.specs.declared.found.Found.{Found};
 
-/// The bytes of a history and those of an order determine the events and the order, and all that is said of it: whether it is one,
-/// and else the place, the event and the reason, so the line and the exit status too.
+/// The bytes of a history and those of an order determine the events and the order, and the answer. That is whether the order is one, and
+/// else the place, the event and the reason, so the line and the exit status too.
 pub fn one_answer()
     ensures history { (c : ℕ) (bytes : List ℕ) (events others : List Event) →
         IsWhole c bytes events → IsWhole c bytes others → events ≡ others }

@@ -1,9 +1,9 @@
 //! An order of a recorded history, from the bytes of both to the line that says what the order shows.
 //!
-//! The history is read as for a check, the order as a list of the indices of invocations; `witness` says whether the order shows
-//! that the history is linearizable, or the first place at which something does not fit.
+//! The history is read as for a check, the order as a list of the indices of invocations. `witness` says whether the order shows that the
+//! history is linearizable, or the first place at which something does not fit.
 //!
-//! A call takes memory only where its result can be `AllocError`, or a refusal for want of memory.
+//! A call allocates only if its result can be `AllocError`, or a refusal because memory ran out.
 #![tactic(auto)]
 
 mod confirming;

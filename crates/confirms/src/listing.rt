@@ -13,11 +13,11 @@ use std::slice;
 /// The indices that the elements of a text list, one after another: each element is an index, an integer of 0 to 2^32 - 1, or a
 /// vector of them. Or by its place the first element that is neither.
 ///
-/// Takes the time of the bytes, and memory for all elements.
+/// Costs O(bytes), and memory for all elements.
 ///
 /// # Errors
 ///
-/// `Unreadable` where the bytes are no text, with its place; `NoMemory` where memory is refused.
+/// `Unreadable` if the bytes are not a text, with its place; `NoMemory` if memory is refused.
 pub fn indices_of_text(alloc: Global, bytes: &[u8]) -> Result<Result<Vec<u32>, usize>, Refusal>
     ensures listed { IfOk result (λ listed. IfOk listed (λ order. IsOrderText bytes.now order.items)) }
     ensures halted { IfOk result (λ listed. IfErr listed (ListsUpTo bytes.now)) }

@@ -14,16 +14,15 @@ use std::io::Write;
 use std::sync::Wait;
 use witness::{Confirmation, Misfit, Unfit};
 
-// What is written without memory: the line of a reader that failed, for which no want of memory may stand, and that of an order
-// which is one.
+// The lines that need no memory: the line of a reader that failed, which that of out of memory may not replace, and that of an order which
+// is one.
 const READ_FAILED: &str = "refused 20 ReadFailed\n";
 
 const ORDER_READ_FAILED: &str = "refused 20 ReadFailed order\n";
 
 const LINEARIZABLE: &str = "linearizable\n";
 
-// Writes what was found, or the line of want of memory where there is none for it, flushes, and gives the exit status: 3 where
-// the writer has failed.
+// Writes the finding, or the line of out of memory if there is none for it, flushes, and gives the exit status: 3 if the writer has failed.
 pub(crate) fn tell<X: Wait, W: Write + Failed + Flushes>(
     rt: &X,
     alloc: Global,
@@ -40,7 +39,7 @@ pub(crate) fn tell<X: Wait, W: Write + Failed + Flushes>(
     }
 }
 
-// Writes the line, with this status, or that of want of memory where there was none for it.
+// Writes the line, with this status, or that of out of memory if there was none for it.
 fn tell_line<X: Wait, W: Write + Failed + Flushes>(
     rt: &X,
     line: Result<String, AllocError>,
@@ -56,7 +55,7 @@ fn tell_line<X: Wait, W: Write + Failed + Flushes>(
     }
 }
 
-// The line of what was found, where it takes no memory.
+// The line of the finding, if it takes no memory.
 fn line_without_memory(found: &Found) -> Option<&'static str>
     ensures line { IfSome result (λ line. line.now ≡ found_text found.now) }
     ensures none { IfNone result ((found.now ≢ Found.Refused Refusal.ReadFailed)
@@ -70,7 +69,7 @@ fn line_without_memory(found: &Found) -> Option<&'static str>
     }
 }
 
-// The line of a reader that failed, where that is the refusal.
+// The line of a reader that failed, if that is the refusal.
 fn line_of_failed(refusal: &Refusal, line: &'static str) -> Option<&'static str>
     ensures line { IfSome result (λ given. (given.now ≡ line.now)
         × (refusal.now ≡ Refusal.ReadFailed)) }
@@ -82,7 +81,7 @@ fn line_of_failed(refusal: &Refusal, line: &'static str) -> Option<&'static str>
     }
 }
 
-// The line of what was found.
+// The line of the finding.
 fn line_of(alloc: Global, found: &Found) -> Result<String, AllocError>
     ensures { IfOk result (λ text. string_bytes text ≡ found_text found.now) }
 {
@@ -98,7 +97,7 @@ fn line_of(alloc: Global, found: &Found) -> Result<String, AllocError>
     }
 }
 
-// The line of what does not fit.
+// The line of an operation that does not fit.
 fn unfit_text(alloc: Global, unfit: &Unfit) -> Result<String, AllocError>
     ensures { IfOk result (λ text. string_bytes text ≡ unfit_line unfit.now) }
 {
@@ -109,7 +108,7 @@ fn unfit_text(alloc: Global, unfit: &Unfit) -> Result<String, AllocError>
     format!(in alloc; "{opening} place {place} event {event} {word}\n")
 }
 
-// The line of what is refused of an order.
+// The line of the refusal of an order.
 fn order_text(alloc: Global, refusal: &Refusal) -> Result<String, AllocError>
     ensures { IfOk result (λ text. string_bytes text ≡ order_line refusal.now) }
 {
@@ -119,7 +118,7 @@ fn order_text(alloc: Global, refusal: &Refusal) -> Result<String, AllocError>
     format!(in alloc; "refused {number} {name}{place} order\n")
 }
 
-// The exit status of what was found.
+// The exit status of the finding.
 fn status_of(found: &Found) -> u8
     ensures { result ≡ found_status found.now }
 {

@@ -48,14 +48,14 @@ atom_off n (in_brackets m h) = absurd (n.no_bracket _ refl)
 atom_off n (in_braces m h x) = absurd (n.no_brace _ refl)
 atom_off n (in_hash_braces m h x) = absurd (n.no_hash_brace _ refl)
 
--- a whole token that is no atom begins no element
+-- a whole token that is not an atom begins no element
 pub no_element : (d : ℕ) (t word rest : List ℕ) → OpensNothing t → t ≡ word ++ rest → IsToken word → MayFollowAtom rest → ((v : Value) → IsAtom word v → ⊥) → (v : Value) (r : List ℕ) → Reads d t v r → ⊥
 no_element d t word rest n whole i f none_of v r h =
     let a = atom_off n h in
     let same = one_token word a.0 rest r i (atom_token a.1) f a.2 (sym whole ∙ a.3) in
     none_of v (subst (λ w. IsAtom w v) (sym same.0) a.1)
 
--- what stands behind the inside of a collection
+-- the text behind the inside of a collection
 pub other_close : (d c : ℕ) (t rest r : List ℕ) (vs ws : Values) → ReadsAll d t vs rest → closes rest ≡ true → closes (c ∷ r) ≡ true → ReadsAll d t ws (c ∷ r) → (ws ≡ vs) × (rest ≡ c ∷ r)
 other_close d c t rest r vs ws h e k m = let same = one_list h m e k in (sym same.0, same.1)
 

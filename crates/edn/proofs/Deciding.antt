@@ -1,4 +1,4 @@
--- What an answer says of the fact that it decides, and an error of what was called
+-- The answers of functions that decide a fact, and the errors of the functions that they call
 use Rattle.std.proofs.Common.{◌≡◌, ◌≢◌, ℕ, ◌+◌, ◌≤◌, arith, subst, Bool, true, false, IsTrue, refl, sym, ap, ◌∙◌, Result, Ok, Err}
 use Rattle.std.specs.Result.{IsErrOf, IsErrAnd, IfOk}
 use Rattle.std.proofs.lemmas.Result.{err_from_is_err_and}
@@ -20,11 +20,11 @@ same_error {X} {Y} {r} {a} {b} {c} e f h =
     let l : a ≡ c = cc in
     ap (λ x. Err x) (sym f ∙ l)
 
--- fewer than so many, so one more still stands at most
+-- fewer than a number, so one more is at most that number
 pub one_more : (few many : ℕ) → few ≤ many → few ≢ many → few + 1 ≤ many
 one_more few many within other = grind arith
 
--- what was read is no refusal, and a refusal has no value
+-- a read value is not a refusal, and a refusal has no value
 pub was_read : {X : Type 0} {x : X} {P : Type 0} → IsErrOf (Ok x) Unreadable → P
 was_read e = absurd (cc e)
 

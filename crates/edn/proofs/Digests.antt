@@ -1,4 +1,4 @@
--- Numbers of values: as they are told, and that values that are the same have the same one
+-- Numbers of values: as they are computed, and that equal values have the same one
 use Rattle.std.proofs.Common.{◌≡◌, ℕ, ◌+◌, ◌<◌, ◌%◌, ◌^◌, List, [], ◌∷◌, ◌++◌, inl, inr, refl, sym, ap, ap₂, ◌∙◌, arith, take, length, get_or}
 use Rattle.std.proofs.lemmas.List.{take_more}
 use Rattle.std.proofs.Math.Nat.{add-mod-mod, mod-add-mod}

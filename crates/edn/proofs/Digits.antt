@@ -93,7 +93,7 @@ goes_past (y ∷ front) rest (x ∷ a) z e l =
     let h = goes_past front rest a z tails (omega arith) in
     (h.0, h.1, h.2, h.3, cc (h.4, heads))
 
--- what goes on has no more than the first digits
+-- a longer number has no more than the first digits
 too_large : (most : ℕ) (front more : List ℕ) (b value : ℕ) → digits_value 10 front ≡ value → IsTrue (is_digit b) → digits_value 10 (front ++ b ∷ more) ≤ most → 10 * value + (b - 48) ≤ most
 too_large most front more b value w i s =
     let l = digit_bounds b i in

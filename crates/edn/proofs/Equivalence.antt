@@ -2,7 +2,7 @@
 use Rattle.std.proofs.Common.{inl, inr, refl, sym, subst}
 use Rattle.edn.specs.Value.{Value, nil, bool, int, text, keyword, vector, pairs, members, Values, none, more, Pairs, no_pairs, pair, TakesOut, TakesPairOut, Same, SameInOrder, SameMembers, SamePairs}
 
--- members that match others can be told of in another order
+-- members that match others can have another order
 
 insert_member : (ws others vs : Values) (w v : Value) → TakesOut ws w others → Same w v → SameMembers others vs → SameMembers ws (more v vs)
 insert_member none others vs w v t s h = absurd t
@@ -23,7 +23,7 @@ commute (more a os) one two y w (inl t) k =
     (more a two, inr (two, refl, k'), inl (t.0, refl))
 commute (more a os) one two y w (inr t) k = past_head a os two t.0 y w t.2 (λ q j. commute os t.0 q y w t.2 j) (subst (λ x. TakesOut x w two) t.1 k)
 
--- what one takes out has its match in the other
+-- a member taken out of one list has its match in the other
 pub remove_member : (vs rest ws : Values) (v : Value) → TakesOut vs v rest → SameMembers vs ws → (w : Value) × (left : Values) × TakesOut ws w left × Same v w × SameMembers rest left
 remove_member none rest ws v t h = absurd t
 remove_member (more x xs) rest ws v (inl t) h = (h.0, h.1, h.2, subst (λ y. Same y h.0) t.0 h.3, subst (λ y. SameMembers y h.1) t.1 h.4)

@@ -1,4 +1,4 @@
--- What is read from a front is read from the whole, where something of the front is left
+-- The element that is read from a prefix is read from the whole, if some of the prefix is left
 use Rattle.std.proofs.Common.{◌≡◌, ℕ, ◌<◌, List, [], ◌∷◌, ◌++◌, length, ◌⊎◌, inl, inr, refl, ap, ◌∙◌, arith, append_assoc, append-nil}
 use Rattle.edn.specs.Value.{Value, Values}
 use Rattle.edn.specs.Bytes.{IsAtom, MayFollowAtom}

@@ -20,7 +20,7 @@ use Rattle.edn.proofs.Spellings.{begins_gap, no_atom, atom_token}
 use Rattle.edn.proofs.Extend.{at_front_end}
 use Rattle.edn.proofs.Beginnings.{reads_shorter, line_shorter}
 
--- what is read up to (r ++ z) is read up to r from the text without z
+-- text read up to (r ++ z) is read up to r from the text without z
 line_less : {t u : List ℕ} (r z : List ℕ) → u ≡ r ++ z → SkipsLine t u → (s : List ℕ) × (t ≡ s ++ z) × SkipsLine s r
 line_less [] z e at_end = ([], e, at_end)
 line_less (x ∷ r) z e at_end = absurd cc
@@ -370,7 +370,7 @@ stuck_kept m t s n p h = go (begun h.before h.values stop (omega (arith, h.size)
         let here = one_gap no_gap o.4 stop (reads_stop o.5) in
         at o.2 o.1 (at_front_end h.after (subst (λ b. Reads 0 b o.2 o.1) (sym here) o.5))
 
--- The place so far: the fronts of the bytes are at most best long, or go on in what is left
+-- The place so far: the prefixes of the bytes are at most best long, or go on in the rest
 pub record PlaceSoFar (bytes : List ℕ) (owed : ℕ) (rest : List ℕ) (best : ℕ) : Type 0 where
   pub within : length rest ≤ length bytes
   pub sound : (m : ℕ) → Ends owed rest m → Ends 0 bytes ((length bytes - length rest) + m)
@@ -500,7 +500,7 @@ of_front bytes m f =
     let c = cut_at m bytes f.0 in
     record { before = take m bytes; after = c.0; cut = c.1; size = c.2; values = f.1; read = f.2 }
 
--- at the end of the text, and where no element begins and nothing of what is left ends a front
+-- at the end of the text, and if no element begins and nothing of the rest ends a prefix
 pub head_end : (bytes : List ℕ) (owed : ℕ) (rest : List ℕ) (best : ℕ) → ((owed ≡ 0) → length bytes ≤ best + length rest) → ((j : ℕ) → 0 < j → Ends owed rest j → ⊥) → AtHead bytes owed rest best → IsLongestFront bytes best
 head_end bytes owed rest best here none_on p = record { is_front = front_of bytes best p.is_end; longest = λ m l f. go m l (p.complete m (of_front bytes m f)) }
   where

@@ -18,7 +18,7 @@ word_head nil_word = (_, _, refl, omega arith)
 word_head true_word = (_, _, refl, omega arith)
 word_head false_word = (_, _, refl, omega arith)
 
--- what an atom is, by its first byte
+-- the kinds of an atom, by its first byte
 data Kind (a : List ℕ) (v : Value) : Type 0 where
   is_word : (x : ℕ) (t : List ℕ) → a ≡ x ∷ t → 102 ≤ x → IsWord a v → Kind a v
   is_plain : (x : ℕ) (t : List ℕ) → a ≡ x ∷ t → 48 ≤ x → x ≤ 57 → IsNumeral a → digits_value 10 a < 2 ^ 63 → v ≡ int (pos (digits_value 10 a)) → Kind a v

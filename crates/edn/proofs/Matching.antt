@@ -81,7 +81,7 @@ has_in (more u us) others w z n (inr t) s h = under us t.0 u w z n (λ m k. has_
     under us rest u w z n deeper (inl h) = inl (h.0, h.1 + 1, omega (arith, h.2), deeper h.1 h.3)
     under us rest u w z n deeper (inr h) = inr (deeper n h)
 
--- vs are matched by what was taken out of ws, and left is what is left of it
+-- vs are matched by the elements that were taken out of ws, and left is the rest of it
 abbrev pub Into : Values → Values → Values → Type 0
 Into none ws left = ws ≡ left
 Into (more v vs) ws left = (w : Value) × (others : Values) × TakesOut ws w others × Same v w × Into vs others left

@@ -113,7 +113,7 @@ name_ascii (b ∷ bs) h (suc i) = rest_ascii bs h.1 i
 pub name_is_text : (bs : List ℕ) → IsKeywordText bs → IsUtf8 bs
 name_is_text bs h = IsUtf8-from_ascii bs (name_ascii bs h)
 
--- what is spelled as a keyword has a name
+-- text that is spelled as a keyword has a name
 pub name_of_keyword : {a bs : List ℕ} → IsAtom a (keyword bs) → IsKeywordText bs
 name_of_keyword (named k) = k
 

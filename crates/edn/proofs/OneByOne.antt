@@ -42,7 +42,7 @@ left_ended bytes given left rest f h =
           (b.0, a.1 ∙ ap (joined given) b.1, b.2);
     }
 
--- what was found, an element or the end
+-- the found element, or the end
 pub left_behind : (bytes : List ℕ) (given : Values) (left rest : List ℕ) (found : Option Edn) → FindsNext 0 left (option_map value_of found) rest → IsLeftBehind bytes given left →
     (after : Values) × IsLeftBehind bytes after rest
 left_behind bytes given left rest (Some e) f h = (joined given (more (value_of e) none), left_next bytes given left rest (value_of e) f h)

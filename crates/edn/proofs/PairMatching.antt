@@ -92,7 +92,7 @@ has_in (pair a u us) others l w j z n (inr t) s h = under us t.0 a u j z n (λ m
     under us rest a u j z n deeper (inl h) = inl (h.0, h.1 + 1, omega (arith, h.2), deeper h.1 h.3)
     under us rest a u j z n deeper (inr h) = inr (deeper n h)
 
--- vs are matched by what was taken out of ws, and left is what is left of it
+-- vs are matched by the elements that were taken out of ws, and left is the rest of it
 abbrev pub Into : Pairs → Pairs → Pairs → Type 0
 Into no_pairs ws left = ws ≡ left
 Into (pair k v vs) ws left = (l w : Value) × (others : Pairs) × TakesPairOut ws l w others × Both k v l w × Into vs others left

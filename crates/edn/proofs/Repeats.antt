@@ -53,7 +53,7 @@ distinct_new : (vs ws : Values) (v : Value) → AreDistinct (joined vs (more v w
 distinct_new none ws v d = tt
 distinct_new (more u us) ws v d = (λ s. new_at us ws u v d.0 (same_sym v u s), distinct_new us ws v d.1)
 
--- items with keys, of which the first i were seen
+-- items with keys; the first i were seen
 module _ {T : Type 0} (key : T → Value) where
   abbrev pub keys_in : List T → Values
   keys_in xs = list_of (map key xs)

@@ -1,4 +1,4 @@
--- A list of elements that is read on: so many elements are owed to discards first
+-- A list of elements that is read on: the first k elements go to discards
 use Rattle.std.proofs.Common.{◌≡◌, ℕ, zero, suc, ◌<◌, ◌⊎◌, inl, inr, true, false, IsTrue, Some, None, List, ◌∷◌, refl, sym, ap, ◌∙◌, subst, arith}
 use Rattle.edn.specs.Value.{Value, Values, none, more, joined}
 use Rattle.edn.specs.Bytes.{is_white}
@@ -13,7 +13,7 @@ abbrev pub Owes : ℕ → ℕ → List ℕ → Values → List ℕ → Type 0
 Owes d zero t vs r = ReadsAll d t vs r
 Owes d (suc k) t vs r = (u w : List ℕ) × (v : Value) × SkipsGap d t u × Reads d u v w × Owes d k w vs r
 
--- what goes on after a gap of t goes on after one of s
+-- text that goes on after a gap of t goes on after one of s
 pub moved : (d k : ℕ) (t s : List ℕ) → ((u : List ℕ) → begins_gap u ≡ false → SkipsGap d t u → SkipsGap d s u) →
     (vs : Values) (r : List ℕ) → closes r ≡ true → Owes d k t vs r → Owes d k s vs r
 moved d zero t s f vs r c (no_more g) = no_more (f r (closed_no_gap r c) g)
@@ -105,7 +105,7 @@ so_far_next d text read t w v f h = so_far_kept d text read f.0 w v f.2 (so_far_
 pub so_far_done : (d : ℕ) (text : List ℕ) (read : Values) (t w : List ℕ) → FindsNext d t None w → SoFar d text read t → ReadsAll d text read w
 so_far_done d text read t w f h = subst (λ x. ReadsAll d text x w) (joined_none read) (h.sound none w f.1 (no_more f.0))
 
--- A gap that is read on: so many elements are owed to discards first
+-- A gap that is read on: the first k elements go to discards
 abbrev pub OwesGap : ℕ → ℕ → List ℕ → List ℕ → Type 0
 OwesGap d zero t u = SkipsGap d t u
 OwesGap d (suc k) t u = (x y : List ℕ) × (v : Value) × SkipsGap d t x × Reads d x v y × OwesGap d k y u

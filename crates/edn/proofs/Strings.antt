@@ -6,7 +6,7 @@ use Rattle.edn.specs.Text.{ReadsString}
 use Rattle.edn.specs.Text.ReadsString.{closing, one_byte}
 use Rattle.edn.proofs.Unique.{one_spelled, no_spelled_quote, one_string}
 
--- what was read of the text so far, and what is left of it
+-- the part of the text that was read so far, and the rest
 pub record StringSoFar (text read rest : List ℕ) : Type 0 where
   pub sound : (s r : List ℕ) → ReadsString rest s r → ReadsString text (read ++ s) r
   pub complete : (s r : List ℕ) → ReadsString text s r → (left : List ℕ) × ReadsString rest left r

@@ -10,7 +10,7 @@ use Rattle.edn.specs.Digest.{digest, HasDigests}
 use Rattle.edn.proofs.Digests.{same_digest}
 use Rattle.edn.proofs.Repeats.{Among, not_among}
 
--- what is the same as a collection is one
+-- a value that is the same as a collection is one
 same_collection : (v w : Value) → IsCollection v → Same v w → IsCollection w
 same_collection nil w i s = absurd i
 same_collection (bool b) w i s = absurd i

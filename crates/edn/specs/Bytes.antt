@@ -26,7 +26,7 @@ is_letter b = (nat_le 65 b && nat_le b 90) || (nat_le 97 b && nat_le b 122)
 abbrev pub goes_on : ℕ → Bool
 goes_on b = is_letter b || is_digit b || is_one_of (45 ∷ 95 ∷ 63 ∷ 33 ∷ 42 ∷ 46 ∷ []) b
 
--- what may follow an atom: the end of the text, or a byte that ends atoms
+-- the bytes that may follow an atom: the end of the text, or a byte that ends atoms
 abbrev pub MayFollowAtom : List ℕ → Type 0
 MayFollowAtom [] = Unit {0}
 MayFollowAtom (b ∷ bs) = IsTrue (ends_atom b)
@@ -60,8 +60,8 @@ pub data IsEscape : ℕ → ℕ → Type 0 where
   backslash : IsEscape 92 92
   quote : IsEscape 34 34
 
--- the inside of a string begins with a spelling of this byte, and the rest follows it: every byte but a quote (34) and a
--- backslash (92) spells itself, and a backslash begins an escape
+-- the inside of a string begins with a spelling of this byte, and the rest follows it. Every byte but a quote (34) and a backslash (92)
+-- spells itself, and a backslash begins an escape
 pub data SpellsByte : List ℕ → ℕ → List ℕ → Type 0 where
   itself : {b : ℕ} {t : List ℕ} → ¬ (b ≡ 34) → ¬ (b ≡ 92) → SpellsByte (b ∷ t) b t
   escaped : {e b : ℕ} {t : List ℕ} → IsEscape e b → SpellsByte (92 ∷ e ∷ t) b t

@@ -12,7 +12,7 @@ abbrev pub HasSame : Value → Values → ℕ → Type 0
 HasSame v none n = n ≡ 0
 HasSame v (more w ws) n = (Same v w × (m : ℕ) × (n ≡ m + 1) × HasSame v ws m) ⊎ HasSame v ws n
 
--- the same of pairs, which are the same where their keys are and their values are
+-- the same of pairs, which are the same if their keys and their values are
 abbrev pub CountsSamePair : Value → Value → Pairs → ℕ → Type 0
 CountsSamePair k v no_pairs n = n ≡ 0
 CountsSamePair k v (pair l w ps) n = ((Same k l × Same v w) × (m : ℕ) × (n ≡ m + 1) × CountsSamePair k v ps m) ⊎ (¬ (Same k l × Same v w) × CountsSamePair k v ps n)

@@ -1,4 +1,4 @@
--- Invariant: a number of 64 bits by which most values are told apart; values that are the same have the same one
+-- Invariant: a number of 64 bits that is different for most values; equal values have the same one
 use Rattle.std.specs.Prelude.{◌≡◌, ℕ, ◌+◌, ◌*◌, ◌/◌, ◌%◌, ◌^◌, true, false, List, [], ◌∷◌, bit_xor}
 use Rattle.std.specs.Int.{cast_unsigned, w64}
 use Rattle.std.specs.Ordering.{nat_cmp}

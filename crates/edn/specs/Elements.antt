@@ -8,12 +8,12 @@ pub record Reading : Type 0 where
   pub bytes : List ℕ
   pub left : List ℕ
 
--- the bytes are a text exactly where left is one, and then of the values that were given and behind them those of left
+-- the bytes are a text exactly if left is one, and then of the values that were given and behind them those of left
 pub record IsLeftBehind (bytes : List ℕ) (given : Values) (left : List ℕ) : Type 0 where
   pub sound : (values : Values) → IsText left values → IsText bytes (joined given values)
   pub complete : (values : Values) → IsText bytes values → (others : Values) × (values ≡ joined given others) × IsText left others
 
--- behind a gap at the front of the text an element of this value stands, and rest follows it
+-- the text begins with a gap, and behind it an element of this value, and rest follows it
 abbrev pub IsNextAt : List ℕ → Value → List ℕ → Type 0
 IsNextAt text v rest = (u : List ℕ) × SkipsGap 0 text u × Reads 0 u v rest
 

@@ -1,4 +1,4 @@
--- Invariant: the longest spelling at the front of a text, for the functions behind `read_all`
+-- Invariant: the longest spelling at the beginning of a text, for the functions behind `read_all`
 use Rattle.std.specs.Prelude.{◌≡◌, ℕ, ◌+◌, ◌-◌, ◌*◌, ◌≤◌, ◌⊎◌, true, false, IsTrue, List, [], ◌∷◌, ◌++◌, length}
 use Rattle.std.specs.Str.Parse.{digits_value}
 use Rattle.edn.specs.Value.{Value, nil, bool, int, keyword}
@@ -42,7 +42,7 @@ pub record IsLongest {V : Type 0} (IsSpelling : List ℕ → V → Type 0) (text
   pub spells : IsSpelling front v
   pub longest : (a z : List ℕ) (w : V) → IsSpelling a w → text ≡ a ++ z → length a ≤ length front
 
--- no front of the text is a spelling
+-- no prefix of the text is a spelling
 abbrev pub HasNone : {V : Type 0} (IsSpelling : List ℕ → V → Type 0) → List ℕ → Type 0
 HasNone {V} IsSpelling text = (a z : List ℕ) (w : V) → IsSpelling a w → text ≡ a ++ z → ⊥
 

@@ -1,4 +1,4 @@
--- Promise: what a value is, if it is that, and the value at a keyword of a map
+-- Promise: the parts of a value of a given kind, and the value at a keyword of a map
 use Rattle.std.specs.Prelude.{ℕ, ℤ, Bool, false, Option, Some, None, List, if◌then◌else◌}
 use Rattle.std.specs.Str.{bytes_eq}
 use Rattle.edn.specs.Value.{Value, int, keyword, vector, pairs, Values, Pairs, no_pairs, pair}

@@ -1,4 +1,4 @@
--- Invariant: what stands at the front of a text, for the functions behind `read_all`
+-- Invariant: the beginning of a text, for the functions behind `read_all`
 use Rattle.std.specs.Prelude.{◌≡◌, ℕ, ◌+◌, ◌<◌, Bool, true, false, Option, Some, None, Result, List, [], ◌∷◌}
 use Rattle.std.specs.Result.{IsErrOf}
 use Rattle.std.specs.List.{AllByRecursion}
@@ -8,7 +8,7 @@ use Rattle.edn.specs.Text.{SkipsGap, Reads, ReadsAll}
 use Rattle.edn.specs.declared.read_error.ReadError.{ReadError}
 use Rattle.edn.specs.declared.read_error.ReadError.TheVariants.{Unreadable}
 
--- the fact holds where 'unreadable' was answered
+-- the fact holds if 'unreadable' was answered
 abbrev pub OnUnreadable : {T : Type 0} → Result T ReadError → Type 0 → Type 0
 OnUnreadable result P = IsErrOf result Unreadable → P
 

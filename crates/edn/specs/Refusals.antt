@@ -53,8 +53,8 @@ name_of ReadFailed = codes "ReadFailed"
 name_of WriteFailed = codes "WriteFailed"
 name_of TooLong = codes "TooLong"
 
--- the bytes are no text, and the place is the length of the longest front that is one; or memory ran out. A reader
--- is refused for no other reason.
+-- the bytes are not a text, and the place is the length of the longest prefix that is one; or memory ran out. A reader is refused for no
+-- other reason.
 abbrev pub IsWhy : List ℕ → Refusal → Type 0
 IsWhy bytes Busy = ⊥
 IsWhy bytes WrongProcess = ⊥

@@ -1,6 +1,6 @@
--- Promise: the grammar of texts. Each relation is between a text and what is left of it: `Reads open text value rest` says
--- that the text begins with an element of this value, and that rest follows it, while so many collections are open.
--- So what may follow an atom, and where the text ends, are facts of rest.
+-- Promise: the grammar of texts. Each relation is between a text and the rest of it. `Reads open text value rest` says that the text begins
+-- with an element of this value, and that rest follows it, while `open` collections are open. So what may follow an atom, and if the
+-- text ends, are facts of rest.
 use Rattle.std.specs.Prelude.{◌≡◌, ℕ, ◌+◌, ◌<◌, ◌≤◌, IsTrue, IsUtf8, List, [], ◌∷◌, ◌++◌, length, take}
 use Rattle.edn.specs.Value.{Value, text, vector, pairs, members, Values, none, more, Pairs, in_text, keys, AreDistinct}
 use Rattle.edn.specs.Bytes.{is_white, MayFollowAtom, IsAtom, SpellsByte}
@@ -11,7 +11,7 @@ pub data SkipsLine : List ℕ → List ℕ → Type 0 where
   at_line_feed : {t : List ℕ} → SkipsLine (10 ∷ t) (10 ∷ t)
   over : {b : ℕ} {t r : List ℕ} → ¬ (b ≡ 10) → SkipsLine t r → SkipsLine (b ∷ t) r
 
--- what stands behind the opening quote of a string, up to the closing quote, and the bytes that it spells
+-- the text behind the opening quote of a string, up to the closing quote, and the bytes that it spells
 pub data ReadsString : List ℕ → List ℕ → List ℕ → Type 0 where
   closing : {r : List ℕ} → ReadsString (34 ∷ r) [] r
   one_byte : {b : ℕ} {t u s r : List ℕ} → SpellsByte t b u → ReadsString u s r → ReadsString t (b ∷ s) r
@@ -42,11 +42,11 @@ mutual
 abbrev pub IsText : List ℕ → Values → Type 0
 IsText bytes values = ReadsAll 0 bytes values []
 
--- so many bytes at the front are a text
+-- the first n bytes are a text
 abbrev pub IsFront : List ℕ → ℕ → Type 0
 IsFront bytes n = (n ≤ length bytes) × (values : Values) × IsText (take n bytes) values
 
--- the longest front that is a text
+-- the longest prefix that is a text
 pub record IsLongestFront (bytes : List ℕ) (n : ℕ) : Type 0 where
   pub is_front : IsFront bytes n
   pub longest : (m : ℕ) → n < m → IsFront bytes m → ⊥

@@ -49,7 +49,7 @@ fn is_digit(b: u8) -> bool
     b.is_ascii_digit()
 }
 
-// The number with the digit at the front added to it, and what follows that digit, where the sum is at most `most`.
+// The number with the digit at the front added to it, and what follows that digit, if the sum is at most `most`.
 fn with_digit(value: u64, text: &[u8], most: u64) -> Option<(u64, &[u8])>
     requires { 9 ≤ most }
     ensures found { IfSome result (λ x. TakesDigit most value text.now x.0 x.1.now) }
@@ -107,7 +107,7 @@ fn goes_on(b: u8) -> bool
     is_letter(b) || is_digit(b) || matches!(b, b'-' | b'_' | b'?' | b'!' | b'*' | b'.')
 }
 
-// What follows a byte that goes on with a name.
+// The rest after a byte that continues a name.
 fn after_name_byte(text: &[u8]) -> Option<&[u8]>
     ensures found { IfSome result (λ rest. GoesOn text.now rest.now) }
     ensures none { IfNone result ((t : List ℕ) → ¬ GoesOn text.now t) }
@@ -131,8 +131,7 @@ fn longest_name(text: &[u8]) -> Option<(&[u8], &[u8])>
     Some(text.split_at(text.len() - rest.len()))
 }
 
-/// Whether the bytes are the name of a keyword: an ASCII letter, and then ASCII letters, digits and `-`, `_`, `?`, `!`, `*` or `.`.
-/// Takes the time of the bytes.
+/// Whether the bytes are a keyword's name: an ASCII letter, then ASCII letters, digits and `-`, `_`, `?`, `!`, `*`, `.`. Costs O(bytes).
 pub fn is_keyword_name(bytes: &[u8]) -> bool
     ensures { IsTrue result ↔ IsKeywordText bytes.now }
 {
@@ -142,7 +141,7 @@ pub fn is_keyword_name(bytes: &[u8]) -> bool
     }
 }
 
-// What follows this byte and these others, where they stand at the front.
+// The rest after this byte and these others, if the text begins with them.
 fn after_name<'a>(text: &'a [u8], first: u8, others: &[u8]) -> Option<&'a [u8]>
     ensures found { IfSome result (λ rest. text.now ≡ first ∷ others.now ++ rest.now) }
     ensures none { IfNone result ((t : List ℕ) → text.now ≡ first ∷ others.now ++ t → ⊥) }
@@ -176,7 +175,7 @@ fn without_plus(text: &[u8]) -> &[u8]
     }
 }
 
-/// The longest atom at the front, and what follows it; or none where no atom stands there.
+/// The longest atom at the front, and what follows it; or none if no atom stands there.
 pub fn longest_atom(text: &[u8]) -> Option<(Atom<'_>, &[u8])>
     ensures found { IfSome result (λ x. IsLongest IsAtom text.now (atom_value x.0) x.1.now) }
     ensures none { IfNone result (HasNone IsAtom text.now) }
@@ -206,8 +205,7 @@ fn keyword_of(alloc: Global, name: &[u8]) -> Result<Edn, ReadError>
     Ok(Edn::Keyword(String::from_str(alloc, text)?))
 }
 
-/// The value of a whole token. [`ReadError::Unreadable`] where it is no atom, [`ReadError::NoMemory`] where a growth was
-/// refused. Takes the time of the token.
+/// The value of a whole token. [`ReadError::Unreadable`] if it is not an atom, [`ReadError::NoMemory`] if an allocation fails.
 pub fn atom_of(alloc: Global, token: &[u8]) -> Result<Edn, ReadError>
     ensures ok { IfOk result (λ e. IsAtom token.now (value_of e)) }
     ensures unreadable { OnUnreadable result ((v : Value) → ¬ IsAtom token.now v) }

@@ -27,8 +27,7 @@ fn paired(alloc: Global, found: Vec<Edn>) -> Result<Vec<(Edn, Edn)>, ReadError>
     Ok(pairs)
 }
 
-/// The map whose keys and values these are in turn. [`ReadError::Unreadable`] where a key has no value or is repeated,
-/// [`ReadError::NoMemory`] where a growth was refused. Takes the time of finding repeated keys ([`are_distinct`]).
+/// The map whose keys and values these are in turn, if each key has a value and none is repeated. Costs what [`are_distinct`] costs.
 pub fn map_of(alloc: Global, found: Vec<Edn>) -> Result<Edn, ReadError>
     ensures ok { IfOk result
         (λ e. (ps : Pairs) × (value_of e ≡ pairs ps) × IsMapOf (values_of found.items) ps) }
@@ -43,8 +42,7 @@ pub fn map_of(alloc: Global, found: Vec<Edn>) -> Result<Edn, ReadError>
     Ok(Edn::Map(pairs))
 }
 
-/// The set of these members. [`ReadError::Unreadable`] where one is repeated, [`ReadError::NoMemory`] where a growth was
-/// refused. Takes the time of finding repeated members ([`are_distinct`]).
+/// The set of these members, if none is repeated. Costs what [`are_distinct`] costs.
 pub fn set_of(alloc: Global, found: Vec<Edn>) -> Result<Edn, ReadError>
     ensures ok { IfOk result (λ e. value_of e ≡ members (values_of found.items)) }
     ensures distinct { IfOk result (λ e. AreDistinct (values_of found.items)) }

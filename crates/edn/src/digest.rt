@@ -1,4 +1,4 @@
-//! A number of each element, by which most elements are told apart.
+//! A number of each element, which is different for most elements.
 
 ghost use Rattle.std.specs.Prelude.{◌≡◌, ◌+◌, ◌%◌, ◌^◌};
 ghost use Rattle.edn.specs.Digest.{digest, digest_bytes, digest_in_order, digest_members, digest_pairs, stirred};
@@ -16,14 +16,14 @@ fn stirred(number: u64) -> u64
     higher ^ (higher >> 32)
 }
 
-// The number with one more told.
+// The number with one more summand.
 fn with(number: u64, more: u64) -> u64
     ensures { result ≡ stirred ((number + more) % 2 ^ 64) }
 {
     stirred(number.wrapping_add(more))
 }
 
-// The number with the bytes told, one after the other.
+// The number with the bytes added, one after the other.
 fn with_bytes(number: u64, bytes: &[u8]) -> u64
     ensures { result ≡ digest_bytes number bytes.now }
 {
@@ -34,8 +34,7 @@ fn with_bytes(number: u64, bytes: &[u8]) -> u64
     told
 }
 
-/// The number of an element. Elements that are the same have the same one, whatever the order of the pairs of a map or of the
-/// members of a set. Takes the time of the element.
+/// The number of an element: the same for equal elements, whatever the order of pairs and members. Costs O(size of the element).
 #[cycle(digest)]
 pub fn digest(element: &Edn) -> u64
     ensures { result ≡ digest (value_of element.now) }

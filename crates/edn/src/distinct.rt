@@ -12,11 +12,10 @@ use crate::value::Edn;
 use std::alloc::{AllocError, Global};
 use std::collections::BTreeSet;
 
-/// What stands by its key among others: a pair of a map, or a member of a set.
+/// An item with a key: a pair of a map, or a member of a set.
 pub trait Keyed {
     ghost key_value: { Self → Value };
 
-    /// Its key.
     fn key(&self) -> &Edn
         ensures { value_of result.now ≡ key_value self.now };
 }
@@ -37,7 +36,7 @@ impl Keyed for (Edn, Edn) {
     }
 }
 
-/// An atom or a string. Two are the same where they are equal, and they have an order.
+/// An atom or a string. Two are the same if they are equal, and they have an order.
 #[derive(Clone, Copy, PartialEq, Eq, PartialOrd, Ord)]
 pub enum Scalar<'a> {
     Nil,
@@ -47,7 +46,7 @@ pub enum Scalar<'a> {
     Keyword(&'a str),
 }
 
-// The atom or the string that an element is, if it is no collection.
+// The element as an atom or a string, if it is not a collection.
 fn scalar_of(element: &Edn) -> Option<Scalar<'_>>
     ensures { MatchOption result
         (IsCollection (value_of element.now)) (λ s. value_of element.now ≡ scalar_value s) }
@@ -85,8 +84,7 @@ fn above(n: &i64, last: Option<i64>) -> Option<i64>
     }
 }
 
-// Whether the keys are integers, each greater than the one before it, as those of a set that is written in order. They are
-// all different then.
+// Whether the keys are integers that rise, as in a set that is written in order. Then all are different.
 fn rise<T: Keyed>(items: &[T]) -> bool
     ensures { IsTrue result → AreDistinct (list_of (map T.key_value items.now)) }
 {
@@ -103,8 +101,7 @@ fn rise<T: Keyed>(items: &[T]) -> bool
     true
 }
 
-// Whether none of the items has the same key, a collection, whose number is put into the set. The set has those of the items that
-// are collections. Only where it has the key's, too, the items are looked through.
+// Whether none of the items has the same key, a collection. Its number is put into the set, and only a known number needs a search.
 fn is_new_collection<T: Keyed>(
     digests: &mut BTreeSet<u64>,
     key: &Edn,
@@ -121,13 +118,11 @@ fn is_new_collection<T: Keyed>(
     Ok(is_first || is_not_among(key, items))
 }
 
-// Among so many items each key is compared with those before it, which takes no memory.
+// Up to this number of items each key is compared with those before it, which takes no memory.
 const FEW: usize = 8;
 
-/// Whether no two of the items have the same key; `AllocError` where there is no memory to find it. The time grows with the
-/// logarithm of their number for each item, and with their number for a collection alone that is told from an earlier one by no
-/// number ([`digest`]). Of at most 8 items, each is compared with those before it; integers that rise are looked at once, and take
-/// no memory.
+/// Whether no two of the items have the same key. Costs O(log n) for each item, and O(n) for a collection whose number ([`digest`]) an
+/// earlier one has. Up to 8 items are compared in pairs. Rising integers are read once, without memory.
 pub fn are_distinct<T: Keyed>(alloc: Global, items: &[T]) -> Result<bool, AllocError>
     ensures { IfOk result
         (λ yes. IsTrue yes ↔ AreDistinct (list_of (map T.key_value items.now))) }

@@ -16,8 +16,7 @@ use crate::value::Edn;
 use std::alloc::Global;
 use std::marker::Model;
 
-/// The elements of a text, given one after the other. They are those that [`read_all`](crate::read_all) gives, and only
-/// the one that is being read takes memory.
+/// The elements of a text, one after the other, as [`read_all`](crate::read_all) gives them. Only the one being read takes memory.
 #[derive(Drop)]
 pub struct Elements<'a> {
     bytes: &'a [u8],
@@ -42,15 +41,12 @@ impl<'a> Elements<'a> {
         Elements { bytes, rest: bytes }
     }
 
-    /// The next element, or none at the end of the text.
+    /// The next element, or none at the end of the text. Costs one pass over the element and the gap before it, two over a refused input,
+    /// and the search for repeated keys and members.
     ///
     /// # Errors
-    /// [`Refusal::Unreadable`] where the input is no text, with the same place as [`read_all`](crate::read_all): at the latest
-    /// where the next element or the end of the text should stand, and then at each further call. [`Refusal::NoMemory`] where a
-    /// growth was refused; the element can be asked for again.
-    ///
-    /// The time is that of one pass over the element and the gap in front of it, and two over the input where it is refused;
-    /// and of finding repeated keys and members, as [`read_all`](crate::read_all) says.
+    /// [`Refusal::Unreadable`] as by [`read_all`](crate::read_all), at the latest where the next element or the end should be, and then at
+    /// each further call. [`Refusal::NoMemory`] if an allocation fails; the element can be asked for again.
     pub fn next(&mut self, alloc: Global) -> Result<Option<Edn>, Refusal>
         ensures bytes { self.new.bytes ≡ self.old.bytes }
         ensures given { IfOk result (λ found. IfSome found (λ e. (given : Values)
@@ -68,15 +64,14 @@ impl<'a> Elements<'a> {
         Ok(found)
     }
 
-    /// What stands behind the elements that were given: the gap in front of the next one, that element, and so on.
+    /// The rest behind the elements that were given: a gap, the next element, and so on.
     pub fn left(&self) -> &'a [u8]
         ensures { result.now ≡ self.now.left }
     {
         self.rest
     }
 
-    /// Passes over the next element, which the caller has read at the front of [`left`](Elements::left) by itself: rest follows it.
-    /// Takes constant time.
+    /// Passes over the next element, which the caller has read from [`left`](Elements::left): rest follows it. Takes constant time.
     pub fn pass_to(&mut self, rest: &'a [u8])
         requires { (v : Value) × IsNextAt self.old.left v rest.now }
         ensures bytes { self.new.bytes ≡ self.old.bytes }
@@ -113,13 +108,8 @@ fn found_in<'a>(
     }
 }
 
-/// The number of elements of a text, of which none is kept: after it each of them can be taken from [`Elements`] and no
-/// place is refused.
-///
-/// # Errors
-/// Those of [`read_all`](crate::read_all), with the same place.
-///
-/// The time is that of reading the text.
+/// The number of elements of a text, which are not kept: then [`Elements`] gives each of them and refuses no place. Errors and cost are
+/// those of [`read_all`](crate::read_all).
 pub fn check_text(alloc: Global, bytes: &[u8]) -> Result<usize, Refusal>
     ensures read { IfOk result (λ count. (values : Values) × IsText bytes.now values
         × (count ≡ count_of values)) }

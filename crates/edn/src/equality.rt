@@ -1,7 +1,6 @@
 //! Equality of elements, where the pairs of a map and the members of a set may stand in any order.
-//!
-//! Two sets are the same where each member of the one has among the members of the other more that are the same as it
-//! than stand before it in its own set. So nothing has to be marked as taken, and no memory is needed.
+//! Two sets are the same under this condition: for each member of the one, the other has more members equal to it than come before it in
+//! its own set. So no member is marked as taken, and no memory is needed.
 
 ghost use Rattle.std.specs.Prelude.{◌+◌, ◌↔◌, IsTrue};
 ghost use Rattle.edn.specs.Value.{Same, SameInOrder, SameMembers, SamePairs, pairs, members};
@@ -10,8 +9,7 @@ ghost use Rattle.edn.specs.View.{value_of, values_of, entries_of};
 
 use crate::value::Edn;
 
-/// Whether two elements are equal, where the pairs of a map and the members of a set may stand in any order, at every
-/// depth. No memory is taken. The time grows with the product of the lengths of two maps or sets.
+/// Whether two elements are equal, whatever the order of pairs and members. Takes no memory, and O(m n) for two maps or sets.
 #[cycle(same)]
 pub fn same(a: &Edn, b: &Edn) -> bool
     ensures { IsTrue result ↔ Same (value_of a.now) (value_of b.now) }
@@ -60,7 +58,6 @@ fn same_members(xs: &[Edn], ys: &[Edn]) -> bool
     true
 }
 
-// How many of the elements are the same as x.
 #[cycle(same)]
 fn count_same(x: &Edn, elements: &[Edn]) -> usize
     ensures { CountsSame (value_of x.now) (values_of elements.now) result }
@@ -74,7 +71,7 @@ fn count_same(x: &Edn, elements: &[Edn]) -> usize
     count
 }
 
-// Whether more than so many of the elements are the same as x.
+// Whether more than `count` of the elements are the same as x.
 #[cycle(same)]
 fn has_more_same(x: &Edn, elements: &[Edn], count: usize) -> bool
     ensures { IsTrue result ↔ HasSame (value_of x.now) (values_of elements.now) (count + 1) }
@@ -129,7 +126,7 @@ fn count_same_pairs(x: &(Edn, Edn), pairs: &[(Edn, Edn)]) -> usize
     count
 }
 
-// Whether more than so many of the pairs have the same key and the same value as x.
+// Whether more than `count` of the pairs have the same key and the same value as x.
 #[cycle(same)]
 fn has_more_same_pairs(x: &(Edn, Edn), pairs: &[(Edn, Edn)], count: usize) -> bool
     ensures { IsTrue result

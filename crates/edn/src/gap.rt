@@ -1,4 +1,4 @@
-//! What may stand between elements, and where elements end.
+//! Gaps between elements, and the ends of elements.
 
 ghost use Rattle.std.specs.Prelude.{◌≡◌, ℕ, ◌∷◌, true, false, List, IfSome, IfNone};
 ghost use Rattle.edn.specs.Bytes.{is_white};
@@ -11,7 +11,7 @@ fn is_white(b: u8) -> bool
     matches!(b, b' ' | b'\t' | b'\n' | b'\r' | b',')
 }
 
-/// What follows the byte, where it stands at the front.
+/// The rest after the byte, if the text begins with it.
 pub fn after(text: &[u8], byte: u8) -> Option<&[u8]>
     ensures found { IfSome result (λ rest. text.now ≡ byte ∷ rest.now) }
     ensures none { IfNone result ((t : List ℕ) → text.now ≡ byte ∷ t → ⊥) }
@@ -20,7 +20,7 @@ pub fn after(text: &[u8], byte: u8) -> Option<&[u8]>
     if *first == byte { Some(rest) } else { None }
 }
 
-/// What follows a byte of white space at the front.
+/// The rest after a byte of white space at the beginning.
 pub fn after_white(text: &[u8]) -> Option<&[u8]>
     ensures found { IfSome result
         (λ rest. (b : ℕ) × (text.now ≡ b ∷ rest.now) × (is_white b ≡ true)) }
@@ -30,7 +30,7 @@ pub fn after_white(text: &[u8]) -> Option<&[u8]>
     if is_white(*first) { Some(rest) } else { None }
 }
 
-/// What follows the two bytes that begin a discard.
+/// The rest after the two bytes that begin a discard.
 pub fn after_discard(text: &[u8]) -> Option<&[u8]>
     ensures found { IfSome result (λ rest. text.now ≡ 35 ∷ 95 ∷ rest.now) }
     ensures none { IfNone result ((t : List ℕ) → text.now ≡ 35 ∷ 95 ∷ t → ⊥) }
@@ -38,7 +38,7 @@ pub fn after_discard(text: &[u8]) -> Option<&[u8]>
     after(after(text, b'#')?, b'_')
 }
 
-/// What follows the two bytes that open a set.
+/// The rest after the two bytes that open a set.
 pub fn after_set_opening(text: &[u8]) -> Option<&[u8]>
     ensures found { IfSome result (λ rest. text.now ≡ 35 ∷ 123 ∷ rest.now) }
     ensures none { IfNone result ((t : List ℕ) → text.now ≡ 35 ∷ 123 ∷ t → ⊥) }
@@ -46,7 +46,7 @@ pub fn after_set_opening(text: &[u8]) -> Option<&[u8]>
     after(after(text, b'#')?, b'{')
 }
 
-/// What is left from the end of the line on.
+/// The rest of the text from the end of the line on.
 pub fn line_end(text: &[u8]) -> &[u8]
     ensures { SkipsLine text.now result.now }
 {

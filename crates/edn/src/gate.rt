@@ -1,5 +1,4 @@
-/// What each piece of some work calls as it begins and as it ends, by its place from 0. A test gives one of its own
-/// to hold pieces back, and so sees that two of them run at once.
+/// Called as each piece of some work begins and ends, by its number. A test holds pieces back, and so sees that two run at once.
 pub trait Gate {
     /// The piece at this place begins.
     fn begin(&self, place: u32);

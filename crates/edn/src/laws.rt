@@ -9,7 +9,7 @@ pub fn one_reading()
     ensures { (bytes : List ℕ) (v w : Values) → IsText bytes v → IsText bytes w → v ≡ w }
 {}
 
-/// An input has one longest front that is a text, so there is one place at which it is refused.
+/// An input has one longest prefix that is a text, so there is one place at which it is refused.
 pub fn one_place()
     ensures { (bytes : List ℕ) (m n : ℕ) → IsLongestFront bytes m → IsLongestFront bytes n → m ≡ n }
 {}
@@ -19,8 +19,7 @@ pub fn discards_are_skipped()
     ensures { IsText (35 ∷ 95 ∷ 32 ∷ 91 ∷ 93 ∷ 32 ∷ 49 ∷ 59 ∷ 120 ∷ []) (more (int (pos 1)) none) }
 {}
 
-/// Each value is the same as itself; of two that are the same either may stand first; and values that are the same as
-/// a third are the same.
+/// Each value is the same as itself; of two that are the same either may stand first; and values that are the same as a third are the same.
 pub fn sameness_is_an_equivalence()
     ensures reflexive { (v : Value) → Same v v }
     ensures symmetric { (v w : Value) → Same v w → Same w v }

@@ -1,12 +1,10 @@
-//! Texts of a profile of EDN (<https://github.com/edn-format/edn>), and what every layer above shares: why a call is
-//! refused ([`Refusal`]), and what pieces of work call as they begin and end ([`Gate`]).
+//! Texts of a profile of EDN (<https://github.com/edn-format/edn>), the reasons of refusals for every layer ([`Refusal`]), and the calls at
+//! the begin and end of pieces of work ([`Gate`]).
 //!
-//! [`read_all`] reads `nil`, `true`, `false`, integers of 64 bits, keywords, strings, vectors, maps and sets, with white
-//! space, comments and discards between them. [`Elements`] gives them one after the other, so that a long text need not be
-//! held as elements, and [`check_text`] says beforehand whether it is one. [`same`] compares two elements and leaves out of
-//! account in which order a map or a set was spelled. Texts are written by the crate `edn_writer`.
+//! [`read_all`] reads a text, [`Elements`] gives its elements one after the other, and [`check_text`] says beforehand whether it is one.
+//! [`same`] compares two elements, whatever the order of pairs and members. The crate `edn_writer` writes texts.
 //!
-//! A call takes memory only where its result can be `AllocError`, or a refusal for want of memory.
+//! A call allocates only if its result can be `AllocError`, or a refusal because memory ran out.
 #![tactic(auto)]
 
 mod atom;

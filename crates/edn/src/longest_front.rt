@@ -13,7 +13,7 @@ use crate::reader::{discarded, element};
 use crate::refusal::Refusal;
 use std::alloc::Global;
 
-// The length of the longest front that is a text, in one pass over the bytes.
+// The length of the longest prefix that is a text, in one pass over the bytes.
 fn place_of(alloc: Global, bytes: &[u8]) -> Result<usize, ReadError>
     ensures ok { IfOk result (λ n. IsLongestFront bytes.now n) }
     ensures never { OnUnreadable result ⊥ }
@@ -58,8 +58,7 @@ fn place_of(alloc: Global, bytes: &[u8]) -> Result<usize, ReadError>
     Ok(best)
 }
 
-/// Why an input that is no text is refused: [`Refusal::Unreadable`] with the length of its longest front that is one, or
-/// [`Refusal::NoMemory`] where a growth was refused. The time is that of reading the input.
+/// Why an invalid input is refused: [`Refusal::Unreadable`] with the length of its longest prefix that is a text, or out of memory.
 pub fn unreadable(alloc: Global, bytes: &[u8]) -> Refusal
     requires { (values : Values) → IsText bytes.now values → ⊥ }
     ensures { IsWhy bytes.now result }

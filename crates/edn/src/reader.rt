@@ -1,4 +1,4 @@
-//! The reader: functions from a text to what is read at its front and what is left of it.
+//! The reader: functions from a text to the element at its beginning and the rest of it.
 
 ghost use Rattle.std.specs.Prelude.{◌≡◌, ℕ, List, [], ◌∷◌, true, option_map, IfOk, IfErr};
 ghost use Rattle.edn.specs.Value.{Values};
@@ -17,17 +17,16 @@ use crate::string::string_of;
 use crate::value::Edn;
 use std::alloc::Global;
 
-/// At most so many collections are open at once, so that reading and dropping need little stack.
+/// The most collections that may be open at once, so that reading and dropping need little stack.
 pub const MAX_OPEN: u8 = 32;
 
-// Room for so many elements of a collection is made at once.
+// The number of elements of a collection for which room is made at once.
 const ROOM: usize = 10;
 
 /// Drops an element. Dropped in a larger function, an enum gives that function's goals once for each variant.
 pub fn discarded(_value: Edn) {}
 
-/// The element at the front, and what follows it. [`ReadError::Unreadable`] where none stands there with so many collections
-/// open, [`ReadError::NoMemory`] where a growth was refused. The time is that of reading it.
+/// The element at the front, and the rest. [`ReadError::Unreadable`] if there is none with `depth` collections open.
 #[cycle(reader)]
 pub fn element(alloc: Global, depth: u8, text: &[u8]) -> Result<(Edn, &[u8]), ReadError>
     ensures ok { IfOk result (λ x. Reads depth text.now (value_of x.0) x.1.now) }
@@ -99,9 +98,7 @@ fn inside(alloc: Global, depth: u8, text: &[u8]) -> Result<(Vec<Edn>, &[u8]), Re
     }
 }
 
-/// The next element behind a gap, and what follows it; or none where the text or a collection ends behind the gap.
-/// [`ReadError::Unreadable`] where neither is there, [`ReadError::NoMemory`] where a growth was refused. The time is that of
-/// reading it.
+/// The next element behind a gap, and the rest; or none at an end. [`ReadError::Unreadable`] if neither is there.
 #[cycle(reader)]
 pub fn next_element(
     alloc: Global,
@@ -137,7 +134,6 @@ pub fn next_element(
     Ok((None, rest))
 }
 
-// The elements of a text.
 fn text_of(alloc: Global, bytes: &[u8]) -> Result<Vec<Edn>, ReadError>
     ensures ok { IfOk result (λ v. IsText bytes.now (values_of v.items)) }
     ensures unreadable { OnUnreadable result ((vs : Values) → ¬ IsText bytes.now vs) }
@@ -150,18 +146,13 @@ fn text_of(alloc: Global, bytes: &[u8]) -> Result<Vec<Edn>, ReadError>
     }
 }
 
-/// The elements of a text, in order. A text is a profile of EDN: `nil`, `true`, `false`, integers of 64 bits, keywords
-/// without a namespace, strings, vectors, maps and sets, of which at most 32 are open at once, with white space,
-/// comments and discards between them. The keys of a map and the members of a set are distinct by
-/// [`same`](crate::same).
+/// The elements of a text, in order. A text is a profile of EDN: `nil`, `true`, `false`, integers of 64 bits, keywords without a namespace,
+/// strings, vectors, maps and sets. At most 32 collections are open at once. White space, comments and discards may come between elements.
+/// The keys of a map and the members of a set are distinct by [`same`](crate::same). The cost is one pass over the input, two if it is
+/// refused, and the search for repeated keys and members: O(n log n) for n atoms and strings, and O(m n) for m collections among them.
 ///
 /// # Errors
-/// [`Refusal::Unreadable`] where the input is no text, with the length in bytes of the longest front of it that is
-/// one; [`Refusal::NoMemory`] where a growth was refused.
-///
-/// The time is that of one pass over the input, two where it is refused, and of finding repeated keys and members: it
-/// grows with n log n where n of them are atoms or strings, and with the product of the number of those that are
-/// collections and the number of all.
+/// [`Refusal::Unreadable`] with the length in bytes of the longest prefix that is a text; [`Refusal::NoMemory`] if an allocation fails.
 pub fn read_all(alloc: Global, bytes: &[u8]) -> Result<Vec<Edn>, Refusal>
     ensures read { IfOk result (λ v. IsText bytes.now (values_of v.items)) }
     ensures refused { IfErr result (λ why. IsWhy bytes.now why) }

@@ -28,7 +28,7 @@ pub enum Refusal {
     BadBudget,
     #[error("the concurrency is outside its limits")]
     BadConcurrency,
-    /// The length in bytes of the longest front of the input that is a text.
+    /// The length in bytes of the longest prefix of the input that is a text.
     #[error("the longest front of the input that is a text has {0} bytes")]
     Unreadable(usize),
     #[error("the tape or its tickets are full")]

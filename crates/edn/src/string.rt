@@ -1,5 +1,3 @@
-//! Strings.
-
 ghost use Rattle.std.specs.Prelude.{ℕ, List, string_bytes, IfOk, IfSome, IfNone};
 ghost use Rattle.std.specs.Str.{IsUtf8};
 ghost use Rattle.edn.specs.Bytes.{IsEscape, SpellsByte};
@@ -24,7 +22,7 @@ fn unescaped(letter: u8) -> Option<u8>
     }
 }
 
-// The byte that is spelled at the front of a string's inside, and what follows it.
+// The byte that the inside of a string spells at its beginning, and the rest.
 fn next_byte(text: &[u8]) -> Option<(u8, &[u8])>
     ensures found { IfSome result (λ x. SpellsByte text.now x.0 x.1.now) }
     ensures none { IfNone result ((b : ℕ) (t : List ℕ) → ¬ SpellsByte text.now b t) }
@@ -41,8 +39,7 @@ fn next_byte(text: &[u8]) -> Option<(u8, &[u8])>
     Some((byte, behind))
 }
 
-/// The string behind an opening quote, and what follows its closing quote. [`ReadError::Unreadable`] where there is none or its
-/// bytes are no UTF-8, [`ReadError::NoMemory`] where a growth was refused. The time is that of its bytes.
+/// The string behind an opening quote, and the rest. [`ReadError::Unreadable`] if there is none or its bytes are not UTF-8.
 pub fn string_of(alloc: Global, text: &[u8]) -> Result<(String, &[u8]), ReadError>
     ensures ok { IfOk result (λ x. ReadsString text.now (string_bytes x.0) x.1.now) }
     ensures unreadable { OnUnreadable result

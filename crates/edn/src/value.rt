@@ -1,13 +1,10 @@
-//! Elements of a text.
-
 ghost use Rattle.std.specs.Prelude.{◌≡◌, ◌↔◌, IsTrue, option_map};
 ghost use Rattle.std.specs.Option.{option_copied};
 ghost use Rattle.edn.specs.Value.{nil};
 ghost use Rattle.edn.specs.Parts.{int_in, name_in, elements_in, value_in, is_keyword, value_at};
 ghost use Rattle.edn.specs.View.{value_of, values_of, entries_of, found_value};
 
-/// An element of a text, as the EDN description names them. A keyword is kept without its colon. Maps and sets keep
-/// the order in which they were spelled, which means nothing: compare with [`same`](crate::same).
+/// An element of a text. A keyword has no colon here. The order of maps and sets means nothing: compare with [`same`](crate::same).
 #[derive(Drop)]
 pub enum Edn {
     Nil,
@@ -21,7 +18,6 @@ pub enum Edn {
 }
 
 impl Edn {
-    /// Whether this is nil.
     pub fn is_nil(&self) -> bool
         ensures { IsTrue result ↔ (value_of self.now ≡ nil) }
     {
@@ -58,8 +54,7 @@ impl Edn {
         }
     }
 
-    /// The value of the map's first pair whose key is the keyword of this name, if this is a map with such a key. The time is that
-    /// of one pass over the pairs.
+    /// The value of the map's first pair whose key is the keyword of this name, if there is one. Costs one pass over the pairs.
     pub fn get(&self, name: &str) -> Option<&Edn>
         ensures { found_value result ≡ value_in name.now (value_of self.now) }
     {

@@ -1,4 +1,4 @@
--- What is read is in the profile
+-- Read elements are in the profile
 use Rattle.std.proofs.Common.{ℕ, zero, suc, ◌^◌, ◌≤◌, pos, List, arith}
 use Rattle.std.specs.Prelude.{neg_ℤ}
 use Rattle.edn.specs.Value.{Value, Values, Pairs, no_pairs, pair, in_text}

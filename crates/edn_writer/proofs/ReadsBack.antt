@@ -74,7 +74,7 @@ other_members vs = flat_map (λ y. (32 ∷ []) ++ y) (texts_of vs)
 abbrev other_pairs : Pairs → List ℕ
 other_pairs ps = flat_map (λ y. (44 ∷ 32 ∷ []) ++ y) (pair_texts_of ps)
 
--- what stands behind an element of a collection may follow an atom
+-- the text behind an element of a collection may follow an atom
 after_member : (vs : Values) (r : List ℕ) → MayFollowAtom r → MayFollowAtom (other_members vs ++ r)
 after_member none r f = f
 after_member (more v vs) r f = refl

@@ -4,7 +4,7 @@ use Rattle.std.specs.List.{flat_map, join_by}
 use Rattle.std.specs.Fmt.{signed_decimal}
 use Rattle.edn.specs.Value.{Value, nil, bool, int, text, keyword, vector, pairs, members, Values, none, more, Pairs, no_pairs, pair}
 
--- a byte in a string: behind a backslash (92) the letter of its escape where it has one, and as it is where not
+-- a byte in a string: behind a backslash (92) the letter of its escape if it has one, and as it is if not
 abbrev pub spelling : ℕ → List ℕ
 spelling b =
     cond (b == 9) (92 ∷ 116 ∷ [])
@@ -14,8 +14,8 @@ spelling b =
 abbrev pub separated_by : List ℕ → List (List ℕ) → List ℕ
 separated_by separator texts = join_by (λ t. t) separator texts
 
--- nil, true and false; integers in decimal, without a plus; "..." for a string, :name for a keyword; [a b] and #{a b} with a
--- space between members; {k v, k v} with a space in a pair, and a comma and a space between pairs
+-- nil, true and false; integers in decimal, without a plus; "..." for a string, :name for a keyword. [a b] and #{a b} have a space between
+-- members. {k v, k v} has a space in a pair, and a comma and a space between pairs
 abbrev mutual
   pub canonical : Value → List ℕ
   canonical nil = 110 ∷ 105 ∷ 108 ∷ []

@@ -8,8 +8,8 @@ abbrev pub IsInteger64 : ℤ → Type 0
 IsInteger64 (pos n) = n < 2 ^ 63
 IsInteger64 (negsuc n) = n < 2 ^ 63
 
--- with so many collections open round the value: integers have 64 bits, strings are UTF-8, keywords have their shape, the
--- keys of a map and the members of a set are distinct, and at most 32 collections are open at once
+-- d collections are open round the value. Integers have 64 bits, strings are UTF-8, and keywords have their shape. The keys of a map
+-- and the members of a set are distinct, and at most 32 collections are open at once
 abbrev mutual
   pub IsInProfileAt : ℕ → Value → Type 0
   IsInProfileAt d nil = Unit {0}

@@ -1,4 +1,4 @@
--- Invariant: what was appended to a vector, for the functions behind `write`
+-- Invariant: the bytes that were appended to a vector, for the functions behind `write`
 use Rattle.std.specs.Prelude.{◌≡◌, ℕ, Result, MatchResult, List, ◌++◌}
 
 abbrev pub BeginsWith : List ℕ → List ℕ → Type 0

@@ -1,7 +1,7 @@
 //! The writer of texts: [`in_profile`] says whether an element has a text, and [`write`] appends its canonical one, which
 //! reads as that element.
 //!
-//! A call takes memory only where its result can be `AllocError`, or a refusal for want of memory.
+//! A call allocates only if its result can be `AllocError`, or a refusal because memory ran out.
 #![tactic(auto)]
 
 mod laws;

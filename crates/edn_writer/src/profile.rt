@@ -6,9 +6,9 @@ ghost use Rattle.edn.specs.View.{value_of, values_of, entries_of};
 
 use edn::{Edn, MAX_OPEN, all_differ, is_keyword_name};
 
-/// Whether the element has a text: its keywords have an ASCII letter first and then ASCII letters, digits and `-`, `_`,
-/// `?`, `!`, `*` or `.`, the keys of each map and the members of each set are distinct by [`same`](edn::same), and at
-/// most 32 collections are open at once. Each element that was read has one.
+/// Whether the element has a text. Its keywords have an ASCII letter first and then ASCII letters, digits and `-`, `_`, `?`, `!`, `*` or
+/// `.`. The keys of each map and the members of each set are distinct by [`same`](edn::same), and at most 32 collections are open at once.
+/// Each element that was read has one.
 ///
 /// No memory is taken. The time grows with the square of the number of pairs of a map or members of a set.
 pub fn in_profile(element: &Edn) -> bool
@@ -25,7 +25,7 @@ fn is_integer(number: i64) -> bool
     true
 }
 
-// The same where so many collections are open round the element.
+// The same if `depth` collections are open round the element.
 #[cycle(profile)]
 fn in_profile_at(depth: u8, element: &Edn) -> bool
     ensures { IsTrue result ↔ IsInProfileAt depth (value_of element.now) }

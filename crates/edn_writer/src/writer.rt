@@ -1,5 +1,4 @@
-//! The writer: each function appends a part of a canonical text. Where memory runs out, what it has appended by then stays,
-//! and [`write`] takes it off.
+//! The writer: each function appends a part of a canonical text. If memory runs out, the appended bytes stay, and [`write`] removes them.
 
 ghost use Rattle.std.specs.Prelude.{◌≡◌, ◌==◌, [], ◌∷◌, ◌++◌, is_ok, if◌then◌else◌, IfSome, IfNone, IfErr};
 ghost use Rattle.std.specs.Fmt.{signed_decimal};
@@ -15,11 +14,11 @@ use edn::{Edn, Refusal};
 use itoa::Buffer;
 use std::alloc::AllocError;
 
-/// Appends the canonical text of an element, which reads as that element: integers in decimal without a plus, strings with
-/// an escape wherever there is one for the byte, `[a b]`, `#{a b}` and `{k v, k v}`.
+/// Appends the canonical text of an element, which reads as that element. Integers are in decimal without a plus, strings have an escape
+/// wherever there is one for the byte, and collections are `[a b]`, `#{a b}` and `{k v, k v}`.
 ///
 /// # Errors
-/// [`Refusal::NoMemory`] where the vector's growth was refused; its bytes are then as before.
+/// [`Refusal::NoMemory`] if the vector's growth was refused; its bytes are then as before.
 ///
 /// The time is that of the text's length. The recursion is at most as deep as a text may nest, 32 collections.
 pub fn write(element: &Edn, text: &mut Vec<u8>) -> Result<(), Refusal>

@@ -1,4 +1,4 @@
--- lists that grow by what is said of their elements
+-- lists that grow, with a fact about their elements
 use Rattle.std.proofs.Common.{◌≡◌, ◌≢◌, ℕ, ◌+◌, ◌<◌, ◌≤◌, ◌⊎◌, inl, inr, ⊎_elim, List, [], ◌∷◌, ◌++◌, length, get_or, take, drop, refl, sym, ap, ◌∙◌, subst, arith, append_assoc}
 use Rattle.std.specs.List.{Contains}
 use Rattle.std.proofs.lemmas.List.{append-nil, length-take-le, drop-append-le}
@@ -18,7 +18,7 @@ IsFront-push xs x = (x ∷ [], refl)
 pub IsFront-trans : {X : Type 0} (xs ys zs : List X) → IsFront xs ys → IsFront ys zs → IsFront xs zs
 IsFront-trans xs ys zs f g = (f.0 ++ g.0, sym (append_assoc xs f.0 g.0) ∙ ap (λ l. l ++ g.0) f.1 ∙ g.1)
 
--- what stands in a list with one more element
+-- facts about a list with one more element
 pub Along-push : {C Y : Type 0} (R : C → Y → Type 0) (cs : List C) (c : C) (y : Y) → Along R (cs ++ c ∷ []) y → Along R cs y ⊎ R c y
 Along-push R cs c y h =
     ⊎_elim

@@ -20,7 +20,7 @@ use Rattle.ends.proofs.Leading.{takes}
 use Rattle.ends.proofs.Reaching.{closed_has, reached_next}
 use Rattle.ends.proofs.Rows.{not_in_by, with_state, zero_none}
 
--- where f tells all elements apart, nothing stands among what it makes of them twice
+-- if f is different for different elements, its results have no repeats
 mapped_once : {X Y : Type 0} (f : X → Y) (xs : List X) → AllPairs (λ x y. f x ≢ f y) xs → Pairwise (λ d e. d ≢ e) (map f xs)
 mapped_once f [] apart = tt
 mapped_once f (x ∷ xs) apart = (
@@ -49,7 +49,7 @@ module _ (S : Type 0) (start : S) (apply : Op → S → List (S × Found)) (call
     many = let long = length-map (apply c.op e.state) end_by in omega (arith, lt, long);
   }
 
--- what a test for more says where it is false
+-- the meaning of a test for more if it is false
 pub few_by : (b : Bool) (most n : ℕ) → (IsTrue b ↔ (most < n)) → b ≡ false → n ≤ most
 few_by b most n test is = ⊎_elim (λ lt. absurd (true≢false (sym (test.1 lt) ∙ is))) (λ le. le) (cases_lt most n)
 

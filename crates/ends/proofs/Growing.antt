@@ -1,4 +1,4 @@
--- ends that grow by what calls lead to, until they are closed
+-- ends that grow by the outcomes of calls, until they are closed
 use Rattle.std.proofs.Common.{◌≡◌, ℕ, Bool, true, Result, Ok, Err, IfOk, ◌+◌, ◌*◌, ◌≤◌, inr, ⊎_elim, List, length, take, sym, ap, subst, arith}
 use Rattle.std.specs.List.{Contains}
 use Rattle.std.proofs.Math.Nat.{mul-le-mul_left}
@@ -14,7 +14,7 @@ use Rattle.ends.proofs.Reaching.{closed_has, reached_itself}
 pub Grows-itself : (o : Object) (calls : List PendingOp) (ends : List (End o.State)) → Grows o calls ends ends
 Grows-itself o calls ends = record { kept = λ e h. h; reached = λ e h. reached_itself o calls ends e h; once = λ h. h }
 
--- what is closed has all that is reached
+-- a closed list has all ends that are reached
 pub grown_all : (o : Object) (calls : List PendingOp) (xs ys : List (End o.State)) → Grows o calls xs ys → ((e f : End o.State) → Contains ys e → Next o calls e f → Contains ys f) → Adds (IsReached o calls xs) xs ys
 grown_all o calls xs ys grows closed = record {
   each = λ e. (
@@ -24,7 +24,7 @@ grown_all o calls xs ys grows closed = record {
   once = grows.once;
 }
 
--- what an ok finds, by what its rows have grown to: all ends, of which some are left, or else it tells of none
+-- the result of an ok, from the grown rows: all ends with those that are left, or only that they are too many
 module _ (o : Object) (t u left : Table o.State) (ok : Asked) (all : Result Bool AllocError)
     (grows : HasEachOnce ok.calls → (ends : List (End o.State)) → AreShown t ok.calls ends → AreClosed o (take ok.tried ok.calls) ends → IfOk all (ShownGrown o u ok.calls ends))
     (within : IfOk all (λ all. all ≡ true → length (rows_of u) ≤ ok.budget))

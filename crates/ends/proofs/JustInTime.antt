@@ -27,7 +27,7 @@ pub Reaches-append : (o : Object) (marks : List Mark) (xs ys : List Taken) (a b 
 Reaches-append o marks [] ys a b c r s = subst (λ d. Reaches o marks d ys c) (sym r) s
 Reaches-append o marks (x ∷ xs) ys a b c r s = (r.0, r.1, Reaches-append o marks xs ys r.0 b c r.2 s)
 
--- what counts still does with one more mark
+-- an operation that counts still does with one more mark
 counted_more : (marks : List Mark) (m : Mark) (i : ℕ) → CountsIn is_no_read marks i → CountsIn is_no_read (marks ++ m ∷ []) i
 counted_more marks m i h = (h.0, Contains-append_left marks (m ∷ []) _ h.1, h.2)
 
@@ -62,7 +62,7 @@ commute p id k v ne = map.same_map nat_cmp_total map.nat_cmp-IsAntisymmetric _ _
     (cases_eq q k))
     (cases_eq q id))
 
--- what goes in and out again leaves the map
+-- putting a key in and taking it out again leaves the map
 in_and_out : (p : map.FinMap nat_cmp Found) (k : ℕ) (v : Found) → map.get p k ≡ None → map.remove (map.insert p k v) k ≡ p
 in_and_out p k v none = map.same_map nat_cmp_total map.nat_cmp-IsAntisymmetric _ _ (λ q.
     ⊎_elim
@@ -215,7 +215,7 @@ module _ (o : Object) (marks : List Mark) (id : ℕ) (is_open : IsOpen marks id)
     Reaches-crashed counts xs r.0 e (ends_closed o marks c (x ∷ []) r.0 end (r.0, r.1, refl)) r.2,
   )
 
--- what goes in and out again leaves what stood there otherwise
+-- putting a key in and taking it out again leaves the other entries
 in_and_gone : (p : map.FinMap nat_cmp Found) (k : ℕ) (v : Found) → map.remove (map.insert p k v) k ≡ map.remove p k
 in_and_gone p k v = map.same_map nat_cmp_total map.nat_cmp-IsAntisymmetric _ _ (λ q.
     ⊎_elim
@@ -223,7 +223,7 @@ in_and_gone p k v = map.same_map nat_cmp_total map.nat_cmp-IsAntisymmetric _ _ (
     (λ ne. get-remove_other (map.insert p k v) k q ne ∙ get-insert_other p k v q ne ∙ sym (get-remove_other p k q ne))
     (cases_eq q k))
 
--- what is not there may be taken out
+-- a missing key may be taken out
 out_of_none : (p : map.FinMap nat_cmp Found) (k : ℕ) → map.get p k ≡ None → map.remove p k ≡ p
 out_of_none p k none = map.same_map nat_cmp_total map.nat_cmp-IsAntisymmetric _ _ (λ q.
     ⊎_elim

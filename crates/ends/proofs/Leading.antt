@@ -1,4 +1,4 @@
--- what a call leads to from an end that a row says
+-- the ends that a call leads to from the end of a row
 use Rattle.std.proofs.Common.{◌≡◌, ◌+◌, ℕ, false, refl, List, [], sym, ap, subst, slice_get, Some}
 use Rattle.models.specs.declared.operation.Op.{Op}
 use Rattle.linspec.proofs.Lists.{Contains-nil}

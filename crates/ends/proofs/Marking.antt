@@ -20,7 +20,7 @@ use Rattle.ends.proofs.Adding.{Adds-skip}
 use Rattle.ends.proofs.Settling.{out_by_zero, says_without, settled_out, told_open, zero_by_out}
 use Rattle.ends.proofs.Showing.{end_at, shown_after, shown_first, shown_no_rows, widens_itself, widens_rows}
 
--- one end more, of which nothing is left
+-- one more end that leaves nothing
 shown_less : {S : Type 0} (calls : List PendingOp) (t : Table S) (R : End S → End S → Type 0) (ends : List (End S)) (i : ℕ) (e : End S) → slice_get ends i ≡ Some e → ((f : End S) → ¬ R e f) → ShownWith t calls [] (Along R (take i ends))
     → ShownWith t calls [] (Along R (take (i + 1) ends))
 shown_less calls t R ends i e here none s = record {
@@ -67,7 +67,7 @@ module _ {S : Type 0} (t : Table S) (calls : List PendingOp) (at id : ℕ) (h : 
   slot_there : IsSlot t.founds (get_or row (at + 1) 0) (finmap.get e.pending id)
   slot_there = subst (IsSlot t.founds (get_or row (at + 1) 0)) (told_open calls at id e h) (shows.slots at h.call h.there)
 
-  -- by the marks of what fits an answer
+  -- by the marks of the numbers that fit an answer
   module _ (answer : Answer) (marks : List Bool) (are : AreMarksOf answer t.founds marks) where
     fits_by : (found : Option Found) → finmap.get e.pending id ≡ found → IsSlot t.founds (get_or row (at + 1) 0) found → IsTrue (get_or marks (get_or row (at + 1) 0) false) → FitsAt e id answer
     fits_by None is slot mark = absurd (true≢false (sym mark ∙ ap (λ n. get_or marks n false) slot ∙ are.none))
@@ -97,7 +97,7 @@ module _ {S : Type 0} (t : Table S) (calls : List PendingOp) (at id : ℕ) (h : 
 all_of : {S : Type 0} (t : Table S) (calls : List PendingOp) (ends : List (End S)) → AreShown t calls ends → take (length (rows_of t)) ends ≡ ends
 all_of t calls ends shown = take_all (length (rows_of t)) ends (let long = shown.long in omega (arith, long))
 
--- what is left after an ok and after a fail
+-- the ends left after an ok and after a fail
 pub left_settled : {S : Type 0} (t : Table S) (calls : List PendingOp) → HasEachOnce calls → (at id : ℕ) → IsOpenAt calls at id → (ends : List (End S)) → AreShown t calls ends → (answer : Answer) (marks : List Bool) → AreMarksOf answer t.founds marks
     → (old new : List (List ℕ)) → old ≡ [] → PutsMarked (at + 1) marks (rows_of t) (length (rows_of t)) old new → ShownWith (with_rows t new) (filter (is_other id) calls) [] (Along (Settles id answer) ends)
 left_settled t calls once at id h ends shown answer marks are old new none puts =

@@ -1,4 +1,4 @@
--- what is known of calls in states, by numbers
+-- the known moves of calls in states, by numbers
 use Rattle.std.proofs.Common.{◌≡◌, ℕ, ◌+◌, ◌-◌, ◌*◌, ◌<◌, ◌≤◌, ◌⊎◌, inl, inr, ⊎_elim, Bool, Some, Ok, Err, Result, OnOk, List, [], ◌∷◌, ◌++◌, zero, suc, length, take, drop, append-nil, slice_get, slice_range, get_or, refl, sym, ap, ◌∙◌, subst, arith}
 use Rattle.std.proofs.lemmas.Bool.{cases_order}
 use Rattle.std.proofs.lemmas.List.{drop-append-le, length-append, length-drop, take-append-le, take_all}
@@ -34,7 +34,7 @@ same_place n m w a b la lb e =
     (λ h. absurd (⊎_elim (λ lt. place_lt n m w a b la lt e) (λ lt. place_lt m n w b a lb lt (sym e)) h))
     (cases_order n m)
 
--- what is known from a base on, where the list says nothing, at a place of the list, and where one place of it is another
+-- the known moves from a base on, if the list says nothing, at a place of the list, and if one place of it is another
 from_none : (base calls n at : ℕ) (moves : List Move) → AreUntried moves → known_from base moves calls n at ≡ Untried
 from_none zero calls n at moves none = none (n * calls + at)
 from_none (suc base) calls zero at moves none = refl
@@ -70,7 +70,7 @@ pub alone : {X : Type 0} (xs ys : List X) (x : X) → xs ≡ ys ++ x ∷ [] → 
 alone xs [] x is few = is
 alone xs (y ∷ ys) x is few = absurd (let long : length xs ≡ suc (length ys + 1) = ap length is ∙ ap suc (length-append ys (x ∷ [])) in omega (arith, long, few))
 
--- what holds anyway
+-- a fact that holds anyway
 pub on_ok : {T E P : Type 0} (r : Result T E) → P → OnOk r P
 on_ok (Ok x) p = p
 on_ok (Err e) p = tt

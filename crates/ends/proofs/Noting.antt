@@ -6,7 +6,7 @@ use Rattle.ends.specs.declared.moves.Move.TheVariants.{Untried}
 use Rattle.ends.specs.declared.notes.Noted.{Noted}
 use Rattle.ends.specs.Notes.{AreBefore, AreUntried, known_by, nothing}
 
--- what is known at a place, by what was noted there
+-- the move that is known at a place, from the note there
 nothing_known : (stamp : ℕ) → known_by stamp nothing ≡ Untried
 nothing_known stamp = elim (nat_eq 0 stamp) as (λ b. cond b Untried Untried ≡ Untried) [ true ↦ refl | false ↦ refl ]
 

@@ -21,7 +21,7 @@ use Rattle.ends.proofs.Moving.{alike_to, known_does}
 use Rattle.ends.proofs.Rows.{in_unless}
 use Rattle.ends.proofs.Showing.{next_there}
 
--- calls from one place on, so many
+-- n equal calls from one place on
 module _ (o : Object) (calls : List PendingOp) (e : End o.State) (ends : List (End o.State)) (from : ℕ) (t : Table o.State) where
   pub pass : (n i : ℕ) → from ≤ i → i + n ≤ length calls → ((k : ℕ) (c : PendingOp) → k < n → slice_get calls (i + k) ≡ Some c → (f : End o.State) → ¬ TakesLast o e c f)
       → ShownWith t calls ends (Next o (drop from (take i calls)) e) → ShownWith t calls ends (Next o (drop from (take (i + n) calls)) e)

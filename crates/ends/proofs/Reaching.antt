@@ -67,7 +67,7 @@ module _ (o : Object) (calls : List PendingOp) (marks : List Mark) (are : ArePen
       ))
       h.made
 
-  -- what is reached from an end is one
+  -- an end that is reached from an end is an end
   pub end_further : (n : ℕ) (e f : End o.State) → IsEnd o marks e → ReachesIn o calls n e f → IsEnd o marks f
   end_further zero e f end r = subst (IsEnd o marks) r end
   end_further (suc n) e f end r =
@@ -92,7 +92,7 @@ module _ (o : Object) (calls : List PendingOp) (marks : List Mark) (are : ArePen
       let x = extends_by r.0 f r.2 in
       (before.0 ++ x.0 ∷ [], Reaches-append o marks before.0 (x.0 ∷ []) e r.0 f before.1 (f, x.1, refl))
 
--- what is closed under the calls has whatever they lead to
+-- a list that is closed under the calls has all ends that they lead to
 pub closed_has : (o : Object) (calls : List PendingOp) (P : End o.State → Type 0) → ((e f : End o.State) → P e → Next o calls e f → P f) → (n : ℕ) (e f : End o.State) → P e → ReachesIn o calls n e f → P f
 closed_has o calls P closed zero e f p r = subst P r p
 closed_has o calls P closed (suc n) e f p r = closed r.0 f (closed_has o calls P closed n e r.0 p r.1) r.2

@@ -29,7 +29,7 @@ other_ids (x ∷ calls) once zero (suc j) c d a b ne = λ e. once.0 d (has_place
 other_ids (x ∷ calls) once (suc i) zero c d a b ne = λ e. once.0 c (has_place calls i c a) (ap (λ (y : PendingOp). y.id) (one_of x d b) ∙ sym e)
 other_ids (x ∷ calls) once (suc i) (suc j) c d a b ne = other_ids calls once.1 i j c d a b (λ e. ne (ap suc e))
 
--- what is told of a call
+-- the record of a call
 was_true : (b : Bool) → nothing_if b ≡ Some Nothing → b ≡ true
 was_true true e = refl
 was_true false e = absurd (clash Nothing _ refl e)
@@ -93,7 +93,7 @@ module _ {S : Type 0} (calls : List PendingOp) where
       let k = a.crashed id h in
       was_true (finset.contains f.crashed id) (sym (told_crashed f k.0 id k.2 k.3) ∙ sym (told k.0 k.1) ∙ told_crashed e k.0 id k.2 k.3 ∙ ap nothing_if h)
 
-  -- ends that tell the same of each call are one
+  -- ends with the same record of each call are one
   pub same_told : (e f : End S) → IsIncluded calls e → IsIncluded calls f → e.state ≡ f.state → ((c : PendingOp) → Contains calls c → found_by e c ≡ found_by f c) → e ≡ f
   same_told e f a b state told =
       let back : (c : PendingOp) → Contains calls c → found_by f c ≡ found_by e c = λ c h. sym (told c h) in
@@ -120,7 +120,7 @@ module _ {S : Type 0} (calls : List PendingOp) where
     crashed = a.crashed;
   }
 
--- numbers of what was found
+-- numbers of answers
 module _ (founds : List Found) where
   one_found : (slot : ℕ) (p q : Option Found) → IsSlot founds slot p → IsSlot founds slot q → p ≡ q
   one_found slot None None a b = refl

@@ -26,7 +26,7 @@ use Rattle.interned.proofs.Lists.{clash, has_place, one_of, place_of}
 use Rattle.ends.proofs.Showing.{end_here}
 
 module _ {S : Type 0} (calls : List PendingOp) where
-  -- what an open call found in the end
+  -- the answer of an open call in the end
   pub told_open : (at id : ℕ) (e : End S) (h : IsOpenAt calls at id) → found_by e h.call ≡ finmap.get e.pending id
   told_open at id e h = told_pending e h.call id h.same h.not_crashed
 

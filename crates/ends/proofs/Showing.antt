@@ -165,7 +165,7 @@ module _ {S : Type 0} (calls : List PendingOp) (t u : Table S) where
         })
         put
 
--- what the row at a place says
+-- the end of the row at a place
 pub end_at : {S : Type 0} (calls : List PendingOp) (t : Table S) (ends : List (End S)) → AreShown t calls ends → (i : ℕ) (row : List ℕ) → slice_get (rows_of t) i ≡ Some row → (e : End S) × (slice_get ends i ≡ Some e) × Shows t calls row e
 end_at calls t ends a i row h =
     let b = slice_get_within (rows_of t) i row h in
@@ -312,6 +312,6 @@ shown_after calls t u v R cs i c f row here to from w same shows x put s =
       adds = Adds-more R cs [] s.more p.more i c (slice_get_within cs i c here) (sym (get_or_from_slice_get cs i c c here)) s.adds (Adds-change (λ g. f ≡ g) (R c) s.more p.more to from p.adds);
     }
 
--- what was gone through is all
+-- the rows that were gone through are all
 pub all_done : (o : Object) (calls : List PendingOp) (ends : List (End o.State)) (n : ℕ) → length ends ≤ n → AreDone o calls ends n → (e f : End o.State) → Contains ends e → Next o calls e f → Contains ends f
 all_done o calls ends n le done e f h next = done e f (subst (λ l. Contains l e) (sym (take_all n ends le)) h) next

@@ -1,4 +1,4 @@
--- Invariant: what the events do to an end, and to lists of ends
+-- Invariant: the effect of events on an end, and on lists of ends
 use Rattle.std.specs.Prelude.{◌≡◌, ◌≢◌, ◌↔◌, ◌<◌, ℕ, zero, suc, ◌⊎◌, Bool, true, false, not, nat_eq, if◌then◌else◌, Option, Some, None, List, length, map}
 use Rattle.std.specs.List.{Contains, filter}
 use Rattle.std.specs.FinMap as finmap
@@ -37,7 +37,7 @@ after_crash false e id = settled e id
 abbrev pub IsOut : {S : Type 0} → End S → ℕ → Type 0
 IsOut e id = finmap.contains_key e.pending id ≡ false
 
--- f is what the end becomes where the operation returns with this answer, where it fails, and where it crashes
+-- f is what the end becomes if the operation returns with this answer, if it fails, and if it crashes
 abbrev pub Settles : {S : Type 0} → ℕ → Answer → End S → End S → Type 0
 Settles id answer e f = FitsAt e id answer × (settled e id ≡ f)
 
@@ -94,14 +94,13 @@ abbrev pub IsReached : (o : Object) → List PendingOp → List (End o.State) �
 IsReached o calls ends f =
     (n : ℕ) × (e : End o.State) × Contains ends e × ReachesIn o calls n e f
 
--- ys has what xs has and what P says, and nothing else; where nothing stands in xs twice, nothing
+-- ys has what xs has and what P says, and nothing else; if nothing stands in xs twice, nothing
 -- does in ys
 pub record Adds {Y : Type 0} (P : Y → Type 0) (xs ys : List Y) : Type 0 where
   pub each : (y : Y) → Contains ys y ↔ (Contains xs y ⊎ P y)
   pub once : Pairwise (λ x y. x ≢ y) xs → Pairwise (λ x y. x ≢ y) ys
 
--- ys has what xs has, and beside it only what is reached from xs; where nothing stands in xs twice,
--- nothing does in ys
+-- ys has the ends of xs, and besides them only ends that are reached from xs; if nothing stands in xs twice, nothing does in ys
 pub record Grows (o : Object) (calls : List PendingOp) (xs ys : List (End o.State)) : Type 0 where
   pub kept : (e : End o.State) → Contains xs e → Contains ys e
   pub reached : (e : End o.State) → Contains ys e → IsReached o calls xs e
@@ -124,7 +123,7 @@ abbrev pub crash_call : ℕ → PendingOp → PendingOp
 crash_call id call =
     if nat_eq call.id id then record { id = call.id; op = call.op; crashed = true } else call
 
--- the calls after the operation has crashed: it is told as a crashed one if it counts, and else is no longer there
+-- the calls after the operation has crashed: it is a crashed one if it counts, and else is no longer there
 abbrev pub calls_after_crash : Bool → ℕ → List PendingOp → List PendingOp
 calls_after_crash true id calls = map (crash_call id) calls
 calls_after_crash false id calls = filter (is_other id) calls

@@ -1,4 +1,4 @@
--- Invariant: ends by themselves, as rows become where they are made anew, and the operations that may still take place
+-- Invariant: ends by themselves, which rows become when they are made again, and the operations that may still take place
 use Rattle.std.specs.Prelude.{◌≡◌, ◌≢◌, ◌↔◌, ℕ, Option, Some, List, Bool, true, false, IsTrue}
 use Rattle.std.specs.List.{Contains}
 use Rattle.std.specs.Ordering.{nat_cmp}
@@ -14,11 +14,11 @@ use Rattle.linspec.specs.Ends.{End, CountsIn, is_no_read}
 use Rattle.ends.specs.declared.pending_op.PendingOp.{PendingOp}
 use Rattle.ends.specs.declared.kept_end.KeptEnd.{KeptEnd}
 
--- what each open operation found, by the entries
+-- the answer of each open operation, by the entries
 abbrev pub pending_in : List (ℕ × Found) → finmap.FinMap nat_cmp Found
 pending_in entries = finmap.from_entries entries
 
--- what the operation found, where it is among the entries
+-- the answer of the operation, if it is among the entries
 abbrev pub found_at : List (ℕ × Found) → ℕ → Option Found
 found_at entries id = finmap.get (pending_in entries) id
 
@@ -36,8 +36,8 @@ end_kept kept = record {
   crashed = crashed_in kept.crashed.items;
 }
 
--- the operation may still take place and change something: it is invoked, has neither returned nor failed, and where it has
--- crashed it is no read
+-- the operation may still take place and change something: it is invoked, has neither returned nor failed, and if it has crashed it is not
+-- a read
 pub record IsPending (marks : List Mark) (id : ℕ) (op : Op) : Type 0 where
   pub invoked : Contains marks (Invoked id op)
   pub not_returned : ¬ HasReturned marks id
@@ -60,8 +60,8 @@ pub record IsIncluded {S : Type 0} (calls : List PendingOp) (e : End S) : Type 0
 abbrev pub AreIncluded : {S : Type 0} → List PendingOp → List (End S) → Type 0
 AreIncluded {S} calls ends = (e : End S) → Contains ends e → IsIncluded calls e
 
--- each end that is kept is kept once, and the operations that may still take place are those of the
--- history, each once; each operation that an end includes is one of them
+-- each end is kept once, and the operations that may still take place are those of the history, each once. Each operation that an end
+-- includes is one of them
 pub record IsWellKept {S : Type 0} (calls : List PendingOp) (kept : List (End S))
     (marks : List Mark) : Type 0 where
   pub once : Pairwise (λ d e. d ≢ e) kept

@@ -1,4 +1,4 @@
--- Invariant: what calls do in states, by numbers
+-- Invariant: the moves of calls in states, by numbers
 use Rattle.std.specs.Prelude.{◌≡◌, ◌<◌, ◌≤◌, ℕ, ◌+◌, ◌-◌, ◌*◌, ◌⊎◌, zero, suc, Bool, Some, List, [], ◌∷◌, length, slice_get, slice_range, get_or}
 use Rattle.std.specs.List.{Contains}
 use Rattle.models.specs.declared.operation.Op.{Op}
@@ -14,7 +14,7 @@ use Rattle.ends.specs.declared.moves.Move.TheVariants.{Untried, Nowhere, To, ToE
 use Rattle.ends.specs.Tables.{told_by}
 use Rattle.interned.specs.Numbers.{IsSlot}
 
--- the target is this outcome: the state with the first number, and what is told of what was found by the second
+-- the target is this outcome: the state with the first number, and the record of the answer with the second
 abbrev pub IsTo : {S : Type 0} → Table S → Bool → S × Found → ℕ × ℕ → Type 0
 IsTo t crashed outcome target =
     (slice_get t.states target.0 ≡ Some outcome.0)
@@ -51,17 +51,17 @@ abbrev pub LeadsTo : {S : Type 0} → Table S → Bool → List (S × Found) →
 LeadsTo t crashed outcomes targets to =
     IsKnown to targets × AreTo t crashed outcomes (targets_of to targets)
 
--- what a list says of a call in the state with this number, where its first places are those of the base: nothing below it
+-- the move in a list for a call in the state with this number, if its first places are those of the base: nothing below it
 abbrev pub known_from : ℕ → List Move → ℕ → ℕ → ℕ → Move
 known_from zero moves calls n at = get_or moves (n * calls + at) Untried
 known_from (suc base) moves calls zero at = Untried
 known_from (suc base) moves calls (suc n) at = known_from base moves calls n at
 
--- what is known of a call in the state with this number
+-- the known move of a call in the state with this number
 abbrev pub known_at : Known → ℕ → ℕ → ℕ → Move
 known_at known calls n at = known_from known.base known.list calls n at
 
--- what is known of each call in each state is so
+-- the known moves of each call in each state are right
 abbrev pub AreMoves : {S : Type 0} → (Op → S → List (S × Found)) → Table S → List PendingOp
     → Known → List (ℕ × ℕ) → Type 0
 AreMoves {S} apply t calls known targets = (n at : ℕ) (c : PendingOp) → slice_get calls at ≡ Some c →
@@ -69,7 +69,7 @@ AreMoves {S} apply t calls known targets = (n at : ℕ) (c : PendingOp) → slic
     ⊎ ((s : S) × (slice_get t.states n ≡ Some s)
     × LeadsTo t c.crashed (apply c.op s) targets (known_at known (length calls) n at))
 
--- what is known of calls in states is so as it was before, and what is known of which do the same is as it was
+-- the known moves of calls in states are right as before, and the known equal calls are as before
 pub record KeepMoves {S : Type 0} (apply : Op → S → List (S × Found)) (calls : List PendingOp) (old new : Table S)
     (before after : Moves S) : Type 0 where
   pub known : AreMoves apply old calls before.known before.targets.items → AreMoves apply new calls after.known after.targets.items
@@ -80,7 +80,7 @@ abbrev pub IsAlike : List PendingOp → ℕ → ℕ → Type 0
 IsAlike calls at place = (c : PendingOp) → slice_get calls at ≡ Some c
     → (d : PendingOp) × (slice_get calls place ≡ Some d) × (d.op ≡ c.op) × (d.crashed ≡ c.crashed)
 
--- so many calls from this place on do the same as one at the place
+-- n calls from this place on do the same as one at the place
 abbrev pub AreAll : List PendingOp → ℕ → Like → Type 0
 AreAll calls at like = (i : ℕ) → i < like.run → IsAlike calls (at + i) like.representative
 

@@ -4,11 +4,11 @@ use Rattle.ends.specs.declared.moves.Move.{Move}
 use Rattle.ends.specs.declared.moves.Move.TheVariants.{Untried}
 use Rattle.ends.specs.declared.notes.Noted.{Noted}
 
--- what stands where nothing is noted
+-- the note at a place without a note
 abbrev pub nothing : Noted
 nothing = record { stamp = 0; to = Untried }
 
--- the move that is known by what was noted, where this is the present stamp: none by what has another one
+-- the move in the note, if its stamp is the present one; no move by another stamp
 abbrev pub known_by : ℕ → Noted → Move
 known_by stamp noted = if nat_eq noted.stamp stamp then noted.to else Untried
 

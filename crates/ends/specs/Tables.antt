@@ -18,12 +18,12 @@ use Rattle.ends.specs.declared.table.Table.{Table}
 use Rattle.ends.specs.KeptEnds.{IsIncluded}
 use Rattle.ends.specs.EndSteps.{TakesLast, Next, IsReached, Adds, Along, AreClosed, Grows, ReachesMoreThan, Settles, is_other}
 
--- what the call found in the end, if it is in it; a crashed one tells nothing
+-- the answer of the call in the end, if it is in it; a crashed one has none
 abbrev pub nothing_if : Bool → Option Found
 nothing_if true = Some Nothing
 nothing_if false = None
 
--- what is told of what the call found
+-- the record of the call's answer
 abbrev pub told_by : Bool → Found → Found
 told_by true found = Nothing
 told_by false found = found
@@ -131,7 +131,7 @@ PutsLed {S} old new row place targets result =
     → ((to : ℕ × ℕ) → Contains targets to → (f : End S) × Shows old calls (row_led row place to) f)
     → OnOk result (ShownWith new calls ends (Along (λ to f. Shows old calls (row_led row place to) f) targets))
 
--- the rows say these ends and more that calls lead to, all of them if so it is told
+-- the rows say these ends and more that calls lead to; all of them if the flag is true
 pub record ShownGrown (o : Object) (t : Table o.State) (calls : List PendingOp)
     (ends : List (End o.State)) (all : Bool) : Type 0 where
   pub more : List (End o.State)
@@ -148,8 +148,8 @@ pub record IsToldBefore {S : Type 0} (calls : List PendingOp) (e k : End S) (n :
       → found_by k c ≡ found_by e c
   pub after : (i : ℕ) (c : PendingOp) → slice_get calls i ≡ Some c → n ≤ i → found_by k c ≡ None
 
--- the marks of the numbers that a row may have at the place of an open operation: zero, with which it is not in, has none, and each
--- other one where what it stands for fits the answer
+-- the marks of the numbers that a row may have at the place of an open operation. Zero, with which it is not in, has none, and each other
+-- number has one if its answer fits
 pub record AreMarksOf (answer : Answer) (founds : List Found) (marks : List Bool) : Type 0 where
   pub none : get_or marks 0 false ≡ false
   pub each : (at : ℕ) (found : Found) → slice_get founds at ≡ Some found
@@ -170,7 +170,7 @@ abbrev pub ShowTheSame : {S : Type 0} → Table S → Table S → Type 0
 ShowTheSame {S} t u =
     (calls : List PendingOp) (ends : List (End S)) → AreShown t calls ends ↔ AreShown u calls ends
 
--- the rows have the same numbers but for the first, which stands for the same state
+-- the rows have the same numbers except for the first, which means the same state
 abbrev pub SaysTheSame : {S : Type 0} → List S → List S → List ℕ → List ℕ → Type 0
 SaysTheSame {S} states others row new =
     (to : ℕ) × (s : S) × (slice_get states (get_or row 0 0) ≡ Some s)
@@ -185,8 +185,8 @@ pub record SayTheSame {S : Type 0} (t u : Table S) (n : ℕ) : Type 0 where
       → (new : List ℕ) × (slice_get (rows_of u) i ≡ Some new)
       × SaysTheSame t.states u.states row new
 
--- what an ok asks: the calls, of which the first were tried, the most ends that may stand just before it, the operation and its
--- answer
+-- the question of an ok: the calls, the number of tried ones among the first, the greatest number of ends just before it, the operation and
+-- its answer
 pub record Asked : Type 0 where
   pub calls : List PendingOp
   pub tried : ℕ
@@ -216,8 +216,8 @@ pub record IsAdvanced (o : Object) (t : Table o.State) (ok : Asked) (ends : List
   pub within : length all ≤ ok.budget
   pub left : IsLeft t ok all
 
--- where false is told, the ends of the table, which are there once each, and what the calls lead to from them are more than the
--- budget; the calls that were tried lead from these ends to no others
+-- if the result is false, the ends of the table, each there once, and those that the calls lead to are more than the budget. The calls that
+-- were tried lead from these ends to no others
 abbrev pub ReachesOver : (o : Object) → Table o.State → Asked → Result Bool AllocError → Type 0
 ReachesOver o t ok result =
     let calls = ok.calls in
@@ -225,9 +225,9 @@ ReachesOver o t ok result =
     → AreShown t calls ends → AreClosed o (take ok.tried calls) ends
     → IfOk result (λ within_budget. within_budget ≡ false → ReachesMoreThan o calls ends ok.budget)
 
--- what an ok finds, where the calls that were tried lead from the ends of the table `t` to no others: either the table `left` has
--- what the ok leaves of all ends that the calls lead to, or all ends are more than the budget (which is told where the ends of `t`
--- are there once each)
+-- the result of an ok, if the tried calls lead from the ends of the table `t` to no others. Either the table `left` has the ends that the
+-- ok leaves of all ends that the calls lead to, or all ends are more than the budget. The second is reported only if the ends of `t` are
+-- there once each
 pub record FindsLeft (o : Object) (t left : Table o.State) (ok : Asked) (result : Result Bool AllocError) : Type 0 where
   pub all : let calls = ok.calls in
       HasEachOnce calls → (ends : List (End o.State)) → AreShown t calls ends

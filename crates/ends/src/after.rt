@@ -24,7 +24,7 @@ fn is_open(call: &PendingOp, id: u32) -> bool
     call.id == id && !call.crashed
 }
 
-/// Where the open operation stands among the calls; none where it is not open. Takes the time of the calls.
+/// The place of the open operation among the calls; none if it is not open. Costs O(calls).
 pub fn place_of_open(calls: &[PendingOp], id: u32) -> Option<usize>
     ensures there { IfSome result (λ at. IsOpenAt calls.now at id) }
     ensures within { IfSome result (λ at. at < length calls.now) }
@@ -38,7 +38,7 @@ pub fn place_of_open(calls: &[PendingOp], id: u32) -> Option<usize>
     None
 }
 
-// Makes room for one mark more than so many.
+// Makes room for `long` + 1 marks.
 #[inline(never)]
 fn lengthen(marks: &mut Vec<bool>, long: usize) -> Result<(), AllocError>
     ensures { OnOk result (long < length marks.new.items) }
@@ -48,9 +48,9 @@ fn lengthen(marks: &mut Vec<bool>, long: usize) -> Result<(), AllocError>
     Ok(())
 }
 
-/// Writes the marks of the numbers that a row may have at the place of an open operation: a number has one where what it stands for
-/// fits the answer, and zero, where the operation is not in, has none. Marks behind these stay as they were. `AllocError` where
-/// there is no memory for them: then there may be more of them. Takes the time of what was found.
+/// Writes the marks of the numbers that a row may have at the place of an open operation. A number has one if its answer fits; zero, with
+/// which the operation is not in, has none. Marks behind these stay as they were. `AllocError` if there is no memory for them: then
+/// there may be more of them. Costs O(answers).
 pub fn mark_fitting(
     founds: &Founds,
     answer: &Answer,
@@ -71,8 +71,8 @@ pub fn mark_fitting(
     Ok(())
 }
 
-/// Puts what an ok leaves in place of the rows that were there: of each end that has the operation with a finding that fits the
-/// answer the row, without the operation's number. Leaves no rows where the operation is not open. Looks at one number of each row.
+/// Replaces the rows by those that an ok leaves: for each end that has the operation with a fitting answer the row, without the operation's
+/// number. Leaves no rows if the operation is not open. Looks at one number of each row.
 pub fn put_left_by_ok<S: Hash + Drop>(
     table: &Table<S>,
     returning: &Returning,
@@ -97,7 +97,7 @@ pub fn put_left_by_ok<S: Hash + Drop>(
 }
 
 /// Puts what a fail of the open operation leaves in place of the rows that were there: of each end that does not have the operation
-/// the row, without the operation's number. Leaves no rows where the operation is not open. Looks at one number of each row.
+/// the row, without the operation's number. Leaves no rows if the operation is not open. Looks at one number of each row.
 pub fn failed<S: Hash + Drop>(
     table: &Table<S>,
     calls: &[PendingOp],
@@ -121,9 +121,9 @@ pub fn failed<S: Hash + Drop>(
     }
 }
 
-/// The ends after the operation has crashed, in the same order. If it counts it is among the crashed ones of an end that it is in,
-/// and else it is in no end any more. Ends that differed before may be the same then. Takes the time of the ends: for each that of
-/// a copy of its state, and of the operations in it.
+/// The ends after the operation has crashed, in the same order. If it counts it is among the crashed ones of an end that it is in, and else
+/// it is in no end any more. Ends that differed before may be the same then. Costs O(ends), with a copy of the state and of the operations
+/// of each.
 pub fn crashed_ends<M: SeqObject>(
     alloc: Global,
     ends: &[KeptEnd<M::State>],

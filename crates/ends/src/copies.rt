@@ -9,7 +9,7 @@ use models::SeqObject;
 use rows::RowSet;
 use std::alloc::AllocError;
 
-/// The same table, with memory of its own. Takes the time of the rows, the states and what was found.
+/// The same table, with memory of its own. Costs O(rows + states + answers).
 pub fn copied_whole<M: SeqObject>(table: &Table<M::State>) -> Result<Table<M::State>, AllocError>
     ensures { IfOk result (IsSameTable table.now) }
 {
@@ -24,7 +24,7 @@ pub fn copied_whole<M: SeqObject>(table: &Table<M::State>) -> Result<Table<M::St
     })
 }
 
-// Puts the row at this place behind those of the other table, by the number that its state has there. False where it has no state,
+// Puts the row at this place behind those of the other table, by the number that its state has there. False if it has no state,
 // or is there already.
 fn put_again<M: SeqObject>(
     table: &Table<M::State>,
@@ -49,7 +49,7 @@ fn put_again<M: SeqObject>(
     Ok(other.rows.len() > from)
 }
 
-// The table with the states of its rows alone, where it has more states than rows. None where it has no more, and where two
+// The table with the states of its rows alone, if it has more states than rows. None if it has no more, and if two
 // rows are one, or one has no state: such rows say no ends.
 fn narrowed<M: SeqObject>(
     table: &Table<M::State>,
@@ -76,8 +76,8 @@ fn narrowed<M: SeqObject>(
     Ok(Some(other))
 }
 
-/// A table that shows the same ends, with no more states than it has rows. Rows and states are copied, while the items of queues
-/// and the members that were found are shared. Takes the time of the rows, the states and what was found.
+/// A table that shows the same ends, with no more states than it has rows. Rows and states are copied; the items of queues and the members
+/// that were found are shared. Costs O(rows + states + answers).
 pub fn copied<M: SeqObject>(
     table: &Table<M::State>,
     calls: &[PendingOp],

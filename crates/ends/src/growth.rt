@@ -18,8 +18,8 @@ use rows::{Row, RowSet};
 use std::alloc::{AllocError, Global};
 use std::hash::Hash;
 
-/// Memory that an ok works in, kept for the next one: what calls do in states, the row that is looked at, the marks of what fits
-/// the answer, and the rows that are left, into which a fail puts its own too.
+/// Memory that an ok works in, kept for the next one. It has the moves of calls in states, the row that is looked at, and the marks of
+/// fitting answers. The rows that are left are in it too, and a fail puts its own there.
 pub struct Room<S> {
     moves: Moves<S>,
     row: Row,
@@ -60,8 +60,7 @@ impl<S: Drop> Room<S> {
     }
 }
 
-// Adds a copy of the row at `from` for each target: with the target's number of a state first, and its number of what was found at
-// the place.
+// Adds a copy of the row at `from` for each target: with the target's number of a state first, and its number of the answer at the place.
 #[inline(never)]
 fn put_each<S: Hash + Drop>(
     table: &mut Table<S>,
@@ -116,8 +115,7 @@ fn put_led<S: Hash + Drop>(
     }
 }
 
-// Adds a row for each end that the call leads to from the end of the row at `from`, which is this row, and in which the call is
-// not.
+// Adds a row for each end that the call leads to from the end of the row at `from`, which is this row, and in which the call is not.
 fn grow_at<M: SeqObject>(
     table: &mut Table<M::State>,
     moves: &mut Moves<M::State>,
@@ -214,7 +212,7 @@ fn first_for(from: usize, kept: usize, tried: usize) -> usize
     if from < kept { tried } else { 0 }
 }
 
-// Whether some call from that place on leads from the end of the row to more ends than the budget: it is not in that end, and has
+// Whether some call from that place on leads from the end of the row to more ends than the budget. Such a call is not in that end, and has
 // more outcomes in its state.
 fn leads_beyond<M: SeqObject>(
     table: &Table<M::State>,
@@ -243,9 +241,9 @@ fn leads_beyond<M: SeqObject>(
     false
 }
 
-// Adds what the calls lead to, one after another: goes through the rows once while they grow at their end, through no more rows
-// than the budget. The calls that were tried already are tried on new rows alone. False where all ends are more than the budget, and
-// then there may be more to add; also before a call is tried that has more outcomes in a state than the budget.
+// Adds the ends that the calls lead to, one after another: goes through the rows once while they grow at their end, through no more rows
+// than the budget. The calls that were tried already are tried on new rows alone. False if all ends are more than the budget; then there
+// may be more to add. Also false before a call is tried that has more outcomes in a state than the budget.
 fn grow<M: SeqObject>(
     table: &mut Table<M::State>,
     moves: &mut Moves<M::State>,
@@ -288,15 +286,13 @@ fn grow<M: SeqObject>(
     Ok(table.rows.len() <= returning.budget as usize)
 }
 
-/// Puts the rows of the ends that are left after the operation has returned into the room: of those where it is in and what it
-/// found fits the answer, each without it. False where all ends, these and what the calls lead to from them one after another, are
-/// more than the budget. This is so where each end is there once, each call is of another operation, and the calls that were tried
-/// already lead from the ends to no others. No more ends than the budget are extended, and no call is tried that has more outcomes
-/// than the budget. The rows of the table stay.
+/// Puts the rows of the ends that are left after the operation has returned into the room. These are the ends that have it with a fitting
+/// answer, each without it. False if all ends, including those that the calls lead to one after another, are more than the budget. This is
+/// so if each end is there once, each call is of another operation, and the calls that were tried already lead from the ends to no others.
+/// No more ends than the budget are extended, and no call is tried that has more outcomes than the budget. The rows of the table stay.
 ///
-/// `AllocError` where there is no memory for them: the rows of the table stay then too, and the steps that were made stay
-/// counted. It makes at most one step for each call and each end that is extended, and looks the row of each end that comes of
-/// one up among the others.
+/// `AllocError` if there is no memory for them: the rows of the table stay then too, and the steps that were made stay counted. It makes at
+/// most one step for each call and each end that is extended, and looks the row of each end that comes of one up among the others.
 pub fn advance<M: SeqObject>(
     table: &mut Table<M::State>,
     room: &mut Room<M::State>,

@@ -1,4 +1,4 @@
-//! Ends by themselves, as rows become where they are made anew.
+//! Ends by themselves, which rows become when they are made again.
 ghost use Rattle.std.specs.Prelude.{◌≡◌, true, false, IfOk, OnOk, option_copied};
 ghost use Rattle.ends.specs.KeptEnds.{end_kept, found_at, has_crashed};
 ghost use Rattle.ends.specs.EndSteps.{settled, after_crash, is_in, with_call};
@@ -7,7 +7,7 @@ use crate::pending_op::PendingOp;
 use models::{Found, SeqObject};
 use std::alloc::{AllocError, Global};
 
-/// What a legal order leaves: the state, what each open operation in it found, and the crashed operations in it.
+/// The result of a legal order: the state, the answer of each open operation in it, and the crashed operations in it.
 #[derive(Drop)]
 pub struct KeptEnd<S> {
     pub state: S,
@@ -15,7 +15,7 @@ pub struct KeptEnd<S> {
     pub crashed: Vec<u32>,
 }
 
-/// What the operation found, where it is among these. Takes the time of these.
+/// The answer of the operation, if it is among these. Costs O(their number).
 pub fn found_in(pending: &[(u32, Found)], id: u32) -> Option<&Found>
     ensures { option_copied result ≡ found_at pending.now id }
 {
@@ -27,7 +27,7 @@ pub fn found_in(pending: &[(u32, Found)], id: u32) -> Option<&Found>
     None
 }
 
-/// Whether the operation is among these. Takes the time of these.
+/// Whether the operation is among these. Costs O(their number).
 pub fn has(ids: &[u32], id: u32) -> bool
     ensures { result ≡ has_crashed ids.now id }
 {
@@ -46,8 +46,7 @@ fn copied(alloc: Global, pending: &[(u32, Found)]) -> Result<Vec<(u32, Found)>, 
     Ok(entries)
 }
 
-/// The same end. The items of queues and the members that were found are shared. Takes the time of a copy of its state, and of the
-/// operations in it.
+/// The same end. The items of queues and the members that were found are shared. Costs a copy of its state, and O(the operations in it).
 pub fn copy_of<M: SeqObject>(
     alloc: Global,
     kept: &KeptEnd<M::State>,
@@ -72,8 +71,8 @@ impl<S> KeptEnd<S> {
         found_in(&self.pending, id).is_some()
     }
 
-    /// The call, which is not in it, takes place in it, and finds this. `AllocError` where there is no memory for it: then the
-    /// end is as it was. Takes constant time, but where its memory grows.
+    /// The call, which is not in it, takes place in it, and finds this. `AllocError` if there is no memory for it: then the
+    /// end is as it was. Takes constant time, but if its memory grows.
     pub fn include(&mut self, call: &PendingOp, found: Found) -> Result<(), AllocError>
         ensures { let id = call.now.id in let crashed = call.now.crashed in
             let old = end_kept self.old in is_in old id crashed ≡ false
@@ -87,16 +86,15 @@ impl<S> KeptEnd<S> {
         Ok(())
     }
 
-    // The open operation leaves the end, and what it found is told no more: it has returned, or it is a read that has crashed.
+    // The open operation leaves the end, and its answer is not recorded any more: it has returned, or it is a read that has crashed.
     fn settle(&mut self, id: u32)
         ensures { end_kept self.new ≡ settled (end_kept self.old) id }
     {
         self.pending.retain(|entry| entry.0 != id);
     }
 
-    /// The open operation crashes. If it counts and is in the end, it is among the crashed ones then, and if it does not count it
-    /// is in the end no longer. `AllocError` where there is no memory for it: then the end is as it was. Takes the time of the open
-    /// operations in it.
+    /// The open operation crashes. If it counts and is in the end, it is among the crashed ones then, and if it does not count it is in the
+    /// end no longer. `AllocError` if there is no memory for it: then the end is as it was. Costs O(open operations in it).
     pub fn crash(&mut self, id: u32, counts: bool) -> Result<(), AllocError>
         ensures { OnOk result (end_kept self.new ≡ after_crash counts (end_kept self.old) id) }
     {

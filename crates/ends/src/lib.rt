@@ -1,13 +1,13 @@
 //! The ends of the legal orders of one key's history, as rows of small numbers, and what operations and answers make of them.
 //!
-//! A row has the number of the end's state, and then a number for each call: zero where the call is not in the end, else one more
-//! than the number of what it found. Equal ends are equal rows ([`Table`]). An ok ([`advance`]) lets the rows grow by what each
-//! call leads to, which is tried once in each state and remembered until the next ok; counts them against the budget; puts those
-//! whose operation found what the answer says into other rows, without the operation's number; and takes back what has grown. A
-//! fail ([`failed`]) keeps the rows that have a zero there. A crash makes ends of the rows ([`ends_of_table`]), changes these
-//! ([`crashed_ends`]), and makes rows of them again ([`table_of_ends`]).
+//! A row has the number of the end's state, and then a number for each call. The number is zero if the call is not in the end, else one
+//! more than the number of its answer. Equal ends are equal rows ([`Table`]). An ok ([`advance`]) lets the rows grow by the moves of each
+//! call, which is tried once in each state and remembered until the next ok. It counts them against the budget. It copies the rows whose
+//! operation has the right answer, without the operation's number, and removes the grown rows. A fail ([`failed`]) keeps the rows that have
+//! a zero there. A crash makes ends of the rows ([`ends_of_table`]), changes these ([`crashed_ends`]), and makes rows of them again
+//! ([`table_of_ends`]).
 //!
-//! A call takes memory only where its result can be `AllocError`, or a refusal for want of memory.
+//! A call allocates only if its result can be `AllocError`, or a refusal because memory ran out.
 #![tactic(auto)]
 
 mod after;

@@ -1,4 +1,4 @@
-//! What calls do in states, by numbers.
+//! Moves of calls in states, by numbers.
 ghost use Rattle.std.specs.Prelude.{◌≡◌, ◌+◌, ◌-◌, ◌*◌, ◌^◌, ◌<◌, ◌≤◌, ◌⊎◌, ℕ, List, [], ◌∷◌, ◌++◌, Some, IsTrue, length};
 ghost use Rattle.std.specs.Prelude.{slice_get};
 ghost use Rattle.std.specs.Prelude.{IfOk, OnOk, IfSome};
@@ -20,8 +20,8 @@ const MOST: usize = 1 << 20;
 // So many calls are looked through for one that does the same.
 const FEW: usize = 16;
 
-/// What is known of a call in a state. A target is the number of a state, and that of what is told of what was found. The numbers
-/// take 32 bits, since many moves are remembered.
+/// The known moves of a call in a state. A target is the number of a state, and the number of the recorded answer. The numbers take 32
+/// bits, since many moves are remembered.
 #[derive(Clone, Copy)]
 pub enum Move {
     /// It cannot take place.
@@ -34,22 +34,22 @@ pub enum Move {
     Untried,
 }
 
-/// What is known of calls in the states from the base on: of those with a number below it nothing is remembered.
+/// The known moves of calls in the states from the base on: nothing is remembered for states with a lower number.
 #[derive(Drop)]
 pub struct Known {
     base: usize,
     list: Notes,
 }
 
-/// Equal calls: so many from some place on (`run`) do the same as the call at `representative`.
+/// Equal calls: `run` calls from some place on do the same as the call at `representative`.
 #[derive(Clone, Copy)]
 pub struct Like {
     pub representative: usize,
     run: usize,
 }
 
-/// A call to try: the number of the state that it is tried in, where the call stands, and where an equal call stands, which is tried
-/// in its place and under which the move is remembered.
+/// A call to try: the number of the state that it is tried in, and the place of the call. The equal call at `representative` is tried
+/// instead, and the move is remembered for it.
 #[derive(Clone, Copy)]
 pub struct Attempt {
     pub number: usize,
@@ -57,8 +57,8 @@ pub struct Attempt {
     pub representative: usize,
 }
 
-/// What is known of calls in states, with the list of the targets of those that lead to several, and memory to try more of them;
-/// and of each call where one stands that does the same, which is tried in its place.
+/// The known moves of calls in states, with the list of the targets of those that lead to several, and memory to try more of them. For each
+/// call it has the place of an equal one, which is tried instead.
 #[derive(Drop)]
 pub struct Moves<S> {
     known: Known,
@@ -84,8 +84,7 @@ impl<S> Moves<S> {
 }
 
 impl<S: Drop> Moves<S> {
-    /// Nothing is known yet, and there is room for the calls of two clients and for one outcome of a step, since most keys need no
-    /// more.
+    /// Nothing is known yet, and there is room for the calls of two clients and for one outcome of a step, since most keys need no more.
     pub fn with_room(alloc: Global) -> Result<Moves<S>, AllocError> {
         let mut moves = Moves::new(alloc);
         moves.likes = Vec::with_capacity(alloc, 2)?;
@@ -95,7 +94,7 @@ impl<S: Drop> Moves<S> {
 }
 
 // Where the move of a call in the state with this number is noted, where the notes begin with the moves in the state `base`;
-// `usize::MAX` where it is not remembered.
+// `usize::MAX` if it is not remembered.
 #[inline(always)]
 fn place_of(base: usize, number: usize, at: usize, call_count: usize) -> usize
     ensures { ((base ≤ number) × (result ≡ (number - base) * call_count + at))
@@ -121,7 +120,7 @@ pub fn forget<S: Drop>(alloc: Global, moves: &mut Moves<S>, base: usize)
     moves.targets.clear();
 }
 
-// Forgets all moves where their targets are very many.
+// Forgets all moves if their targets are very many.
 fn forget_many<S: Drop>(alloc: Global, moves: &mut Moves<S>)
     ensures moves { (moves.new ≡ moves.old) ⊎ AreUntried moves.new.known.list }
     ensures likes { moves.new.likes ≡ moves.old.likes }
@@ -131,7 +130,7 @@ fn forget_many<S: Drop>(alloc: Global, moves: &mut Moves<S>)
     }
 }
 
-// What is known of the call at this place in the state with this number.
+// The known move of the call at this place in the state with this number.
 fn known_of(known: &Known, number: usize, at: usize, call_count: usize) -> Move
     ensures { (result ≡ Move.Untried) ⊎ (result ≡ known_at known.now call_count number at) }
 {
@@ -194,7 +193,7 @@ fn put_targets<M: SeqObject>(
     Ok(())
 }
 
-// The move to each target of the list from this place on. `AllocError` where they are 2^32: there is no room for so many.
+// The move to each target of the list from this place on. `AllocError` if they are 2^32, since the numbers have 32 bits.
 fn move_to_each_from(targets: &[(usize, usize)], first: usize) -> Result<Move, AllocError>
     ensures { IfOk result (λ to. to ≡ Move.ToEach first (length targets.now)) }
 {
@@ -204,7 +203,7 @@ fn move_to_each_from(targets: &[(usize, usize)], first: usize) -> Result<Move, A
     Ok(Move::ToEach(first as u32, targets.len() as u32))
 }
 
-// The move to this target. Where its numbers take more than 32 bits, it is put behind the others.
+// The move to this target. If its numbers take more than 32 bits, it is put behind the others.
 #[inline(always)]
 fn move_to_one(
     targets: &mut Vec<(usize, usize)>,
@@ -224,7 +223,7 @@ fn move_to_one(
     move_to_each_from(targets, first)
 }
 
-// The move to these outcomes, whose targets are put behind the others. Where there is one, it mostly needs no place there.
+// The move to these outcomes, whose targets are put behind the others. If there is one, it mostly needs no place there.
 fn move_to<M: SeqObject>(
     table: &mut Table<M::State>,
     targets: &mut Vec<(usize, usize)>,
@@ -275,7 +274,7 @@ fn first_alike(calls: &[PendingOp], at: usize) -> usize
     at
 }
 
-/// Notes which calls do the same. Takes the time of the calls: each is compared with the first 16 at most.
+/// Notes which calls do the same. Costs O(calls): each is compared with the first 16 at most.
 pub fn note_likes<S>(moves: &mut Moves<S>, calls: &[PendingOp]) -> Result<(), AllocError>
     ensures likes { OnOk result (AreAlike calls.now moves.new.likes.items) }
     ensures known { moves.new.known ≡ moves.old.known }
@@ -368,7 +367,7 @@ pub fn count_leading_nowhere<S>(
     }
 }
 
-/// What is known of the call at this place in the state with this number, where it was tried. Takes constant time.
+/// The known move of the call at this place in the state with this number, if it was tried. Takes constant time.
 pub fn recalled<S>(moves: &Moves<S>, number: usize, at: usize, call_count: usize) -> Option<Move>
     ensures { IfSome result (λ to. (to ≡ known_at moves.now.known call_count number at)
         × IsKnown to moves.now.targets.items) }
@@ -384,9 +383,8 @@ pub fn recalled<S>(moves: &Moves<S>, number: usize, at: usize, call_count: usize
     }
 }
 
-/// Tries the call in the state with this number, and remembers where it leads. `AllocError` where there is no memory for its
-/// outcomes or for what is remembered. Takes one step, the time of looking its outcomes up, and that of the list of moves where
-/// this grows.
+/// Tries the call in the state with this number, and remembers where it leads. `AllocError` if there is no memory for its outcomes or for
+/// the move. Takes one step, the time of looking its outcomes up, and that of the list of moves if this grows.
 pub fn try_call<M: SeqObject>(
     table: &mut Table<M::State>,
     moves: &mut Moves<M::State>,

@@ -19,8 +19,7 @@ struct Noted {
     to: Move,
 }
 
-/// Which move is noted at each place. What was noted with another stamp than the present one says nothing, so that all is
-/// forgotten where the stamp is replaced.
+/// Which move is noted at each place. A note with another stamp than the present one says nothing, so a new stamp forgets all notes.
 #[derive(Drop)]
 pub struct Notes {
     stamp: u32,
@@ -73,7 +72,7 @@ impl Notes {
         put_at(&mut self.list, place, Noted { stamp, to })
     }
 
-    /// Forgets all that is noted. Keeps its memory, if it is not much. Takes constant time but for one call in 2^32.
+    /// Forgets all that is noted. Keeps its memory, if it is not much. Takes constant time except for one call in 2^32.
     pub fn forget(&mut self, alloc: Global)
         ensures { AreUntried self.new }
     {
@@ -81,7 +80,7 @@ impl Notes {
     }
 }
 
-// The stamp that follows. The list is cleared where it would be the first one again, and replaced where it has much memory.
+// The stamp that follows. The list is cleared if it would be the first one again, and replaced if it has much memory.
 fn stamp_after(alloc: Global, stamp: u32, list: &mut Vec<Noted>) -> u32
     requires { AreBefore list.old.items (stamp + 1) }
     ensures { AreBefore list.new.items result }

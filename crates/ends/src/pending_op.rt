@@ -7,7 +7,7 @@ ghost use Rattle.ends.specs.EndSteps.{HasRead, is_other, crash_call, calls_after
 use models::{Name, Op};
 use std::alloc::{AllocError, Global};
 
-/// An operation that may still take place and change something: it is open, or it has crashed and is no read.
+/// An operation that may still take place and change something: it is open, or it has crashed and is not a read.
 #[derive(Drop)]
 pub struct PendingOp {
     pub op: Op,
@@ -15,7 +15,7 @@ pub struct PendingOp {
     pub crashed: bool,
 }
 
-/// The same calls, which share the members of sets. Takes the time of the calls.
+/// The same calls, which share the members of sets. Costs O(calls).
 pub fn copy_calls(alloc: Global, calls: &[PendingOp]) -> Result<Vec<PendingOp>, AllocError>
     ensures { IfOk result (λ copies. copies.items ≡ calls.now) }
 {
@@ -31,7 +31,7 @@ pub fn copy_calls(alloc: Global, calls: &[PendingOp]) -> Result<Vec<PendingOp>, 
     Ok(copies)
 }
 
-/// Takes the operation out, if it is there. Takes the time of the calls.
+/// Takes the operation out, if it is there. Costs O(calls).
 pub fn drop_call(calls: &mut Vec<PendingOp>, id: u32)
     ensures { calls.new.items ≡ filter (is_other id) calls.old.items }
 {
@@ -45,7 +45,7 @@ fn is_read_of(call: &PendingOp, id: u32) -> bool
     call.id == id && call.op.name == Name::Read
 }
 
-/// Whether the operation is among the calls and is a read. Takes the time of the calls.
+/// Whether the operation is among the calls and is a read. Costs O(calls).
 pub fn is_read(calls: &[PendingOp], id: u32) -> bool
     ensures { IsTrue result ↔ HasRead calls.now id }
 {
@@ -57,7 +57,7 @@ pub fn is_read(calls: &[PendingOp], id: u32) -> bool
     false
 }
 
-/// The operation has crashed: it is told as a crashed one if it counts, and else taken out. Takes the time of the calls.
+/// The operation has crashed: it becomes a crashed one if it counts, and else is removed. Costs O(calls).
 pub fn crash_call(calls: &mut Vec<PendingOp>, id: u32, counts: bool)
     ensures { calls.new.items ≡ calls_after_crash counts id calls.old.items }
 {

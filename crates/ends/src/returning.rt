@@ -3,8 +3,8 @@
 use crate::pending_op::PendingOp;
 use models::Answer;
 
-/// An open operation of a key that returns: the calls, of which the first `tried` were tried on the ends that are kept, the most
-/// ends that may stand just before it, its id and its answer.
+/// An open operation of a key that returns: the calls, its id and its answer. The first `tried` calls were tried on the kept ends, and the
+/// budget is the greatest number of ends just before it.
 #[derive(Clone, Copy)]
 pub struct Returning<'a> {
     pub calls: &'a [PendingOp],

@@ -24,7 +24,7 @@ use std::hash::Hash;
 const FEW_STATES: usize = 64;
 
 /// The ends that a frontier keeps, and while an ok works those too that it finds, each a row of numbers. The first says where
-/// its state stands; then comes one for each call: zero where it is not in, and else one more than where what it found stands.
+/// its state stands; then comes one for each call: zero if it is not in, and else one more than where what it found stands.
 /// States and what was found stand once, so equal ends are equal rows. Its memory comes from `alloc`.
 pub struct Table<S: Hash + Drop> {
     pub alloc: Global,
@@ -45,7 +45,7 @@ impl<S: Hash + Drop> Drop for Table<S> {
     }
 }
 
-// The number of what was found, and zero if nothing was.
+// The number of the answer, and zero if there is none.
 fn slot_of(founds: &mut Founds, found: Option<Found>) -> Result<usize, AllocError>
     ensures slot { IfOk result (λ slot. IsSlot founds.new slot found) }
     ensures front { IsFront founds.old founds.new }
@@ -57,7 +57,7 @@ fn slot_of(founds: &mut Founds, found: Option<Found>) -> Result<usize, AllocErro
     }
 }
 
-// What the end records of the call: nothing where the call is not in it, `Unit` where the call has crashed, and else what it found.
+// The end's record of the call: nothing if the call is not in it, `Unit` if the call has crashed, and else its answer.
 fn found_by<S>(kept: &KeptEnd<S>, call: &PendingOp) -> Result<Option<Found>, AllocError>
     ensures { IfOk result (λ found. found ≡ found_by (end_kept kept.now) call.now) }
 {
@@ -95,9 +95,8 @@ fn row_of<M: SeqObject>(
     Ok(row)
 }
 
-/// Writes the outcomes of the operation in the state: one step, which is counted. No other function tries an operation.
-/// `AllocError` where there is no memory for them; the step is counted then too. Takes the time of
-/// [`SeqObject::append_outcomes`].
+/// Writes the outcomes of the operation in the state: one step, which is counted. No other function tries an operation. `AllocError` if
+/// there is no memory for them; the step is counted then too. Costs what [`SeqObject::append_outcomes`] costs.
 pub fn step<M: SeqObject>(
     alloc: Global,
     state: &M::State,
@@ -122,8 +121,8 @@ pub fn state_numbered<S: Hash + Drop>(table: &Table<S>, number: usize) -> Option
     table.states.get(number)
 }
 
-/// From which state on what calls do is remembered: from that of the first row, since states before it are seldom those of a row;
-/// or from the first state on where there are few states, which come again and again. Takes constant time.
+/// The first state for which moves are remembered. It is that of the first row, since states before it are seldom those of a row; or the
+/// first state if there are few states, which come again and again. Takes constant time.
 pub fn first_remembered_state<S: Hash + Drop>(table: &Table<S>) -> usize {
     if table.states.len() > FEW_STATES {
         table.rows.number(0, 0)
@@ -132,7 +131,7 @@ pub fn first_remembered_state<S: Hash + Drop>(table: &Table<S>) -> usize {
     }
 }
 
-/// What an end records of what a call found: `Unit` where the call has crashed.
+/// The end's record of a call's answer: `Unit` if the call has crashed.
 pub fn told_by(crashed: bool, found: Found) -> Found
     ensures { result ≡ told_by crashed found }
 {
@@ -140,7 +139,7 @@ pub fn told_by(crashed: bool, found: Found) -> Found
 }
 
 /// Where the call, which is not in it, leads from the end of the row; the row itself is for the contract alone. Takes constant time
-/// where that is known, and else one step, and the time of looking its outcomes up.
+/// if that is known, and else one step, and the time of looking its outcomes up.
 pub fn led_to<M: SeqObject>(
     table: &mut Table<M::State>,
     moves: &mut Moves<M::State>,
@@ -184,8 +183,7 @@ pub fn empty<S: Hash + Drop>(alloc: Global) -> Table<S>
     }
 }
 
-/// Takes all ends away, with their states and what was found, and keeps the memory of their lists. Takes the time of the states and
-/// of what was found.
+/// Removes all ends, with their states and answers, and keeps the memory of their lists. Costs O(states + answers).
 pub fn clear<S: Hash + Drop>(table: &mut Table<S>)
     ensures { rows_of table.new ≡ [] }
 {
@@ -194,9 +192,8 @@ pub fn clear<S: Hash + Drop>(table: &mut Table<S>)
     table.rows.restart(0);
 }
 
-/// Puts the ends as rows, in order, in place of those of the table; ends that are the same become one row. `AllocError` where
-/// there is no memory for them: then some of them are there. Takes the time of a copy of each end's state, and of looking each
-/// call up in each end.
+/// Puts the ends as rows, in order, in place of those of the table; ends that are the same become one row. `AllocError` if there is no
+/// memory for them: then some of them are there. Costs a copy of each end's state, and a search for each call in each end.
 pub fn refill<M: SeqObject>(
     table: &mut Table<M::State>,
     ends: &[KeptEnd<M::State>],
@@ -215,8 +212,8 @@ pub fn refill<M: SeqObject>(
     Ok(())
 }
 
-/// The ends as rows, in order; ends that are the same become one row. Takes the time of a copy of each end's state, and of looking
-/// each call up in each end.
+/// The ends as rows, in order; ends that are the same become one row. Costs a copy of each end's state, and a search for each call in each
+/// end.
 pub fn table_of_ends<M: SeqObject>(
     alloc: Global,
     ends: &[KeptEnd<M::State>],
@@ -231,7 +228,7 @@ pub fn table_of_ends<M: SeqObject>(
     Ok(table)
 }
 
-/// What the call at this place found, by the row at `row_at`, if the call is in it. Takes constant time.
+/// The answer of the call at this place, by the row at `row_at`, if the call is in it. Takes constant time.
 pub fn found_in_row<'a, S: Hash + Drop>(
     table: &'a Table<S>,
     row_at: usize,
@@ -253,7 +250,7 @@ pub fn found_in_row<'a, S: Hash + Drop>(
     }
 }
 
-// What the call at this place tells goes into the end.
+// The record of the call at this place goes into the end.
 fn include_at<S: Hash + Drop>(
     kept: &mut KeptEnd<S>,
     table: &Table<S>,
@@ -276,7 +273,7 @@ fn include_at<S: Hash + Drop>(
     }
 }
 
-// The row at `row_at` as an end. None where the row has no state, which is not so of a row that stands for an end.
+// The row at `row_at` as an end. None if the row has no state, which is not so of a row that stands for an end.
 fn kept_of<M: SeqObject>(
     table: &Table<M::State>,
     row_at: usize,
@@ -300,7 +297,7 @@ fn kept_of<M: SeqObject>(
     Ok(Some(kept))
 }
 
-/// The ends that the rows say, in order. Takes the time of all numbers of the rows, and of a copy of each row's state.
+/// The ends that the rows say, in order. Costs O(all numbers of the rows), and a copy of each row's state.
 pub fn ends_of_table<M: SeqObject>(
     table: &Table<M::State>,
     calls: &[PendingOp],

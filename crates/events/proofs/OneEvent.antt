@@ -176,7 +176,7 @@ kind_told v FaultKind.Crash x is allowed = tt
 kind_told v FaultKind.Restart x is allowed = tt
 kind_told v FaultKind.LoseReplies x is allowed = tt
 
--- a fault that may be there is told by a value that may tell it
+-- a fault that may be there is spelled by a value that may spell it
 pub told_by : (f v : Value) (kind : FaultKind) (x : Fault) → f ≡ keyword (text_of_fault kind) → SpellsFault f v x → IsFault x → MayTell kind v
 told_by f v kind x named h allowed = kind_told v kind x (ap (λ k. fault_by k v) (one_fault_kind f kind h.0 named h.1) ∙ h.2) allowed
 
@@ -225,7 +225,7 @@ at_two p (Some g) (Some w) x y a b = one_body p g w x y a b
 at_two p (Some g) None x y a b = absurd a
 at_two p None v x y a b = absurd a
 
--- what an element spells is about what it spells with the process of its head, and in the tables with the kind
+-- an element spells the event of its body with the process of its head, and the tables have it with the kind
 pub process_of_head : (v : Value) (e : Event) (index : Option ℕ) (kind : EventKind) (process : Process) → SpellsHead v index kind process → Spells v e → e.process ≡ process
 process_of_head v e index kind process head h = at_one SpellsProcess one_process (value_in (codes "process") v) e.process process h.head.2 head.2
 

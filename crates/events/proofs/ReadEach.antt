@@ -1,4 +1,4 @@
--- What the elements of a collection are, read one after another; and what is known of integers put in their places
+-- The elements of a collection, read one after another; and facts about integers put in their places
 use Rattle.std.proofs.Common.{◌≡◌, ◌↔◌, ℕ, ◌+◌, ◌<◌, ◌≤◌, ℤ, Option, Some, None, List, [], ◌∷◌, ◌++◌, length, drop, get_or, option_map, refl, sym, ap, ◌∙◌, subst, append_assoc, drop-cons, add-one, ⊎_elim, ◌⊎◌, inl, inr, arith, Result, Ok, Err, IfOk}
 use Rattle.std.specs.Prelude.{IsSomeAnd}
 use Rattle.std.proofs.lemmas.List.{append-nil, drop_all}
@@ -12,11 +12,11 @@ use Rattle.edn.specs.View.{value_of, values_of}
 use Rattle.edn.specs.declared.value.Edn.{Edn}
 use Rattle.events.specs.Spelling.{with_first, each_in, ascending}
 
--- what was read so far, and behind it what is read of the rest
+-- the elements read so far, and behind them those of the rest
 abbrev pub after : {X : Type 0} → List X → Option (List X) → Option (List X)
 after xs o = option_map (λ ys. xs ++ ys) o
 
--- what is read of the elements from the i-th on
+-- the elements read from the i-th on
 abbrev pub read_from : {X : Type 0} → (Value → Option X) → List Edn → ℕ → Option (List X)
 read_from read vs i = each_in read (values_of (drop i vs))
 
@@ -32,7 +32,7 @@ pub after_first : {X : Type 0} (xs : List X) (x : X) (o : Option (List X)) → a
 after_first xs x None = refl
 after_first xs x (Some ys) = ap Some (sym (append_assoc xs (x ∷ []) ys))
 
--- what is read of all is what was read so far, what the next is, and what is read of the rest
+-- the read elements of all are those read so far, then the next one, and then those read of the rest
 pub split_at : {X : Type 0} (whole : Option (List X)) (xs : List X) (o : Option X) (rest : Option (List X)) (all : List X)
     → whole ≡ after xs (with_first o rest) → whole ≡ Some all → (x : X) × (later : List X) × (o ≡ Some x) × (all ≡ xs ++ x ∷ later)
 split_at {X} whole xs (Some x) (Some later) all a b = (x, later, refl, (let both : Some (xs ++ x ∷ later) ≡ Some all = sym a ∙ b in cc))

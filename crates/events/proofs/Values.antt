@@ -1,4 +1,4 @@
--- What the elements of a vector are, and what spells no part
+-- The elements of a vector, and values that spell no part
 use Rattle.std.proofs.Common.{◌≡◌, ◌≢◌, ℤ, true, is_some, Option, Some, None, List, [], ◌∷◌, length, refl, sym, ap, ◌∙◌}
 use Rattle.edn.specs.Value.{Value, nil, int, vector, none, more}
 use Rattle.edn.specs.Parts.{int_in}
@@ -18,7 +18,7 @@ not_two (x ∷ []) h = refl
 not_two (x ∷ y ∷ []) h = absurd (h refl)
 not_two (x ∷ y ∷ z ∷ rest) h = refl
 
--- what is not nil, no integer, no vector of two integers and no set of them that may be there spells no part that may
+-- a value that is not nil, an integer, a vector of two integers or an allowed set of them spells no allowed part
 pub no_part : (kind : EventKind) (name : Name) (v : Value) → v ≢ nil → int_in v ≡ None → ((p : ℤ × ℤ) → v ≢ vector (more (int p.0) (more (int p.1) none)))
     → ((xs : List ℤ) → set_in v ≡ Some xs → ¬ IsPartOf kind name (Set xs)) → (part : Part) → SpellsPart v part → ¬ IsPartOf kind name part
 no_part kind name v is_nil is_int are_ints no_set Nil spelled allowed = is_nil spelled

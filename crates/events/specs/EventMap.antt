@@ -73,7 +73,7 @@ map_of i e = event_value i e.kind (process_value e.process) (name_of_body e.body
 abbrev pub with_index : ℕ → Event → Event
 with_index i e = record e { index = Some i }
 
--- the value tells this of whom it speaks, the name of the body being known
+-- the value says whom it befalls, if the name of the body is known
 abbrev pub IsToldBy : Value → Body → Type 0
 IsToldBy v (AnOp op) = SpellsKeyed v op.key op.part
 IsToldBy v (AFault fault) = fault_by (kind_of_fault fault) v ≡ Some fault

@@ -1,5 +1,5 @@
--- Promise: what events say of operations. An operation is named by the index of its invocation, and a completion is of its
--- process's last invocation (the Jepsen documentation)
+-- Promise: the meaning of events for operations. An operation is named by the index of its invocation, and a completion is of its process's
+-- last invocation (the Jepsen documentation)
 use Rattle.std.specs.Prelude.{◌≡◌, ℕ, ◌+◌, List, [], ◌∷◌, ◌++◌, nat_eq, if◌then◌else◌, Bool, false, Option, Some, None, is_some, option_map, map}
 use Rattle.std.specs.List.{filter}
 use Rattle.models.specs.declared.operation.Op.{Op}
@@ -26,7 +26,7 @@ act_by Ok op = Returns (answer_of op.part)
 act_by Fail op = Fails
 act_by Info op = Crashes
 
--- what an event says of an operation: its process, its key, and what happens to it
+-- the meaning of an event for an operation: its process, its key, and its mark
 pub record OpEvent : Type 0 where
   pub process : ℕ
   pub key : ℕ
@@ -97,7 +97,7 @@ indexed_from i (e ∷ events) = (i, e) ∷ indexed_from (i + 1) events
 abbrev pub of_key : ℕ → List Entry → List Entry
 of_key key entries = filter (λ e. nat_eq e.key key) entries
 
--- the events of a key, whose indices stay. A fault is no event of any key
+-- the events of a key, whose indices stay. A fault is not an event of any key
 abbrev pub is_of_key : ℕ → Option OpEvent → Bool
 is_of_key key None = false
 is_of_key key (Some e) = nat_eq e.key key
@@ -115,6 +115,6 @@ op_events events = filter (λ x. is_some (op_event x.1)) events
 abbrev pub marks : List Entry → List Mark
 marks entries = map (λ e. e.mark) entries
 
--- xs is a front of ys
+-- xs is a prefix of ys
 abbrev pub IsFront : {X : Type 0} → List X → List X → Type 0
 IsFront {X} xs ys = (rest : List X) × (xs ++ rest ≡ ys)

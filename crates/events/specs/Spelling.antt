@@ -59,7 +59,7 @@ SpellsProcess v Nemesis = v ≡ keyword (codes "nemesis")
 abbrev pub SpellsName : Value → Name → Type 0
 SpellsName v name = v ≡ keyword (text_of name)
 
--- what each of the values is, if each is such a thing
+-- the list of the values' meanings, if each of them has one
 abbrev pub with_first : {X : Type 0} → Option X → Option (List X) → Option (List X)
 with_first (Some x) (Some xs) = Some (x ∷ xs)
 with_first _ _ = None
@@ -117,7 +117,7 @@ text_of_fault FaultKind.Crash = codes "crash"
 text_of_fault FaultKind.Restart = codes "restart"
 text_of_fault FaultKind.LoseReplies = codes "lose-replies"
 
--- the fault of this kind that the value tells
+-- the fault of this kind that the value spells
 abbrev pub fault_by : FaultKind → Value → Option Fault
 fault_by FaultKind.Partition v = option_map Partition (groups_in v)
 fault_by FaultKind.Heal nil = Some Heal
@@ -128,7 +128,7 @@ fault_by FaultKind.Crash v = option_map Crash (number_in (2 ^ 8) v)
 fault_by FaultKind.Restart v = option_map Restart (number_in (2 ^ 8) v)
 fault_by FaultKind.LoseReplies v = option_map LoseReplies (number_in (2 ^ 16) v)
 
--- a partition is told by groups that are apart
+-- a partition is spelled by groups that are apart
 abbrev pub MayTell : FaultKind → Value → Type 0
 MayTell FaultKind.Partition v = IsSomeAnd (groups_in v) AreGroups
 MayTell _ v = Unit {0}
@@ -142,7 +142,7 @@ SpellsBody (Client p) f v (AnOp op) = SpellsOp f v op
 SpellsBody Nemesis f v (AFault fault) = SpellsFault f v fault
 SpellsBody _ f v body = ⊥
 
--- a map spells index, kind and process. What is no map has no value at a keyword
+-- a map spells index, kind and process. Only a map has a value at a keyword
 abbrev pub SpellsHead : Value → Option ℕ → EventKind → Process → Type 0
 SpellsHead element index kind process =
     SpellsIndex (value_in (codes "index") element) index

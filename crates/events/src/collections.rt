@@ -1,4 +1,4 @@
-//! What vectors and sets of a text are.
+//! Vectors and sets of a text.
 ghost use Rattle.std.specs.Prelude.{◌≡◌, ◌^◌, ◌↔◌, ◌++◌, ℕ, List, Some, IsTrue, IsSome, IsSomeAnd, IsErr, IfOk, MatchBool, option_map, length};
 ghost use Rattle.edn.specs.View.{value_of, values_of};
 ghost use Rattle.edn.specs.Parts.{int_in};
@@ -25,7 +25,7 @@ pub fn count_of(element: &Edn) -> Option<u16>
 }
 
 /// The set of integers that an element is, ascending, in whatever order it was spelled. The time is that of sorting them.
-/// Memory is taken where each element is an integer, and `AllocError` where it was refused.
+/// Memory is taken if each element is an integer, and `AllocError` if it was refused.
 pub fn set_of(alloc: Global, element: &Edn) -> Result<Option<Members>, AllocError>
     ensures found { IfOk result (λ found. found ≡ set_in (value_of element.now)) }
     ensures memory_last { IsErr result → IsSome (set_in (value_of element.now)) }
@@ -93,8 +93,7 @@ pub fn are_groups(element: &Edn) -> bool
     true
 }
 
-// Marks the replicas that a vector names. It answers false where the element is no vector of replicas' numbers, or one of
-// them is marked.
+// Marks the replicas that a vector names. It answers false if the element is not a vector of replicas' numbers, or one of them is marked.
 fn mark_each(element: &Edn, seen: &mut [bool]) -> bool
     requires { length seen.old ≡ 7 }
     ensures { (before : List ℕ) → HasSeen seen.old before → MatchBool result
@@ -117,7 +116,7 @@ fn mark_each(element: &Edn, seen: &mut [bool]) -> bool
     true
 }
 
-/// The groups of numbers that an element is, a vector of vectors, if it is one. Takes the time of the numbers.
+/// The groups of numbers that an element is, a vector of vectors, if it is one. Costs O(numbers).
 pub fn groups_of(alloc: Global, element: &Edn) -> Result<Option<Groups>, AllocError>
     ensures { IfOk result (λ found. found ≡ groups_in (value_of element.now)) }
 {

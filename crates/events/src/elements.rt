@@ -1,4 +1,4 @@
-//! What elements of a text are.
+//! Elements of a text.
 ghost use Rattle.std.specs.Prelude.{◌≡◌, ◌^◌, option_map};
 ghost use Rattle.edn.specs.Value.{int, vector, none, more};
 ghost use Rattle.edn.specs.View.{value_of, values_of};

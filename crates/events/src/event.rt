@@ -6,8 +6,8 @@ use crate::groups::Groups;
 use models::{Key, Op};
 use std::alloc::AllocError;
 
-/// What an event says of its operation: it is invoked; it took place; it did not; it may take place at any later
-/// moment, or never. (The Jepsen documentation.)
+/// The type of an event: its operation is invoked; it took place; it did not; it may take place at any later moment, or never. (The Jepsen
+/// documentation.)
 #[derive(Clone, Copy, Debug, PartialEq, Eq)]
 pub enum EventKind {
     Invoke,
@@ -23,7 +23,7 @@ pub enum Process {
     Nemesis,
 }
 
-/// What the nemesis does to a replicated store.
+/// The nemesis's change of a replicated store.
 #[derive(Drop)]
 pub enum Fault {
     Partition(Groups),
@@ -35,7 +35,7 @@ pub enum Fault {
     LoseReplies(u16),
 }
 
-/// What an event is about.
+/// The subject of an event.
 #[derive(Drop)]
 pub enum Body {
     Op(Op),
@@ -52,7 +52,7 @@ pub struct Event {
 }
 
 impl Fault {
-    /// An equal fault, with memory of its own. Takes the time of a partition's groups.
+    /// An equal fault, with memory of its own. Costs O(a partition's groups).
     pub fn copy(&self) -> Result<Fault, AllocError>
         ensures { IfOk result (λ other. other ≡ self.now) }
     {
@@ -69,7 +69,7 @@ impl Fault {
 }
 
 impl Body {
-    /// An equal body. The members of a set are shared. Takes the time of a partition's groups, and else constant time.
+    /// An equal body. The members of a set are shared. Costs O(a partition's groups), and else constant time.
     pub fn copy(&self) -> Result<Body, AllocError>
         ensures { IfOk result (λ other. other ≡ self.now) }
     {
@@ -81,7 +81,7 @@ impl Body {
 }
 
 impl Event {
-    /// An equal event. The members of a set are shared. Takes the time of a partition's groups, and else constant time.
+    /// An equal event. The members of a set are shared. Costs O(a partition's groups), and else constant time.
     pub fn copy(&self) -> Result<Event, AllocError>
         ensures { IfOk result (λ other. other ≡ self.now) }
     {
@@ -94,7 +94,7 @@ impl Event {
         })
     }
 
-    /// The key of the operation that the event speaks of, or `None` where it speaks of none, as a fault of the nemesis.
+    /// The key of the operation that the event speaks of, or `None` if it speaks of none, as a fault of the nemesis.
     pub fn key(&self) -> Option<Key>
         ensures { result ≡ key_of self.now }
     {

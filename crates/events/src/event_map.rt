@@ -180,7 +180,7 @@ fn add(pairs: &mut Vec<(Edn, Edn)>, name: &str, value: Edn) -> Result<(), AllocE
     Ok(())
 }
 
-// The same, where the value is the keyword of a name too.
+// The same, if the value is the keyword of a name too.
 fn add_name(pairs: &mut Vec<(Edn, Edn)>, key: &str, name: &str) -> Result<(), AllocError>
     ensures { OnOk result
         (IsPairBehind pairs.old.items key.now (keyword name.now) pairs.new.items) }
@@ -220,8 +220,7 @@ fn map_of_values(
     Ok(Edn::Map(pairs))
 }
 
-/// The map of the event, which states this index. Takes the time of the members of a set, or of a partition's groups, and else
-/// constant time.
+/// The map of the event, which states this index. Costs O(members of a set, or a partition's groups), and else constant time.
 pub fn map_of_event(alloc: Global, index: u32, event: &Event) -> Result<Edn, AllocError>
     requires { IsInTables event.now.kind event.now.process event.now.body }
     ensures value { IfOk result (λ element. value_of element ≡ map_of index event.now) }

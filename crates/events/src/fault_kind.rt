@@ -6,7 +6,7 @@ ghost use Rattle.events.specs.EventMap.{kind_of_fault};
 
 use crate::event::Fault;
 
-/// What a fault does, without whom it befalls.
+/// The kind of a fault, without the replicas that it befalls.
 #[derive(Clone, Copy)]
 pub enum FaultKind {
     Partition,
@@ -19,7 +19,7 @@ pub enum FaultKind {
 }
 
 impl FaultKind {
-    /// The kind that is spelled so, or `None` where there is none.
+    /// The kind that is spelled so, or `None` if there is none.
     pub fn of_text(text: &str) -> Option<FaultKind>
         ensures { Finds result (λ kind. text.now ≡ text_of_fault kind) }
     {

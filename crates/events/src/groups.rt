@@ -46,7 +46,7 @@ impl Groups {
         self.groups.as_slice()
     }
 
-    /// Equal groups, with memory of their own. Takes the time of the numbers.
+    /// Equal groups, with memory of their own. Costs O(numbers).
     pub fn copy(&self) -> Result<Groups, AllocError>
         ensures { IfOk result (λ other. other ≡ self.now) }
     {
@@ -73,8 +73,7 @@ impl Groups {
     }
 }
 
-/// Marks the replicas that the numbers name. It answers false where a number is not that of a replica, or is marked. Takes the time
-/// of the numbers.
+/// Marks the replicas that the numbers name. It answers false if a number is not that of a replica, or is marked. Costs O(numbers).
 pub fn mark(numbers: &[u8], seen: &mut [bool]) -> bool
     requires { length seen.old ≡ 7 }
     ensures { (before : List ℕ) → HasSeen seen.old before → MatchBool result

@@ -8,8 +8,8 @@ ghost use Rattle.events.specs.declared.event.Event.{Event};
 ghost use Rattle.events.specs.Events.{entries_of, events_of_key, of_key};
 ghost use Rattle.events.specs.ProcessRule.{IsHistory};
 
-/// The events of one key are a history by themselves, and their entries are the key's entries: what became of a key's
-/// operations is told by its own events alone.
+/// The events of one key are a history by themselves, and their entries are the key's entries: a key's own events alone determine the fates
+/// of its operations.
 pub fn key_events_law()
     ensures history { (key : ℕ) (events : List (ℕ × Event)) →
         IsHistory events → IsHistory (events_of_key key events) }

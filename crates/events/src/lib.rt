@@ -1,7 +1,7 @@
-//! Events of clients and of the nemesis, in the manner of Jepsen: what they are, which values they may have, how a text spells
-//! them, and what they say of operations. Which of them may follow which is said in `history`.
+//! Events of clients and of the nemesis, in the manner of Jepsen: their fields and values, their spelling in a text, and their meaning for
+//! operations. `history` says which of them may follow which.
 //!
-//! A call takes memory only where its result can be `AllocError`, or a refusal for want of memory.
+//! A call allocates only if its result can be `AllocError`, or a refusal because memory ran out.
 #![tactic(auto)]
 
 mod collections;

@@ -125,7 +125,7 @@ fn fault_kind_of(name: &Edn) -> Option<FaultKind>
     FaultKind::of_text(name.as_keyword()?)
 }
 
-// The fault of this kind that the value tells. A partition alone takes memory.
+// The fault of this kind that the value spells. A partition alone takes memory.
 fn fault_by(alloc: Global, kind: FaultKind, value: &Edn) -> Result<Option<Fault>, AllocError>
     ensures found { IfOk result (λ found. found ≡ fault_by kind (value_of value.now)) }
     ensures partition { IsErr result → kind ≡ FaultKind.Partition }
@@ -141,7 +141,7 @@ fn fault_by(alloc: Global, kind: FaultKind, value: &Edn) -> Result<Option<Fault>
     }
 }
 
-// Whether the value tells groups that are apart, where the fault is a partition.
+// Whether the value spells groups that are apart, if the fault is a partition.
 fn may_tell(kind: FaultKind, value: &Edn) -> bool
     ensures { IsTrue result ↔ MayTell kind (value_of value.now) }
 {
@@ -193,7 +193,7 @@ fn body_of(
     }
 }
 
-// What a map says of an event, but for what it is about.
+// The fields of an event's map, except for its subject.
 #[derive(Clone, Copy)]
 struct Head {
     index: Option<u32>,
@@ -258,15 +258,15 @@ fn event_of(alloc: Global, element: &Edn) -> Result<Option<Event>, AllocError>
 
 /// The event that a map of a text spells.
 ///
-/// The keys `:type`, `:process`, `:f` and `:value` must be there, `:index` may be, and other keys say nothing. An index
-/// and a client's process are 0 to 2^32 - 1. Of a client the value is `[key part]`: a key is 0 to 65,535, and the part is one
-/// that the name may have in such an event: nil, an integer of 64 bits, a vector of two, or a set of them, whose order
-/// says nothing. Of `:nemesis` the name is that of a fault, in an `:info`, and the value says whom it befalls.
+/// The keys `:type`, `:process`, `:f` and `:value` must be there, `:index` may be, and other keys say nothing. An index and a client's
+/// process are 0 to 2^32 - 1. The value of a client's event is `[key part]`. A key is 0 to 65,535, and the part is one that the name may
+/// have in such an event. It is nil, an integer of 64 bits, a vector of two, or a set of them, whose order says nothing. An event of
+/// `:nemesis` is an `:info` with the name of a fault, and the value says whom it befalls.
 ///
 /// The time is that of one pass over the pairs, and of sorting the members of a set.
 ///
 /// # Errors
-/// [`Refusal::BadValue`] where the element spells no event; [`Refusal::NoMemory`] last, where it spells one and a growth
+/// [`Refusal::BadValue`] if the element spells no event; [`Refusal::NoMemory`] last, if it spells one and a growth
 /// was refused.
 pub fn from_edn(alloc: Global, element: &Edn) -> Result<Event, Refusal>
     ensures ok { IfOk result (Spells (value_of element.now)) }

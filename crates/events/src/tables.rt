@@ -84,7 +84,7 @@ fn is_fault(fault: &Fault) -> bool
     }
 }
 
-/// Whether an event of this kind and process may be about this. Takes the time of a partition's groups.
+/// Whether an event of this kind and process may be about this. Costs O(a partition's groups).
 #[inline(always)]
 pub fn is_in_tables(kind: EventKind, process: Process, body: &Body) -> bool
     ensures { IsTrue result ↔ IsInTables kind process body.now }

@@ -73,7 +73,7 @@ module _ {S : Type 0} (calls : List PendingOp) where
     crashed = λ id k. let c = (a e h).crashed id k in (c.0, Contains-append_left calls more c.0 c.1, c.2, c.3);
   }
 
-  -- an operation that is open goes out of the calls
+  -- an open operation is removed from the calls
   module _ (marks : List Mark) (are : ArePending calls marks) (id : ℕ) (is_open : IsOpen marks id) where
     not_crashed : (e : End S) → IsIncluded calls e → (q : ℕ) → IsTrue (finset.contains e.crashed q) → q ≢ id
     not_crashed e a q k is =
@@ -147,7 +147,7 @@ pub included_after_crash : {S : Type 0} (calls : List PendingOp) (marks : List M
 included_after_crash calls marks are id is_open true ends after a each = told_included calls id ends after a each
 included_after_crash calls marks are id is_open false ends after a each = aside_included calls marks are id is_open ends after a each
 
--- what calls lead to includes calls alone
+-- ends that calls lead to include calls alone
 module _ (o : Object) (calls : List PendingOp) where
   included_next : (e f : End o.State) → IsIncluded calls e → Next o calls e f → IsIncluded calls f
   included_next e f a n =

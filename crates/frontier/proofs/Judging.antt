@@ -1,4 +1,4 @@
--- an ok and a fail: what is left of all ends or of the kept ones, and what the frontier stands for then
+-- an ok and a fail: the ends that are left of all or of the kept ones, and the meaning of the frontier then
 use Rattle.std.proofs.Common.{◌≡◌, ◌≢◌, ℕ, ◌+◌, ◌-◌, ◌*◌, ◌≤◌, List, [], ◌∷◌, ◌++◌, map, length, take, sym, subst, arith}
 use Rattle.std.specs.List.{filter}
 use Rattle.models.specs.declared.finding.Answer.{Answer}
@@ -28,7 +28,7 @@ use Rattle.frontier.proofs.Pending.{AreOnce, calls_after_fail, calls_after_ok, n
 use Rattle.frontier.proofs.Standing.{generates_of, stands_by}
 use Rattle.frontier.proofs.TheEnds.{AreTheEnds}
 
--- what an ok asks, by its parts
+-- the question of an ok, by its parts
 abbrev pub asked : List PendingOp → ℕ → ℕ → ℕ → Answer → Asked
 asked calls tried budget id answer = record { calls = calls; tried = tried; budget = budget; id = id; answer = answer }
 
@@ -117,7 +117,7 @@ module _ {M : Type 0} (o : Object) (f : Frontier M o.State) (marks : List Mark) 
   pub kept_ends : (items : List (KeptEnd o.State)) → (HasEachOnce calls → (ends : List (End o.State)) → AreShown (table_of f) calls ends → map end_kept items ≡ ends) → map end_kept items ≡ stands.kept
   kept_ends items h = h calls_once stands.kept its_rows
 
--- what an ok costs, from the count of steps before it and after it
+-- the cost of an ok, from the count of steps before it and after it
 pub ok_costs : {M : Type 0} (o : Object) (f g : Frontier M o.State) (after : ℕ) → Keeps (StandsFor o f) (IsListed o g) → g.budget ≡ f.budget → g.applied ≡ f.applied → g.applied ≤ after → after ≤ g.applied + (g.budget + 1) * length g.calls.items
     → StepsOfOk f.budget (StandsFor o f) f.applied after
 ok_costs o f g after listed budget applied rises cost = (

@@ -56,7 +56,7 @@ module _ {M : Type 0} (o : Object) (f : Frontier M o.State) (marks : List Mark) 
   pub but_of : (fresh : Fresh) → f.fresh ≡ Some fresh → StandsFor o f marks → ListsBut o f fresh marks
   but_of fresh some s = subst (λ x. StandsWith o f x marks) some s.stands
 
-  -- what is listed is idle without a fresh operation
+  -- a listed frontier is idle without a fresh operation
   pub idle_of : IsListed o f marks → IsIdle o f marks
   idle_of l = record { nothing = l.nothing; stands = listed_stands l.none l.lists }
 
@@ -96,11 +96,11 @@ listed_again o f g marks keeps fresh l = listed_of o g marks (keeps marks (idle_
 pub lists_is : {M : Type 0} (o : Object) (f : Frontier M o.State) (marks before : List Mark) → marks ≡ before → Lists o f before → Lists o f marks
 lists_is o f marks before is l = subst (Lists o f) (sym is) l
 
--- what is prepared is carried out
+-- the prepared change is carried out
 pub made_by : {M : Type 0} (o : Object) (f g : Frontier M o.State) (marks : List Mark) (next : Change) → next ≡ f.next → Makes next f g → WillStandFor o f marks → StandsFor o g marks
 made_by o f g marks next is made w = w.will g (subst (λ n. Makes n f g) is made)
 
--- where the calls take the fresh one, and where they do not
+-- where the calls take the fresh one, and if they do not
 pub ok_keeps : (old mid new : List Mark → Type 0) (r : Result (Unit {0}) AllocError) → Keeps old mid → OnOk r (Keeps mid new) → OnOk r (Keeps old new)
 ok_keeps old mid new (Ok x) to on = λ marks stands. on marks (to marks stands)
 ok_keeps old mid new (Err e) to on = tt
@@ -109,7 +109,7 @@ pub err_keeps : (old mid new : List Mark → Type 0) (r : Result (Unit {0}) Allo
 err_keeps old mid new (Ok x) to on = tt
 err_keeps old mid new (Err e) to on = λ marks stands. on marks (to marks stands)
 
--- what was prepared, carried out at once
+-- a prepared change, carried out at once
 module _ (o : Object) (old mid new : FrontierView) (committed : Commits mid new) where
   costs_too : (mark : Mark) → Costs old mid mark → Costs old new mark
   costs_too (Returned id answer) cost = subst (StepsOfOk old.budget old.stands old.applied) (sym committed.applied) cost

@@ -19,7 +19,7 @@ kind_of_frontier (UnorderedQueue f) = kinds.UnorderedQueue
 kind_of_frontier (WideRegister f) = kinds.WideRegister
 kind_of_frontier (WideSet f) = kinds.WideSet
 
--- what is known of the frontier
+-- the state of the frontier
 abbrev pub any_view_of : AnyFrontier → FrontierView
 any_view_of (Register f) = view_of register f.value
 any_view_of (CasRegister f) = view_of cas_register f.value

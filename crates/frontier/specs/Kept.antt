@@ -26,12 +26,12 @@ use Rattle.frontier.specs.declared.product_form.ProductForm.{ProductForm}
 use Rattle.ends.specs.EndSteps.{AreClosed, IsReached, is_other}
 use Rattle.judging.specs.Meaning.{FrontierView, Keeps}
 
--- the rows of the kept products, where there are any, else these
+-- the rows of the kept products, if there are any, else these
 abbrev pub rows_by : {S : Type 0} → Option (Box (ProductForm S)) → List (List ℕ) → List (List ℕ)
 rows_by None rows = rows
 rows_by (Some those) rows = rows_in those.value.kept.1
 
--- the rows of the products that are left after what is prepared, where products are kept, else these
+-- the rows of the products that are left after the prepared change, if the ends are products, else these
 abbrev pub left_by : {S : Type 0} → Option (Box (ProductForm S)) → List (List ℕ) → List (List ℕ)
 left_by None rows = rows
 left_by (Some those) rows = rows_in those.value.room.left.1
@@ -44,7 +44,7 @@ table_of f = with_rows f.table (rows_by f.products (rows_of f.table))
 abbrev pub left_of : {M S : Type 0} → Frontier M S → List (List ℕ)
 left_of f = left_by f.products f.room.rows
 
--- what an ok with this answer asks
+-- the question of an ok with this answer
 abbrev pub asked_of : {M S : Type 0} → Frontier M S → ℕ → Answer → Asked
 asked_of f id answer = record {
   calls = f.calls.items;
@@ -71,7 +71,7 @@ pub record Lists {M : Type 0} (o : Object) (f : Frontier M o.State) (marks : Lis
   pub tried : f.tried ≤ length f.calls.items
   pub closed : AreClosed o (take f.tried f.calls.items) kept
 
--- its rows and calls are those of the history but for its last event, which invoked this operation
+-- its rows and calls are those of the history without its last event, which invoked this operation
 pub record ListsBut {M : Type 0} (o : Object) (f : Frontier M o.State) (fresh : Fresh)
     (marks : List Mark) : Type 0 where
   pub before : List Mark
@@ -100,7 +100,7 @@ pub record HasCountsOf {M S : Type 0} (f g : Frontier M S) : Type 0 where
   pub budget : g.budget ≡ f.budget
   pub applied : g.applied ≡ f.applied
 
--- the frontier is this one but for what is worked in
+-- the frontier is this one except for its working memory
 pub record IsAlike {M S : Type 0} (f g : Frontier M S) : Type 0 where
   pub same : IsOf g (table_of f) f.calls.items f.tried f.fresh
   pub next : g.next ≡ f.next
@@ -120,12 +120,12 @@ Makes {M} {S} Crashed f g =
     (after : Box (AfterCrash S)) → f.after_crash ≡ Some after
     → IsOf g after.value.table after.value.calls.items 0 f.fresh
 
--- with what is prepared the frontier will stand for the history
+-- with the prepared change the frontier will stand for the history
 pub record WillStandFor {M : Type 0} (o : Object) (f : Frontier M o.State) (marks : List Mark)
     : Type 0 where
   pub will : (g : Frontier M o.State) → Makes f.next f g → StandsFor o g marks
 
--- the step by whether some end is left: Alive where there is one, else Dead
+-- the step by whether some end is left: Alive if there is one, else Dead
 pub record IsStepOf (some_left : Bool) (step : Step) : Type 0 where
   pub alive : (step ≡ Alive) ↔ (some_left ≡ true)
   pub dead : (step ≡ Dead) ↔ (some_left ≡ false)
@@ -144,7 +144,7 @@ pub record IsListed {M : Type 0} (o : Object) (f : Frontier M o.State) (marks : 
   pub none : f.fresh ≡ None
   pub lists : Lists o f marks
 
--- what is known of the frontier
+-- the state of the frontier
 abbrev pub view_of : {M : Type 0} (o : Object) → Frontier M o.State → FrontierView
 view_of o f = record {
   stands = StandsFor o f;
@@ -154,7 +154,7 @@ view_of o f = record {
 }
 
 module _ {M : Type 0} (o : Object) (f g : Frontier M o.State) where
-  -- the fresh operation has its place in the rows; where there is no memory all stands as before, and
+  -- the fresh operation has its place in the rows; if there is no memory all stands as before, and
   -- nothing is prepared
   pub record ListsFresh (before : List Mark → Type 0) (result : Result (Unit {0}) AllocError)
       : Type 0 where

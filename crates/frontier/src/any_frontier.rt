@@ -17,13 +17,13 @@ use std::alloc::{AllocError, Global};
 use wide_register::WideRegister;
 use wide_set::WideSet;
 
-/// What judges one key's history, for a key whose kind of object is known only as the program runs: a [`Frontier`] of that kind, or
-/// a wide register or set.
+/// The judge of one key's history, for a key whose kind of object is known only as the program runs: a [`Frontier`] of that kind, or a wide
+/// register or set.
 #[derive(Drop)]
 pub enum AnyFrontier {
     /// Of a register.
     Register(Box<Frontier<Register>>),
-    /// Of a register that also has compare and set.
+    /// For a register that also has compare and set.
     CasRegister(Box<Frontier<CasRegister>>),
     /// Of a mutex.
     Mutex(Box<Frontier<Mutex>>),
@@ -31,11 +31,11 @@ pub enum AnyFrontier {
     FifoQueue(Box<Frontier<FifoQueue>>),
     /// Of a set.
     Set(Box<Frontier<Set>>),
-    /// Of a queue without an order.
+    /// For a queue without an order.
     UnorderedQueue(Box<Frontier<UnorderedQueue>>),
-    /// Of a register whose lean ends are counted.
+    /// For a register whose lean ends are counted.
     WideRegister(Box<WideRegister>),
-    /// Of a set of which nothing is counted.
+    /// For a set, whose ends are not counted.
     WideSet(Box<WideSet>),
 }
 
@@ -136,10 +136,10 @@ impl AnyFrontier {
         each_kind_with_ends!(start_of; kind, alloc, budget)
     }
 
-    /// An event of an operation: [`Frontier::observe`], at its cost. The id is the index of the operation's invocation, which
-    /// is new where the event is one, and else is that of an open operation; the part of an ok is the answer. Over where the
-    /// event is an ok and more ends than the budget stand just before it: then, and on `AllocError`, the frontier stands for
-    /// what it stood for. An invocation and an info are answered Alive, since they kill nothing.
+    /// An event of an operation: [`Frontier::observe`], at its cost. The id is the index of the operation's invocation. It is new if the
+    /// event is an invocation, and else is that of an open operation; the part of an ok is the answer. Over if the event is an ok and more
+    /// ends than the budget stand just before it. Then, and on `AllocError`, the frontier keeps its meaning. An invocation and an info are
+    /// answered Alive, since they kill nothing.
     pub fn observe(&mut self, id: u32, kind: EventKind, op: &Op) -> Result<Step, AllocError>
         ensures observed { Observes (any_view_of self.old) (any_view_of self.new)
             (CountsMoreThan (kind_of_frontier self.old)) (object_of (kind_of_frontier self.old))
@@ -149,9 +149,9 @@ impl AnyFrontier {
         each_kind_with_ends!(observe_of; self, id, kind, op)
     }
 
-    /// Prepares an event of an operation, and gives its answer: [`Frontier::prepare`], at its cost. The frontier stands for
-    /// what it stood for until [`commit`](Self::commit). After Over nothing is prepared; after `AllocError` no commit must
-    /// follow. What was prepared before is dropped.
+    /// Prepares an event of an operation, and gives its answer: [`Frontier::prepare`], at its cost. The frontier keeps its meaning until
+    /// [`commit`](Self::commit). After Over nothing is prepared; after `AllocError` no commit must follow. A change that was prepared
+    /// before is dropped.
     pub fn prepare(&mut self, id: u32, kind: EventKind, op: &Op) -> Result<Step, AllocError>
         ensures prepared { Prepares (any_view_of self.old) (any_view_of self.new)
             (CountsMoreThan (kind_of_frontier self.old)) (object_of (kind_of_frontier self.old))
@@ -176,8 +176,8 @@ impl AnyFrontier {
         each_kind_with_ends!(applied_of; self)
     }
 
-    /// An equal frontier, which shares the items of queues and the members that were found; nothing is prepared of it:
-    /// [`Frontier::copy`]. Takes the time of the calls, the rows or products, the states and what was found.
+    /// An equal frontier, which shares the items of queues and the members that were found; nothing is prepared of it: [`Frontier::copy`].
+    /// Costs O(calls + rows or products + states + answers).
     pub fn copy(&self) -> Result<Self, AllocError>
         ensures copied { IfOk result (λ f. IsCopy (any_view_of self.now) (any_view_of f)) }
         ensures kind { IfOk result (λ f. kind_of_frontier f ≡ kind_of_frontier self.now) }

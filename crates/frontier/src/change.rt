@@ -13,29 +13,29 @@ pub struct Fresh {
     pub op: Op,
 }
 
-/// The calls after a crash, and their table, where products have become rows.
+/// The calls after a crash, and their table, if products have become rows.
 #[derive(Drop)]
 pub struct AfterCrash<S: Hash + Drop> {
     pub calls: Vec<PendingOp>,
     pub table: Table<S>,
 }
 
-/// What a prepared event makes of a frontier. It is small, and is copied; what is large of it stands beside it. To carry it out
-/// takes no memory.
+/// The effect of a prepared event on a frontier. It is small and copied; its large parts are kept in the frontier. To carry it out takes no
+/// memory.
 #[derive(Clone, Copy)]
 pub enum Change {
     /// Nothing.
     Nothing,
     /// The operation that is coming is invoked.
     Invoked,
-    /// The operation with this id has returned or failed: it is among the calls no longer, the rows or products that are left
-    /// take the place of the others, and so many of the calls that are left count as tried.
+    /// The operation with this id has returned or failed. It is among the calls no longer, and the rows or products that are left replace
+    /// the others. This number of the remaining calls count as tried.
     Done(u32, usize),
     /// The calls and the table after the crash take the place of the others, and no call counts as tried.
     Crashed,
 }
 
-/// Nothing is prepared any more, and what stood beside it is dropped.
+/// Nothing is prepared any more, and the prepared parts are dropped.
 pub fn drop_prepared<S: Hash + Drop>(
     next: &mut Change,
     coming: &mut Option<Fresh>,
@@ -51,7 +51,7 @@ pub fn drop_prepared<S: Hash + Drop>(
 }
 
 /// The same operation, if there is one, which shares the members of a set. Takes constant time, and no memory; `AllocError`
-/// where as many share them as can be counted.
+/// if as many share them as can be counted.
 pub fn copied_fresh(fresh: &Option<Fresh>) -> Result<Option<Fresh>, AllocError>
     ensures { IfOk result (λ copy. copy ≡ fresh.now) }
 {

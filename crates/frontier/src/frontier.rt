@@ -25,16 +25,15 @@ use std::alloc::{AllocError, Global};
 use std::hash::Hash;
 use std::mem::swap;
 
-// Room for so many calls is made at the start: two clients of a key have no more open at once.
+// The number of calls for which room is made at the start: two clients of a key have no more open at once.
 const FEW_CALLS: usize = 2;
 
-/// The ends of the legal orders of one key's history (Herlihy and Wing 1990, section 2), found just in time (Lowe 2017).
-/// It does not keep the events. It keeps some ends, from which pending operations lead to all others, and only an ok
-/// tries operations: it finds all ends there are just before it, and keeps those that include the operation with what
-/// fits the answer.
+/// The ends of the legal orders of one key's history (Herlihy and Wing 1990, section 2), found just in time (Lowe 2017). It does not keep
+/// the events. It keeps some ends, and the pending operations lead from them to all others. Only an ok tries operations: it finds all ends
+/// just before it, and keeps those that include the operation with a fitting answer.
 ///
-/// An event can be prepared, which may fail and leaves what the frontier stands for, and then committed, which takes no
-/// memory. What was prepared before is dropped.
+/// An event can be prepared, which may fail and leaves what the frontier stands for, and then committed, which takes no memory. A change
+/// that was prepared before is dropped.
 pub struct Frontier<M: SeqObject> {
     alloc: Global,
     budget: u32,
@@ -46,13 +45,13 @@ pub struct Frontier<M: SeqObject> {
     fresh: Option<Fresh>,
     /// So many calls, the first ones, lead from the kept ends to no others.
     tried: usize,
-    /// The states, what was found, and the kept ends as rows; no rows where the ends are products.
+    /// The states, the answers, and the kept ends as rows; no rows if the ends are products.
     table: Table<M::State>,
     /// The memory of the table before.
     spare: Option<Box<Table<M::State>>>,
     /// Memory to work in, and the rows that a prepared ok or fail leaves.
     room: Room<M::State>,
-    /// The kept ends where they are products, with what a prepared ok or fail leaves of them.
+    /// The kept ends if they are products, with those that a prepared ok or fail leaves of them.
     products: Option<Box<ProductForm<M::State>>>,
     /// What is prepared.
     next: Change,
@@ -83,14 +82,14 @@ impl<M: SeqObject> Drop for Frontier<M> {
     }
 }
 
-// Alive where some end is left, else Dead.
+// Alive if some end is left, else Dead.
 fn step_of(some_left: bool) -> Step
     ensures { IsStepOf some_left result }
 {
     if some_left { Step::Alive } else { Step::Dead }
 }
 
-// The table that is kept for another one to be made in its memory, or a new one without ends. `AllocError` where there is no memory
+// The table that is kept for another one to be made in its memory, or a new one without ends. `AllocError` if there is no memory
 // for that.
 fn spare_table<S: Hash + Drop>(
     alloc: Global,
@@ -134,12 +133,12 @@ impl<M: SeqObject> Frontier<M> {
         })
     }
 
-    /// Any event of an operation: [`invoke`](Self::invoke), [`ok`](Self::ok), [`fail`](Self::fail) or [`crash`](Self::crash) by
-    /// the kind of the event, at its cost. The id is the index of the operation's invocation, and the part of an ok is the
-    /// answer. An invocation and an info are answered Alive, since they kill nothing. Over where the event is an ok and more
-    /// ends than the budget stand just before it: then, and on `AllocError`, the frontier stands for what it stood for; the
-    /// steps that were made stay counted, the call that was noted last may have its place in the rows, and rows may have become
-    /// products, or products rows. It is [`prepare`](Self::prepare) and [`commit`](Self::commit) in one.
+    /// Any event of an operation: [`invoke`](Self::invoke), [`ok`](Self::ok), [`fail`](Self::fail) or [`crash`](Self::crash) by the kind of
+    /// the event, at its cost. The id is the index of the operation's invocation, and the part of an ok is the answer. An invocation and an
+    /// info are answered Alive, since they kill nothing. Over if the event is an ok and more ends than the budget stand just before it.
+    /// Then, and on `AllocError`, the frontier keeps its meaning. The steps that were made stay counted, the call that was noted last may
+    /// have its place in the rows, and rows may have become products, or products rows. It is [`prepare`](Self::prepare) and
+    /// [`commit`](Self::commit) in one.
     pub fn observe(&mut self, id: u32, kind: EventKind, op: &Op) -> Result<Step, AllocError>
         ensures { let object = of_table M.State M.start_state M.apply_to in
             Observes (view_of object self.old) (view_of object self.new) (HasMoreThan object) object
@@ -150,9 +149,8 @@ impl<M: SeqObject> Frontier<M> {
         Ok(step)
     }
 
-    /// Prepares any event of an operation, and gives its answer, as [`observe`](Self::observe) does, at the same cost. The
-    /// frontier stands for what it stood for until [`commit`](Self::commit). After Over nothing is prepared; after `AllocError`
-    /// no commit must follow.
+    /// Prepares any event of an operation, and gives its answer, as [`observe`](Self::observe) does, at the same cost. The frontier keeps
+    /// its meaning until [`commit`](Self::commit). After Over nothing is prepared; after `AllocError` no commit must follow.
     #[inline(always)]
     pub fn prepare(&mut self, id: u32, kind: EventKind, op: &Op) -> Result<Step, AllocError>
         ensures { let object = of_table M.State M.start_state M.apply_to in
@@ -173,8 +171,8 @@ impl<M: SeqObject> Frontier<M> {
         }
     }
 
-    /// Carries out what is prepared, if anything is. It takes no memory and cannot fail. Takes the time of the calls and of what it
-    /// drops.
+    /// Carries out what is prepared, if anything is. It takes no memory and cannot fail. Costs O(calls), and the drop of old rows or
+    /// products.
     #[inline(always)]
     pub fn commit(&mut self)
         ensures { let object = of_table M.State M.start_state M.apply_to in
@@ -190,8 +188,8 @@ impl<M: SeqObject> Frontier<M> {
         }
     }
 
-    // The rows or products that are left take the place of the others, the operation is among the calls no longer, and so many of
-    // them count as tried.
+    // The rows or products that are left replace the others, the operation is among the calls no longer, and `tried` of them count as
+    // tried.
     #[inline(always)]
     fn take_left(&mut self, id: u32, tried: usize)
         ensures is { IsOf self.new (with_rows (table_of self.old) (left_of self.old))
@@ -232,11 +230,10 @@ impl<M: SeqObject> Frontier<M> {
         }
     }
 
-    /// An operation is invoked, whose id (the index of its invocation) no event before it has. On `AllocError` the frontier
-    /// stands for what it stood for. Tries nothing: it notes the call, and gives the one that was noted before its place in the
-    /// rows, which are made anew where they have no room for it, or in the products. Before that rows may become products, or
-    /// products rows, or products get new numbers. Takes the time of the rows or of a copy of the products; where products are made
-    /// or get new numbers, at most the square of how many there are.
+    /// An operation is invoked, whose id (the index of its invocation) no event before it has. On `AllocError` the frontier keeps its
+    /// meaning. Tries nothing: it notes the call, and gives the one that was noted before its place in the rows or products. Rows without
+    /// room for it are made again. Before that rows may become products, or products rows, or products get new numbers. Costs O(rows) or a
+    /// copy of the products; if products are made or get new numbers, at most O(their number squared).
     pub fn invoke(&mut self, id: u32, op: Op) -> Result<(), AllocError>
         ensures { let object = of_table M.State M.start_state M.apply_to in
             TakesAlways (view_of object self.old) (view_of object self.new) (Invoked id op) result }
@@ -321,8 +318,8 @@ impl<M: SeqObject> Frontier<M> {
         }
     }
 
-    // Ends whose reads double them, or of which an ok will find many, are kept as products, while these are not many; and products
-    // are numbered anew where many of their numbers are no longer used. On `AllocError` the frontier stands for what it stood for.
+    // Ends are kept as products if reads double them, or an ok will find many of them, as long as the products are not many. Products get
+    // new numbers if many of their numbers are no longer used. On `AllocError` the frontier keeps its meaning.
     fn choose_form(&mut self) -> Result<(), AllocError>
         ensures { let object = of_table M.State M.start_state M.apply_to in
             Reforms object self.old self.new }
@@ -340,7 +337,7 @@ impl<M: SeqObject> Frontier<M> {
         }
     }
 
-    // The rows become products, if they can. On `AllocError` the frontier stands for what it stood for.
+    // The rows become products, if they can. On `AllocError` the frontier keeps its meaning.
     #[inline(never)]
     fn make_products(&mut self) -> Result<(), AllocError>
         requires rows { self.old.products ≡ None }
@@ -355,7 +352,7 @@ impl<M: SeqObject> Frontier<M> {
         Ok(())
     }
 
-    // The products become rows, if there are any. On `AllocError` the frontier stands for what it stood for.
+    // The products become rows, if there are any. On `AllocError` the frontier keeps its meaning.
     #[inline(never)]
     fn make_rows(&mut self) -> Result<(), AllocError>
         ensures same { let object = of_table M.State M.start_state M.apply_to in
@@ -369,8 +366,7 @@ impl<M: SeqObject> Frontier<M> {
         Ok(())
     }
 
-    // The products get new numbers of states and of what was found, those that they use alone. On `AllocError` the frontier stands
-    // for what it stood for.
+    // The products get new numbers of states and answers: those that they use alone. On `AllocError` the frontier keeps its meaning.
     #[inline(never)]
     fn renumber(&mut self) -> Result<(), AllocError>
         ensures { let object = of_table M.State M.start_state M.apply_to in
@@ -397,7 +393,7 @@ impl<M: SeqObject> Frontier<M> {
         self.table.states.len() / 10 > self.table.rows.len().saturating_add(8)
     }
 
-    // Takes the fresh operation among the calls by making all rows anew, in the spare table, with the states that they have.
+    // Takes the fresh operation among the calls: makes all rows again, in the spare table, with the states that they have.
     #[inline(never)]
     fn list_anew(&mut self) -> Result<(), AllocError>
         requires rows { self.old.products ≡ None }
@@ -424,12 +420,11 @@ impl<M: SeqObject> Frontier<M> {
         Ok(())
     }
 
-    /// An open operation has returned with this answer. Over where more ends than the budget stand just before it: then, and on
-    /// `AllocError`, the frontier stands for what it stood for; the steps that were made stay counted. Where the ends are rows,
-    /// tries each operation that may still take place at most once on each end, as a rule once in each state of an end, and on the
-    /// ends that the last ok left only the operations invoked since; looks what comes of it up in an index. Where they are
-    /// products, tries each operation once in each state that is met, and compares each product that comes of it with the others.
-    /// Goes on with no end once these are more than the budget.
+    /// An open operation has returned with this answer. Over if more ends than the budget stand just before it. Then, and on `AllocError`,
+    /// the frontier keeps its meaning; the steps that were made stay counted. If the ends are rows, it tries each operation that may still
+    /// take place at most once on each end, as a rule once in each state of an end. On the ends that the last ok left it tries only the
+    /// operations invoked since. It looks the results up in an index. If they are products, tries each operation once in each state that is
+    /// met, and compares each product that comes of it with the others. Goes on with no end once these are more than the budget.
     pub fn ok(&mut self, id: u32, answer: &Answer) -> Result<Step, AllocError>
         ensures { let object = of_table M.State M.start_state M.apply_to in
             Observes (view_of object self.old) (view_of object self.new) (HasMoreThan object) object
@@ -458,8 +453,8 @@ impl<M: SeqObject> Frontier<M> {
         Ok(step_of(self.some_left()))
     }
 
-    // For the prover: where there are products, an operation has at most one outcome in a state. When it runs it never changes
-    // anything, since products are made of such kinds alone. On `AllocError` the frontier stands for what it stood for.
+    // For the prover: if there are products, an operation has at most one outcome in a state. When it runs it never changes anything,
+    // since products are made of such kinds alone. On `AllocError` the frontier keeps its meaning.
     fn ensure_single_outcome(&mut self) -> Result<(), AllocError>
         ensures keeps { let object = of_table M.State M.start_state M.apply_to in
             Keeps (IsListed object self.old) (IsListed object self.new) }
@@ -473,7 +468,7 @@ impl<M: SeqObject> Frontier<M> {
         }
     }
 
-    // Puts what is left of all ends after the ok into the room. False where there are more ends than the budget.
+    // Puts what is left of all ends after the ok into the room. False if there are more ends than the budget.
     #[inline(always)]
     fn advance(&mut self, id: u32, answer: &Answer) -> Result<bool, AllocError>
         requires single { self.old.products ≢ None → HasOneOutcome M.apply_to }
@@ -525,8 +520,8 @@ impl<M: SeqObject> Frontier<M> {
         }
     }
 
-    /// How many steps were made so far: how often an operation was tried in a state, also in an ok that was answered Over or found
-    /// no memory. It never falls, and stops at the greatest u64. Takes constant time.
+    /// How many steps were made so far: how often an operation was tried in a state, also in an ok that answered Over or ran out of memory.
+    /// It never falls, and stops at the greatest u64. Takes constant time.
     pub fn applied(&self) -> u64
         ensures { let object = of_table M.State M.start_state M.apply_to in
             result ≡ (view_of object self.now).applied }
@@ -534,9 +529,9 @@ impl<M: SeqObject> Frontier<M> {
         self.applied
     }
 
-    /// An open operation did not take place. Never Over. On `AllocError` the frontier stands for what it stood for. Leaves the
-    /// ends that do not include the operation: looks at one number of each row, or one set of each product, and puts what is left,
-    /// without it, with the others.
+    /// An open operation did not take place. Never Over. On `AllocError` the frontier keeps its meaning. Leaves the ends that do not
+    /// include the operation: looks at one number of each row, or one set of each product, and puts what is left, without it, with the
+    /// others.
     pub fn fail(&mut self, id: u32) -> Result<Step, AllocError>
         ensures { let object = of_table M.State M.start_state M.apply_to in
             Observes (view_of object self.old) (view_of object self.new) (HasMoreThan object) object
@@ -584,9 +579,9 @@ impl<M: SeqObject> Frontier<M> {
         }
     }
 
-    /// An open operation has crashed: it may take place at any later moment, or never. A read is set aside, since it decides
-    /// nothing any more: ends that differed by it alone are one then. On `AllocError` the frontier stands for what it stood
-    /// for. Makes its rows anew; products become rows before that, one for each kept end.
+    /// An open operation has crashed: it may take place at any later moment, or never. A read is set aside, since it decides nothing any
+    /// more: ends that differed by it alone are one then. On `AllocError` the frontier keeps its meaning. Makes its rows again; products
+    /// become rows before that, one for each kept end.
     pub fn crash(&mut self, id: u32) -> Result<(), AllocError>
         ensures { let object = of_table M.State M.start_state M.apply_to in
             TakesAlways (view_of object self.old) (view_of object self.new) (Crashed id) result }
@@ -631,8 +626,8 @@ impl<M: SeqObject> Frontier<M> {
         self.alloc
     }
 
-    /// An equal frontier, which shares the items of queues and the members that were found; nothing is prepared of it. Takes the
-    /// time of the calls, the rows or products, the states and what was found.
+    /// An equal frontier, which shares the items of queues and the members that were found; nothing is prepared of it. Costs O(calls + rows
+    /// or products + states + answers).
     pub fn copy(&self) -> Result<Self, AllocError>
         ensures { let object = of_table M.State M.start_state M.apply_to in
             IfOk result (λ f. IsCopy (view_of object self.now) (view_of object f)) }

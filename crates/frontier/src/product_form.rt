@@ -21,10 +21,10 @@ const FEW_PRODUCTS: usize = 32;
 // More products than these become rows, and so do more than [`FEW_PRODUCTS`] that stand for fewer than four rows each.
 const MOST_PRODUCTS: usize = 128;
 
-// Where so many calls were not tried yet and one more gets its place, these four may lead from few ends to many.
+// If this number of calls were not tried yet and one more gets its place, these four may lead from few ends to many.
 const MANY_UNTRIED: usize = 3;
 
-// Up to so many things found, and so many states, no new numbers are given to those in use.
+// Up to this number of answers, and of states, those in use get no new numbers.
 const FEW_FOUND: usize = 24;
 
 const FEW_STATES: usize = 64;
@@ -64,8 +64,8 @@ pub fn is_crowded<S: Hash + Drop>(products: &ProductForm<S>, table: &Table<S>) -
     table.founds.len() > products.most_found || table.states.len() > products.most_states
 }
 
-/// How many things found and how many states there may be before products with the numbers of this table get new ones: twice as
-/// many as it has, and no fewer than 24 and 64. Takes constant time.
+/// How many answers and how many states there may be before products with the numbers of this table get new ones. It is twice as many as it
+/// has, and no fewer than 24 and 64. Takes constant time.
 pub fn to_come<S: Hash + Drop>(table: &Table<S>) -> (usize, usize) {
     (
         table.founds.len().saturating_mul(2).max(FEW_FOUND),
@@ -83,9 +83,9 @@ fn has_read(calls: &[PendingOp]) -> bool {
     false
 }
 
-/// Whether rows become products before an operation gets its place: there are at most 32 of them, a read is among the calls, which
-/// may have found the state in each order of what changes it, and there are more than 8, or with the operation four calls or more
-/// were not tried, so that the next ok finds many ends of few. Takes the time of the calls.
+/// Whether rows become products before an operation gets its place. There are at most 32 rows, and a read is among the calls, which may
+/// have found the state in each order of the changes. And there are more than 8 rows, or with the operation four calls or more were not
+/// tried, so that the next ok finds many ends of few. Costs O(calls).
 pub fn should_be_products<S: Hash + Drop>(
     table: &Table<S>,
     calls: &[PendingOp],
@@ -103,7 +103,7 @@ pub fn take_left<S>(products: &mut ProductForm<S>)
     products.kept.trade(&mut products.room.left);
 }
 
-/// Each row gets a zero behind it. `AllocError` where there is no memory for it: then they are as they were.
+/// Each row gets a zero behind it. `AllocError` if there is no memory for it: then they are as they were.
 pub fn lengthen<S>(alloc: Global, products: &mut ProductForm<S>) -> Result<(), AllocError>
     ensures longer { OnOk result (products.new.kept ≡ (
       products.old.kept.0 + 1,
@@ -114,7 +114,7 @@ pub fn lengthen<S>(alloc: Global, products: &mut ProductForm<S>) -> Result<(), A
     products.kept.lengthen(alloc)
 }
 
-/// The same products, with memory of their own. Takes the time of the products.
+/// The same products, with memory of their own. Costs O(products).
 pub fn copied<S: Drop>(
     alloc: Global,
     products: &ProductForm<S>,

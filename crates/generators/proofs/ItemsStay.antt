@@ -1,4 +1,4 @@
--- What is given stood in the generator, and is for the asker
+-- The given item was in the generator, and is for the asker
 use Rattle.std.proofs.Common.{◌≡◌, ℕ, zero, suc, true, List, [], ◌∷◌, ◌++◌, subst}
 use Rattle.std.specs.Prelude.{Some}
 use Rattle.generators.specs.declared.item.Item.{Item}

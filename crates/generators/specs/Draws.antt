@@ -1,5 +1,5 @@
--- Promise: what generators answer. The forms are this project's own, in the manner of Jepsen's. `Draws words ask g p o`
--- says: where generator g is asked at place p of the stream of random words, it comes to o
+-- Promise: the answers of generators. The forms are this project's own, in the manner of Jepsen's. `Draws words ask g p o` says: where
+-- generator g is asked at place p of the stream of random words, it comes to o
 use Rattle.std.specs.Prelude.{◌≡◌, ℕ, zero, suc, ◌+◌, ◌%◌, ◌^◌, Bool, true, false, not, ◌&&◌, ◌||◌, List, [], ◌∷◌, ◌++◌, Option, Some, None}
 use Rattle.generators.specs.declared.item.Item.{Item}
 use Rattle.generators.specs.declared.item.Item.TheVariants.{Op as AnOp, Fault as AFault}
@@ -9,8 +9,8 @@ use Rattle.generators.specs.declared.item.Drawn.{Drawn}
 use Rattle.generators.specs.declared.item.Drawn.TheVariants.{Op, Pending, Done}
 use Rattle.generators.specs.Generators.{Generator, ops, mix, limit, seq, phases, each_thread, clients, nemesis, Generators, none, more, joined, count, is_some, is_over, all_over, at, with_at}
 
--- what an ask comes to: an item, with what was asked as it stands afterwards; or none, where true says that one may come
--- later. Either way with the place in the stream that was reached
+-- the outcome of an ask: an item, with the asked generator as it stands afterwards; or none, and true says that one may come later. Both
+-- have the place in the stream that was reached
 pub data DrawOutcome (A : Type 0) : Type 0 where
   gives : Item → A → ℕ → DrawOutcome A
   declines : Bool → ℕ → DrawOutcome A
@@ -59,7 +59,7 @@ mutual
         → Draws words ask (ops (x ∷ xs)) p (gives x (ops (xs ++ x ∷ [])) p)
     for_others : {x : Item} {xs : List Item} {p : ℕ} → is_for ask.asker x ≡ false
         → Draws words ask (ops (x ∷ xs)) p (declines true p)
-    -- limit: at most so many items of g
+    -- limit: at most n items of g
     limit_reached : {g : Generator} {p : ℕ} → Draws words ask (limit zero g) p (declines false p)
     limit_gives : {n p q : ℕ} {g h : Generator} {x : Item} → Draws words ask g p (gives x h q)
         → Draws words ask (limit (suc n) g) p (gives x (limit n h) q)
@@ -79,7 +79,7 @@ mutual
         → more g gs ≡ joined front back → count front ≡ words p % count (more g gs)
         → DrawsInTurn words ask (joined back front) (next_place p) (declines later q)
         → Draws words ask (mix (more g gs)) p (declines later q)
-    -- seq: children that are over are passed; the first other one is asked, and its Done is Pending where another follows
+    -- seq: children that are over are passed; the first other one is asked, and its Done is Pending if another follows
     seq_of_none : {p : ℕ} → Draws words ask (seq none) p (declines false p)
     seq_passes : {g : Generator} {gs : Generators} {p : ℕ} {o : DrawOutcome Generator}
         → is_over g ≡ true
@@ -90,7 +90,7 @@ mutual
     seq_declines : {g : Generator} {gs : Generators} {p q : ℕ} {later : Bool} → is_over g ≡ false
         → Draws words ask g p (declines later q)
         → Draws words ask (seq (more g gs)) p (declines (later || is_some gs) q)
-    -- phases: as seq, but a child with a follower is passed only where all threads are idle
+    -- phases: as seq, but a child with a follower is passed only if all threads are idle
     phases_of_none : {p : ℕ} → Draws words ask (phases none) p (declines false p)
     phases_waits : {g : Generator} {gs : Generators} {p : ℕ} → is_over g ≡ true → is_some gs ≡ true
         → all_idle ask.idle ≡ false
@@ -131,7 +131,7 @@ mutual
     nemesis_declines : {g : Generator} {p q : ℕ} {later : Bool} → is_thread ask.asker ≡ false
         → Draws words ask g p (declines later q) → Draws words ask (nemesis g) p (declines later q)
 
-  -- the generators are asked one after another, until one gives an item; if none does, one may come later where one of
+  -- the generators are asked one after another, until one gives an item; if none does, one may come later if one of
   -- them says so
   pub data DrawsInTurn (words : ℕ → ℕ) (ask : Ask) : Generators → ℕ → DrawOutcome Generators
       → Type 0 where
@@ -153,7 +153,7 @@ abbrev pub GivesItem : (ℕ → ℕ) → Ask → Generator → ℕ → Type 0
 GivesItem words ask g p =
     (x : Item) × (h : Generator) × (q : ℕ) × Draws words ask g p (gives x h q)
 
--- what a draw may answer, with the generator and the place in the stream after it. Only an item moves them
+-- the possible answer of a draw, with the generator and the place in the stream after it. Only an item moves them
 abbrev pub MayDraw : (ℕ → ℕ) → Ask → Generator → ℕ → Drawn → Generator → ℕ → Type 0
 MayDraw words ask g p (Op x) h q = Draws words ask g p (gives x h q)
 MayDraw words ask g p Pending h q = ((r : ℕ) × Draws words ask g p (declines true r)) × (h ≡ g)

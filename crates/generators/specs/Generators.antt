@@ -49,7 +49,7 @@ abbrev mutual
   all_over none = true
   all_over (more g gs) = is_over g && all_over gs
 
--- so many copies of a generator
+-- n copies of a generator
 abbrev pub copies : ℕ → Generator → Generators
 copies zero g = none
 copies (suc n) g = more g (copies n g)

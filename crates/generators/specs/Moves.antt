@@ -44,7 +44,7 @@ abbrev pub along_first : Generators → List ℕ → Generators
 along_first gs [] = gs
 along_first gs (i ∷ path) = moved_first gs i path
 
--- what the answer of a generator says
+-- the meaning of a generator's answer
 abbrev pub outcome : Generator → SearchResult → ℕ → DrawOutcome Generator
 outcome g (Gives x path) q = gives x (moved g path) q
 outcome g (Declines later) q = declines later q

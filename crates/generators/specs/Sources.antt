@@ -1,4 +1,4 @@
--- Promise: what a source holds
+-- Promise: the state of a source
 use Rattle.std.specs.Prelude.{ℕ, List, Option, Some, None, refl}
 use Rattle.std.specs.Coded.{Coded, coded_ℕ, coded_option, coded×, code_by}
 use Rattle.generators.specs.Generators.{Generator}
@@ -23,7 +23,7 @@ source_view_code =
     (λ p. record { generator = p.0.0; seed = p.0.1; place = p.1.0; next = p.1.1 })
     (λ _. refl)
 
--- what commit will bring: what is prepared, or else all as it is
+-- the state that commit will bring: the prepared one, or else the present one
 abbrev pub next_or : Generator → ℕ → Option (Generator × ℕ) → Generator × ℕ
 next_or g p None = (g, p)
 next_or g p (Some n) = n

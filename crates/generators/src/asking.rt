@@ -56,8 +56,8 @@ fn ask_ops(alloc: Global, items: &Cycle, asker: Asker) -> Result<SearchResult, A
     }
 }
 
-/// What the generator answers to the asker, where `idle` says for each thread whether it has no open operation. Takes the
-/// words that it needs. `AllocError` where there is an item, and no memory for it and the path.
+/// The answer of the generator to the asker, where `idle` says for each thread whether it has no open operation. Takes the words that it
+/// needs. `AllocError` if there is an item, and no memory for it and the path.
 #[cycle(ask)]
 pub fn ask(
     alloc: Global,

@@ -11,13 +11,13 @@ use std::alloc::{AllocError, Global};
 pub enum Gen {
     /// The items in turn, round and round; each is for threads if it is an operation, and for the nemesis if it is a fault.
     Ops(Cycle),
-    /// Asks a child at random, and where it gives nothing the next ones.
+    /// Asks a child at random, and if it gives nothing the next ones.
     Mix(Vec<Gen>),
-    /// At most so many items of the child.
+    /// At most this number of items of the child.
     Limit(u64, Box<Gen>),
     /// The items of the first child, then those of the next.
     Seq(Vec<Gen>),
-    /// As `Seq`, but the next child begins only where all threads are idle.
+    /// As `Seq`, but the next child begins only if all threads are idle.
     Phases(Vec<Gen>),
     /// One child for each thread.
     EachThread(Vec<Gen>),
@@ -28,8 +28,7 @@ pub enum Gen {
 }
 
 impl Gen {
-    /// A generator with an equal copy of the child for each of the threads 0 to `threads` - 1. Takes the time of so many copies of
-    /// the child.
+    /// A generator with an equal copy of the child for each of the threads 0 to `threads` - 1. Costs O(`threads`) copies of the child.
     pub fn each_thread(alloc: Global, threads: u32, child: Gen) -> Result<Gen, AllocError>
         ensures { IfOk result (λ g.
             generator_of g ≡ each_thread (copies threads (generator_of child))) }
@@ -42,7 +41,7 @@ impl Gen {
         Ok(Gen::EachThread(children))
     }
 
-    /// Whether there is nothing left for anybody. Takes the time of the forms in it.
+    /// Whether there is nothing left for anybody. Costs O(forms in it).
     #[cycle(over)]
     pub fn is_over(&self) -> bool
         ensures { result ≡ is_over (generator_of self.now) }
@@ -59,8 +58,8 @@ impl Gen {
         }
     }
 
-    /// An equal generator, with memory of its own but for the members of sets, which are shared; `AllocError` where there
-    /// is none, or as many share the members as can be counted. Takes the time of the forms and items in it.
+    /// An equal generator, with memory of its own except for the shared members of sets; `AllocError` if there is none, or as many share
+    /// the members as can be counted. Costs O(forms and items in it).
     #[cycle(copy)]
     pub fn copy(&self, alloc: Global) -> Result<Gen, AllocError>
         ensures { IfOk result (λ other. generator_of other ≡ generator_of self.now) }

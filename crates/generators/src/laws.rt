@@ -1,4 +1,4 @@
-//! Laws of what generators answer.
+//! Laws of the answers of generators.
 ghost use Rattle.std.specs.Prelude.{◌≡◌, ℕ, Bool, List, true};
 ghost use Rattle.generators.specs.declared.item.Item.{Item};
 ghost use Rattle.generators.specs.declared.item.Drawn.{Drawn};
@@ -35,8 +35,8 @@ pub fn vain_asks_move_nothing()
         → AreVain ds → MayAnswer words g p asks ds h q → (h ≡ g) × (q ≡ p) }
 {}
 
-/// What holds of each item of a generator holds of what it gives, and of each item of the generator afterwards. `harness`
-/// rests on it: what may be drawn was tested when the object was opened.
+/// A fact about each item of a generator holds for the item that it gives, and for each item of the generator afterwards. `harness` depends
+/// on it: every item that may be drawn was tested at the opening.
 pub fn items_stay()
     ensures { (good : Item → Bool) (words : ℕ → ℕ) (ask : Ask) (g h : Generator) (p q : ℕ)
         (x : Item) → Draws words ask g p (gives x h q) → AllItems (λ y. good y ≡ true) g

@@ -1,11 +1,11 @@
-//! Generators of operations and faults, in the manner of Jepsen's: what a client, or the nemesis, does next.
+//! Generators of operations and faults, in the manner of Jepsen's: the next step of a client, or of the nemesis.
 //!
-//! A generator is a tree of forms ([`Gen`]): items in turn, a mix, a limit, one after another, phases, one for each thread. A draw
-//! looks for the next item without a change, by the random words of a seed, and keeps the path to it; the generator moves along
-//! that path, and the stream past the words, when the item is carried out. So a draw that comes to nothing leaves no trace, and the
-//! same seed gives the same run.
+//! A generator is a tree of forms ([`Gen`]): items in turn, a mix, a limit, one after another, phases, one for each thread. A draw looks
+//! for the next item without a change, by the random words of a seed, and keeps the path to it. When the item is carried out, the generator
+//! moves along that path, and the stream past the words. So a draw that comes to nothing leaves no trace, and the same seed gives the same
+//! run.
 //!
-//! A call takes memory only where its result can be `AllocError`, or a refusal for want of memory.
+//! A call allocates only if its result can be `AllocError`, or a refusal because memory ran out.
 #![tactic(auto)]
 
 mod asking;

@@ -61,7 +61,7 @@ fn advance_first(children: &mut Vec<Gen>, path: &[usize])
     }
 }
 
-// Drops the first so many.
+// Drops the first `number` children.
 fn drop_front(children: &mut Vec<Gen>, number: usize)
     ensures { children.new.items ≡ drop number children.old.items }
 {

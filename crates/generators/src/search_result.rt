@@ -1,4 +1,4 @@
-//! What a generator answers, as the search for an item finds it.
+//! The answer of a generator, as the search for an item finds it.
 ghost use Rattle.std.specs.Prelude.{◌≡◌, IfOk, OnErr};
 ghost use Rattle.generators.specs.SearchResults.{under, IsItem};
 
@@ -16,8 +16,8 @@ pub enum SearchResult {
 }
 
 impl SearchResult {
-    /// The answer of a child at a place as that of the generator above it. Where the child declines, an item may come
-    /// later also where `others` says so. Only the path to an item wants memory.
+    /// The answer of a child at a place as that of the generator above it. If the child declines, an item may come later also where
+    /// `others` says so. Only the path to an item needs memory.
     pub fn under(self, place: usize, others: bool) -> Result<SearchResult, AllocError>
         ensures answer { IfOk result (λ answer. answer ≡ under place others self) }
         ensures item { OnErr result (IsItem self) }

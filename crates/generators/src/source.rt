@@ -89,7 +89,7 @@ impl Source {
     /// generator and its place in the stream.
     ///
     /// # Errors
-    /// `AllocError` where there is an item, and no memory for it and the path to it; then all is as it was.
+    /// `AllocError` if there is an item, and no memory for it and the path to it; then all is as it was.
     ///
     /// The time is that of the generators that are asked, of the children that are over on the way, and of the item.
     pub fn draw(&mut self, idle: &[bool], asker: Asker) -> Result<Drawn, AllocError>
@@ -99,7 +99,7 @@ impl Source {
         ensures seed { self.new.seed ≡ self.old.seed }
         ensures next { self.new.next ≡ None }
         ensures err { OnErr result (self.new ≡ record self.old { next = None }) }
-        // Only an item wants memory.
+        // Only an item needs memory.
         ensures item { OnErr result (GivesItem (word self.old.seed) (ask_of asker idle.now)
             self.old.generator self.old.place) }
     {
@@ -112,14 +112,14 @@ impl Source {
     /// the next `prepare` or `draw` drops what is prepared.
     ///
     /// # Errors
-    /// `AllocError` where there is an item, and no memory for it and the path to it; then nothing is prepared.
+    /// `AllocError` if there is an item, and no memory for it and the path to it; then nothing is prepared.
     pub fn prepare(&mut self, idle: &[bool], asker: Asker) -> Result<Drawn, AllocError>
         ensures answer { IfOk result (λ drawn.
             MayDraw (word self.old.seed) (ask_of asker idle.now) self.old.generator self.old.place
             drawn (upcoming self.new).0 (upcoming self.new).1) }
         ensures kept { self.new ≡ record self.old { next = self.new.next } }
         ensures err { OnErr result (self.new.next ≡ None) }
-        // Only an item wants memory.
+        // Only an item needs memory.
         ensures item { OnErr result (GivesItem (word self.old.seed) (ask_of asker idle.now)
             self.old.generator self.old.place) }
     {
@@ -135,8 +135,8 @@ impl Source {
         }
     }
 
-    /// Brings what is prepared, if a draw is. Takes no memory and cannot fail. Takes the time of the path to the item, and
-    /// of the children at its forms that are dropped or move up.
+    /// Brings what is prepared, if a draw is. Takes no memory and cannot fail. Costs O(length of the path to the item), and the children at its forms
+    /// that are dropped or move up.
     pub fn commit(&mut self)
         ensures { self.new ≡ committed self.old }
     {
@@ -146,9 +146,8 @@ impl Source {
         }
     }
 
-    /// The same generator at the same place with nothing prepared, and with memory of its own but for the members of sets,
-    /// which are shared; `AllocError` where there is none, or as many share the members as can be counted. Takes the time
-    /// of the whole generator.
+    /// The same generator at the same place with nothing prepared, and with memory of its own except for the shared members of sets.
+    /// `AllocError` if there is none, or as many share the members as can be counted. Costs O(forms and items in it).
     pub fn copy(&self) -> Result<Source, AllocError>
         ensures { IfOk result (λ other. other ≡ record self.now { next = None }) }
     {

@@ -58,7 +58,7 @@ noted tickets number outcome t after l is served =
     ap (λ (x : Ticket). set tickets number x) served
     ∙ ap (λ (o : Option Ticket). served_at number outcome o tickets) (sym (at_place tickets number t l is))
 
--- the same where the change was taken out, so that nothing is prepared any more
+-- the same if the change was taken out, so that nothing is prepared any more
 pub serve_brings : (monitor : MonitorView) (source : SourceView) (schedule : List (ℕ × Fault)) (store store' : StoreView) (tickets tickets' : List Ticket) (change left : Change) (number : ℕ) (outcome : Box Outcome Global) → change ≡ Serving number outcome → left ≡ Nothing
     → IfSome store.next (λ (next : Cluster). store' ≡ store_at_rest next) → tickets' ≡ with_outcome number outcome.value tickets
     → IfSome (next_of monitor source store (machine_of monitor source schedule store tickets) change) (λ (next : Machine). seen monitor source schedule store' tickets' left ≡ at_rest next)

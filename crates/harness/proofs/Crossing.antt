@@ -1,4 +1,4 @@
--- A core may go to another thread, and threads may share one.
+-- A core can be sent to another thread, and threads may share one.
 use denote.Param.Send.{IsSend, IsSync, sendable}
 use Rattle.std.proofs.Crossing.{crosses}
 use Rattle.generators.proofs.form.Gen.TheLaws.TheKnot as gen

@@ -49,7 +49,7 @@ module _ (monitor : MonitorView) (source : SourceView) (schedule : List (ℕ × 
   abbrev m : Machine
   m = machine_of monitor source schedule store tickets
 
-  -- what the source gives leads to this machine
+  -- the answer of the source leads to this machine
   pub given : (history : HistoryView) (asker : Asker) (drawn : Drawn) (to : Generator × ℕ) → Shows monitor history → GivesBy source history asker drawn to → Gives m asker drawn (moved_on to m)
   given history asker drawn to shows may = (
     to.0,
@@ -191,7 +191,7 @@ module _ (monitor : MonitorView) (source : SourceView) (schedule : List (ℕ × 
           } in r) is,
     )
 
--- a serve wants no version that is no u64
+-- a serve needs no version above the greatest u64
 pub versions_fit : (m : Machine) (key : ℕ) → IsSoundMachine m → VersionsOf (row_of m.store key) (2 ^ 64 - 2)
 versions_fit m key s held h =
     (let a : held.version ≤ served_of m.tickets = s.counted key held h in
@@ -205,7 +205,7 @@ number_below [] number t h = cc
 number_below (u ∷ tickets) zero t h = omega arith
 number_below (u ∷ tickets) (suc number) t h = (let l : number < length tickets = number_below tickets number t h in omega arith)
 
--- what was found of the parts that were shown
+-- the facts about the parts that were shown
 pub serves_here : (events shown : List Event) (tickets given : List Ticket) (number : ℕ) (t : Ticket) → shown ≡ events → given ≡ tickets → MayBeServed shown given number t → MayBeServed events tickets number t
 serves_here events shown tickets given number t same also h =
     subst (λ (l : List Event). MayBeServed l tickets number t) same (subst (λ (l : List Ticket). MayBeServed shown l number t) also h)
@@ -214,7 +214,7 @@ pub finishes_here : (events shown : List Event) (tickets given : List Ticket) (n
 finishes_here events shown tickets given number event same also h =
     subst (λ (l : List Event). MayFinish l tickets number event) same (subst (λ (l : List Ticket). MayFinish shown l number event) also h)
 
--- what a serve comes to, in a box
+-- the outcome of a serve, in a box
 pub in_box : (st st' : StoreView) (entry : ℕ) (op : Op) (outcome : Outcome) (boxed : Box Outcome Global) → boxed.value ≡ outcome
     → (next : Cluster) × MayServe st.now entry op outcome next × (st' ≡ record { now = st.now; next = Some next })
     → (next : Cluster) × MayServe st.now entry op boxed.value next × (st' ≡ record { now = st.now; next = Some next })

@@ -25,7 +25,7 @@ use Rattle.machine.specs.declared.command.Reply.TheVariants.{Verdict as Says, Dr
 use Rattle.machine.specs.Machine.{Machine, Gives, NextFault, idle_threads, current_process, appended, cut_to, invoked_by, with_served, struck_by, Replies, MayStep}
 use Rattle.harness.specs.SoundCore.{IsGood}
 
--- what holds of each item by two facts of it
+-- a fact about each item from two other facts
 module _ (P Q R : Item → Type 0) (both : (x : Item) → P x → Q x → R x) where
   each_both : (xs : List Item) → Each P xs → Each Q xs → Each R xs
   each_both [] a b = tt
@@ -46,7 +46,7 @@ module _ (P Q R : Item → Type 0) (both : (x : Item) → P x → Q x → R x) w
     each_of_both none a b = tt
     each_of_both (more g gs) a b = (all_both g a.0 b.0, each_of_both gs a.1 b.1)
 
--- what may come fits the store
+-- the possible items fit the store
 pub record Fits (m : Machine) : Type 0 where
   pub count : IsCount m.store.replicas
   pub items : AllItems (IsGood m.store.replicas) m.generator

@@ -29,11 +29,11 @@ use Rattle.harness.specs.Tickets.{IsOf}
 use Rattle.harness.proofs.Showing.{Shows}
 use Rattle.harness.proofs.Sound.{sound_step}
 
--- what comes of preparing a command
+-- the result of preparing a command
 abbrev Prepared : Type 0
 Prepared = Result (Reply × Verdict) Refusal
 
--- what the parts show
+-- the visible state of the parts
 abbrev pub seen : MonitorView → SourceView → List (ℕ × Fault) → StoreView → List Ticket → Change → CoreView
 seen monitor source schedule store tickets change = record {
   machine = machine_of monitor source schedule store tickets;
@@ -110,12 +110,12 @@ pub is_of : (monitor : MonitorView) (source : SourceView) (schedule : List (ℕ 
     → IsOf (machine_of monitor source schedule store tickets) history shown
 is_of monitor source schedule store tickets shown history shows same = (sym shows.0, sym shows.1, sym same)
 
--- a command that is declined for what was found of the parts
+-- a command that is declined for the state of the parts
 pub declines_at : (r : Prepared) (e why : Refusal) (s t new : CoreView) (command : Command) → r ≡ Err e → e ≡ why → s ≡ t → MayDecline s.machine command why → new ≡ at_rest s.machine → MayPrepare t.machine command r new
 declines_at r e why s t new command is from same h rest =
     subst (λ (x : CoreView). MayPrepare x.machine command r new) same
     (subst (λ (x : Prepared). MayPrepare s.machine command x new) (sym is) (subst (MayDecline s.machine command) (sym from) h, rest))
 
--- the same where memory ran out
+-- the same if memory ran out
 pub wants_at : (r : Prepared) (s t new : CoreView) (command : Command) → IsErrAnd r (λ e. e ≡ NoMemory) → s ≡ t → MayWantMemory s.machine command → new ≡ at_rest s.machine → MayPrepare t.machine command r new
 wants_at r s t new command is same h rest = (let p = err_from_is_err_and r is in declines_at r p.0 NoMemory s t new command p.1 p.2 same h rest)

@@ -1,4 +1,4 @@
--- What a monitor shows of its history
+-- The part of a history that a monitor shows
 use Rattle.std.proofs.Common.{◌≡◌, ℕ, List, ap, ◌∙◌}
 use Rattle.processes.specs.MoveRule.{current_of}
 use Rattle.events.specs.declared.event.Event.{Event}

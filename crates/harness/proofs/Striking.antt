@@ -40,7 +40,7 @@ module _ (monitor : MonitorView) (source : SourceView) (schedule : List (ℕ × 
   abbrev m : Machine
   m = machine_of monitor source schedule store tickets
 
-  -- what the schedule says at the length of the history that the monitor shows
+  -- the due fault at the length of the history that the monitor shows
   pub due_is : (index : ℕ) (o : Option Fault) → index ≡ length monitor.now.events → o ≡ due_at index schedule → first_due m ≡ o
   due_is index o is said = ap (λ (n : ℕ). due_at n schedule) (sym is) ∙ sym said
 

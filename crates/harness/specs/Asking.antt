@@ -1,4 +1,4 @@
--- Invariant: what a source may answer a thread and the nemesis
+-- Invariant: the answers of a source to a thread and to the nemesis
 use Rattle.std.specs.Prelude.{ℕ, Bool, List, Option, Some, None, Result, Ok, Err, ◌⊎◌}
 use Rattle.edn.specs.declared.refusal.Refusal.{Refusal}
 use Rattle.edn.specs.declared.refusal.Refusal.TheVariants.{Idle, HistoryFull}
@@ -43,7 +43,7 @@ abbrev pub HasFaultFor : SourceView → List Bool → Type 0
 HasFaultFor source idle =
     (fault : Fault) × (to : Generator × ℕ) × MayGive source idle Nemesis (Gets (AFault fault)) to
 
--- why no fault strikes where the history is full: there is none, or there is one, also where there is no memory for it
+-- why no fault strikes where the history is full: there is none, or there is one, also if there is no memory for it
 abbrev pub why_full : {E : Type 0} → Result (Option Fault) E → Refusal
 why_full (Ok None) = Idle
 why_full (Ok (Some fault)) = HistoryFull

@@ -1,4 +1,4 @@
--- Promise: the one-thread object, as a caller sees it, and when a command of it may want memory (this project's own)
+-- Promise: the one-thread object, as a caller sees it, and when a command of it may run out of memory (this project's own)
 use Rattle.std.specs.Prelude.{◌≡◌, ◌≤◌, Option, Some, None, IsSome, Result, Ok, Err, length}
 use Rattle.edn.specs.declared.refusal.Refusal.{Refusal}
 use Rattle.edn.specs.declared.refusal.Refusal.TheVariants.{NoMemory}

@@ -54,7 +54,7 @@ MayNotOpen setup BadValue =
 MayNotOpen setup NoMemory = IsSetup setup
 MayNotOpen setup _ = ⊥
 
--- where it only judges: no operation to draw and no fault to come, one replica, strict, and seed 0
+-- if it only judges: no operation to draw and no fault to come, one replica, strict, and seed 0
 abbrev pub judging : ℕ → ModelKind → ℕ → Setup
 judging concurrency kind budget = record {
   concurrency = concurrency;

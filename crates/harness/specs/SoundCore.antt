@@ -1,4 +1,4 @@
--- Invariant: what the one-thread object keeps true of its parts
+-- Invariant: the facts that the one-thread object keeps true of its parts
 use Rattle.std.specs.Prelude.{ℕ, ◌<◌, ◌≤◌, Option, Some, None, IfSome, option_map, option_and_then, List, [], ◌∷◌, ◌++◌, length, map, slice_get, slice_set}
 use Rattle.events.specs.declared.event.Fault.{Fault}
 use Rattle.events.specs.Tables.{IsPart}
@@ -18,7 +18,7 @@ use Rattle.machine.specs.Tickets.{AreTickets, served_of}
 use Rattle.harness.specs.declared.change.Change.{Change}
 use Rattle.harness.specs.declared.change.Change.TheVariants.{Nothing, Same, Judged, Rewind, Draw, Serve, StrikeDue, StrikeDrawn}
 
--- what the parts stand for
+-- the machine of the parts
 abbrev pub machine_of : MonitorView → SourceView → List (ℕ × Fault) → StoreView → List Ticket → Machine
 machine_of monitor source schedule store tickets = record {
   judged = monitor.now;
@@ -30,7 +30,7 @@ machine_of monitor source schedule store tickets = record {
   tickets = tickets;
 }
 
--- the same with what is judged then; and with the source as it is then, and the store
+-- the same with the history judged then; and with the source as it is then, and the store
 abbrev pub judged_as : Machine → JudgedHistory → Machine
 judged_as m h = record m { judged = h }
 
@@ -79,7 +79,7 @@ abbrev pub IsGood : ℕ → Item → Type 0
 IsGood replicas (AnOp op) = IsPart op.name op.part
 IsGood replicas (AFault fault) = MayStrike replicas fault
 
--- what is true of a machine after any run
+-- the facts that are true of a machine after any run
 pub record IsSoundMachine (m : Machine) : Type 0 where
   pub count : IsCount m.store.replicas
   pub few : length m.tickets ≤ most_tickets

@@ -1,4 +1,4 @@
--- Invariant: what the tests of a command have shown
+-- Invariant: the facts that the tests of a command have shown
 use Rattle.std.specs.Prelude.{◌≡◌, ℕ, Some, None, List}
 use Rattle.events.specs.declared.event.Event.{Event}
 use Rattle.history.specs.WellFormed.{HistoryView, HasRoom}

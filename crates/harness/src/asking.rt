@@ -1,4 +1,4 @@
-//! What a generator is asked, and what it answers.
+//! Questions to a generator, and its answers.
 ghost use Rattle.std.specs.Prelude.{◌≡◌, ◌<◌, IfOk, OnErr, length, take};
 ghost use Rattle.generators.specs.declared.item.Asker.{Asker};
 ghost use Rattle.generators.specs.Sources.{upcoming};
@@ -20,7 +20,7 @@ pub(crate) enum Drew {
     Done,
 }
 
-/// What the generator would give the thread. It changes nothing but what the source has prepared. Only an operation wants
+/// The operation that the generator would give the thread. It changes nothing but what the source has prepared. Only an operation needs
 /// memory.
 pub(crate) fn draw_op(
     source: &mut Source,
@@ -45,8 +45,8 @@ pub(crate) fn draw_op(
     }
 }
 
-/// The fault that the generator would give the nemesis, if there is one. It changes nothing but what the source has
-/// prepared. Only a fault wants memory.
+/// The fault that the generator would give the nemesis, if there is one. It changes nothing but what the source has prepared. Only a fault
+/// needs memory.
 pub(crate) fn draw_fault(
     source: &mut Source,
     history: &History,
@@ -69,7 +69,7 @@ pub(crate) fn draw_fault(
     }
 }
 
-/// Why no fault strikes where the history is full: there is none, or there is one, also where there is no memory for it.
+/// Why no fault strikes where the history is full: there is none, or there is one, also if there is no memory for it.
 pub(crate) fn why_full(drawn: &Result<Option<Fault>, AllocError>) -> Refusal
     ensures { result ≡ why_full drawn.now }
 {

@@ -1,4 +1,4 @@
-//! What is prepared in the parts of the one-thread object.
+//! The changes that are prepared in the parts of the one-thread object.
 use machine::Ticket;
 use test_store::Outcome;
 

@@ -26,7 +26,7 @@ pub struct Config {
     pub replicas: u8,
     /// How they serve.
     pub mode: Mode,
-    /// What clients and the nemesis do next.
+    /// The items for clients and the nemesis.
     pub generator: Gen,
     /// Which faults strike, whatever the generator says.
     pub schedule: Schedule,
@@ -35,8 +35,8 @@ pub struct Config {
 }
 
 impl Config {
-    /// How it is opened where it only judges a history that others make: no operation to draw and no fault to come, one replica,
-    /// strict, and seed 0. The numbers are not tested here.
+    /// The configuration of an object that only judges a history of others: no operation to draw and no fault to come, one replica, strict,
+    /// and seed 0. The numbers are not tested here.
     pub fn to_judge(alloc: Global, concurrency: u32, kind: ModelKind, budget: u32) -> Config
         ensures { setup_of result ≡ judging concurrency kind budget }
     {
@@ -56,9 +56,9 @@ impl Config {
     /// and store take. Takes no memory, and the time of the generator and the schedule.
     ///
     /// # Errors
-    /// [`Refusal::BadBudget`] where the budget is not 1 to 65,536, else [`Refusal::BadConcurrency`] where the concurrency is
-    /// not 1 to 64, else [`Refusal::NoSuchReplica`] where the replicas are not 1 to 7 or a fault names one that is not
-    /// there, else [`Refusal::BadValue`] where an operation has a part outside the tables or a fault names a replica twice.
+    /// [`Refusal::BadBudget`] if the budget is not 1 to 65,536, else [`Refusal::BadConcurrency`] if the concurrency is not 1 to 64. Else
+    /// [`Refusal::NoSuchReplica`] if the replicas are not 1 to 7 or a fault names one that is not there. Else [`Refusal::BadValue`] if an
+    /// operation has a part outside the tables or a fault names a replica twice.
     pub fn check(&self) -> Result<(), Refusal>
         ensures within { OnOk result (IsSetup (setup_of self.now)) }
         ensures refused { IfErr result (MayNotOpen (setup_of self.now)) }

@@ -27,12 +27,12 @@ use std::alloc::Global;
 use std::marker::Model;
 use test_store::Store;
 
-/// The one-thread object with all its commands: a history under a live monitor, a generator of operations and faults, a
-/// schedule of faults, a replicated store in the process, and a ticket for each operation that was drawn. Linearizability is
-/// that of Herlihy and Wing (1990).
+/// The one-thread object with all its commands. It has a history under a live monitor, a generator of operations and faults, a schedule of
+/// faults, a replicated store in the process, and a ticket for each operation that was drawn. Linearizability is that of Herlihy and Wing
+/// (1990).
 ///
-/// Each command is prepared, which may be refused and changes nothing but what is prepared, and then committed;
-/// [`step`](Core::step) does both in one call.
+/// Each command is prepared, which may fail and changes nothing but the prepared change, and then committed; [`step`](Core::step) does both
+/// in one call.
 pub struct Core {
     pub(crate) alloc: Global,
     pub(crate) monitor: Monitor,
@@ -82,12 +82,12 @@ impl Drop for Core {
 }
 
 impl Core {
-    /// Opens it on the history without events, with no tickets, the generator at the beginning of its random words, and a
-    /// store on which no key was changed. Takes the time of [`Config::check`].
+    /// Opens it on the history without events, with no tickets, the generator at the beginning of its random words, and a store on which no
+    /// key was changed. Costs what [`Config::check`] costs.
     ///
     /// # Errors
     /// [`Refusal::BadBudget`], [`Refusal::BadConcurrency`], [`Refusal::NoSuchReplica`] and [`Refusal::BadValue`], in this
-    /// order, as [`Config::check`] says, else [`Refusal::NoMemory`] where a growth was refused.
+    /// order, as [`Config::check`] says, else [`Refusal::NoMemory`] if an allocation fails.
     pub fn new(alloc: Global, config: Config) -> Result<Core, Refusal>
         ensures limits { OnOk result (IsSetup (setup_of config)) }
         ensures opened { IfOk result (λ core. core ≡ at_rest (opening (setup_of config))) }
@@ -117,17 +117,16 @@ impl Core {
     ///
     /// # Errors
     /// The first test that the command does not pass, in the order that stands with each. An event: those of
-    /// [`History::prepare_push`](history::History::prepare_push). A rewind: [`Refusal::NoSuchIndex`] where there are fewer
-    /// events. A budget: [`Refusal::BadBudget`] where it is not 1 to 65,536. A draw: [`Refusal::WrongProcess`] where there
-    /// is no such thread, [`Refusal::Busy`] where it has an operation open, [`Refusal::HistoryFull`] where there are 2^20
-    /// events, [`Refusal::TapeFull`] where there are 2^32 - 1 tickets. A serve: [`Refusal::Stale`] where no ticket has the
-    /// number or its invocation was cut, [`Refusal::AlreadyServed`] where it was served, [`Refusal::NotOpen`] where its
-    /// operation is not open. A finish: [`Refusal::Stale`], [`Refusal::NotServed`] where it was not served,
-    /// [`Refusal::HistoryFull`], [`Refusal::NotOpen`]. The nemesis: [`Refusal::Idle`] where no fault is due and the
-    /// generator gives it none, [`Refusal::HistoryFull`].
+    /// [`History::prepare_push`](history::History::prepare_push). A rewind: [`Refusal::NoSuchIndex`] if there are fewer events. A budget:
+    /// [`Refusal::BadBudget`] if it is not 1 to 65,536. A draw: [`Refusal::WrongProcess`] if there is no such thread, [`Refusal::Busy`] if
+    /// it has an operation open, and [`Refusal::HistoryFull`] if there are 2^20 events. Also [`Refusal::TapeFull`] if there are 2^32 - 1
+    /// tickets. A serve: [`Refusal::Stale`] if no ticket has the number or its invocation was cut, [`Refusal::AlreadyServed`] if it was
+    /// served, [`Refusal::NotOpen`] if its operation is not open. A finish: [`Refusal::Stale`], [`Refusal::NotServed`] if it was not
+    /// served, [`Refusal::HistoryFull`], [`Refusal::NotOpen`]. The nemesis: [`Refusal::Idle`] if no fault is due and the generator gives it
+    /// none, [`Refusal::HistoryFull`].
     ///
-    /// Else [`Refusal::NoMemory`] where a growth was refused, which only a command that passes its tests may want. Then
-    /// nothing is prepared. [`Command::Verdict`] is never refused, and a kind for want of memory alone.
+    /// Else [`Refusal::NoMemory`] if an allocation fails, which only a command that passes its tests may want. Then nothing is prepared.
+    /// [`Command::Verdict`] is never refused, and a kind only because memory ran out.
     pub fn prepare(&mut self, command: Command) -> Result<(Reply, Verdict), Refusal>
         ensures answered { IfOk result (λ answer.
             IsPrepared self.old.machine command answer self.new) }
@@ -153,8 +152,7 @@ impl Core {
         }
     }
 
-    /// Carries out what is prepared. It takes no memory and cannot fail. It takes the time of what it takes away, and for a
-    /// rewind that of the tickets.
+    /// Carries out what is prepared. It takes no memory and cannot fail. It costs the drop of the old parts, and for a rewind O(tickets).
     pub fn commit(&mut self)
         requires { IsSome self.old.next }
         ensures { IfSome self.old.next (λ next. self.new ≡ at_rest next) }

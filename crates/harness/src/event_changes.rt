@@ -15,8 +15,8 @@ use monitor::Monitor;
 use std::alloc::AllocError;
 use test_store::Store;
 
-/// Prepares to append an event that may come next, and gives the verdict that it brings. Such an event is refused for want
-/// of memory alone.
+/// Prepares to append an event that may come next, and gives the verdict that it brings. Such an event is refused only because memory ran
+/// out.
 pub(crate) fn append(monitor: &mut Monitor, event: Event) -> Result<Verdict, AllocError>
     requires { Admits monitor.old.now event }
     ensures prepared { OnOk result

@@ -10,7 +10,7 @@ use models::{Name, Part, each_name};
 use nemesis::Schedule;
 use test_store::{names_once, names_present};
 
-/// What is tested of an item.
+/// A test of an item.
 #[derive(Clone, Copy)]
 pub enum Test {
     /// A fault names replicas below this number alone.
@@ -70,7 +70,7 @@ fn each_passes(test: Test, items: &[Item]) -> bool
     true
 }
 
-/// Whether each item of the generator passes the test. Takes the time of the generator.
+/// Whether each item of the generator passes the test. Costs O(forms and items in it).
 #[cycle(pass)]
 pub(crate) fn all_items_pass(test: Test, generator: &Gen) -> bool
     ensures { IsTrue result ↔ AllItems (Passes test) (generator_of generator.now) }
@@ -99,7 +99,7 @@ fn all_children_pass(test: Test, children: &[Gen]) -> bool
     true
 }
 
-/// Whether each fault of the schedule passes the test. Takes the time of the schedule.
+/// Whether each fault of the schedule passes the test. Costs O(faults in it).
 pub(crate) fn all_scheduled_pass(test: Test, schedule: &Schedule) -> bool
     ensures { IsTrue result ↔ Each (λ x. FaultPasses test x.1) schedule.now }
 {

@@ -1,4 +1,4 @@
-//! Laws of what the one-thread object may answer.
+//! Laws of the answers of the one-thread object.
 ghost use Rattle.std.specs.Prelude.{Err};
 ghost use Rattle.edn.specs.declared.refusal.Refusal.{Refusal};
 ghost use Rattle.machine.specs.declared.command.Command.{Command};

@@ -2,10 +2,10 @@
 //! monitor, a generator of operations and faults, a schedule of faults, a replicated store, and a ticket for each operation that
 //! was drawn.
 //!
-//! Each command is prepared, which may be refused and changes nothing that is seen, and then committed, which takes no memory. So a
-//! board can enter a command on its tape between the two.
+//! Each command is prepared, which may fail and changes nothing visible, and then committed, which takes no memory. So a board can enter a
+//! command on its tape between the two.
 //!
-//! A call takes memory only where its result can be `AllocError`, or a refusal for want of memory.
+//! A call allocates only if its result can be `AllocError`, or a refusal because memory ran out.
 #![tactic(auto)]
 
 mod asking;

@@ -165,7 +165,7 @@ pub(crate) fn replica_of_thread(thread: u32, replicas: u8) -> u8
     (thread % u32::from(replicas)) as u8
 }
 
-/// What serving a ticket came to is noted.
+/// Notes the outcome of serving a ticket.
 pub(crate) fn note_outcome(ticket: &mut Ticket, outcome: Outcome)
     ensures { ticket.new ≡ served_as outcome ticket.old }
 {

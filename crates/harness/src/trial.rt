@@ -103,7 +103,7 @@ impl Core {
         Ok((Reply::Fault { fault: copy, index }, verdict))
     }
 
-    // Prepares that a fault strikes that the generator gives, where none is due.
+    // Prepares that a fault strikes that the generator gives, if none is due.
     fn prepare_generated(&mut self) -> Result<(Reply, Verdict), Refusal>
         requires { first_due self.old.machine ≡ None }
         ensures { MayPrepare self.old.machine Command.Nemesis result self.new }

@@ -1,4 +1,4 @@
--- What one more event changes: the last event and the open operation of a process, the current process of a thread
+-- The effect of one more event: the last event and the open operation of a process, the current process of a thread
 use Rattle.std.proofs.Common.{◌≡◌, ℕ, suc, ◌+◌, ◌≤◌, true, false, cond, Option, Some, None, is_some, List, [], ◌∷◌, ◌++◌, length, slice_get, option_map, option_and_then, refl, sym, ap, ◌∙◌, subst, append_assoc, ⊎_elim, arith}
 use Rattle.std.specs.Option.{option_or}
 use Rattle.std.specs.List.{cons_option}

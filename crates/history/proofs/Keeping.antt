@@ -78,7 +78,7 @@ process_of_move Ok p = refl
 process_of_move Fail p = refl
 process_of_move Info p = refl
 
--- what the event's own thread has open, where the process stays current
+-- the open operation of the event's own thread, if the process stays current
 stays_own : (c : ℕ) (events : List Event) (index : Option ℕ) (kind : EventKind) (p : ℕ) (op : Op) → IsCurrent c (moves_of events) p → is_crash_on c (thread_of c p) (move_by kind p) ≡ false
     → open_index c (events ++ by_client index kind p op ∷ []) (thread_of c p) ≡ at_of (invoked_at (length events, by_client index kind p op))
 stays_own c events index kind p op current here =
@@ -90,7 +90,7 @@ stays_own c events index kind p op current here =
     at : current_of c (moves_of (events ++ e ∷ [])) (thread_of c p) ≡ p
     at = ap (λ l. current_of c l (thread_of c p)) (moves_of-some events e (move_by kind p) refl) ∙ current_of-same c (thread_of c p) (moves_of events) (move_by kind p) here ∙ sym current
 
--- and where it crashes
+-- and if it crashes
 crashed_own : (c : ℕ) (events : List Event) (index : Option ℕ) (p : ℕ) (op : Op) → 0 < c → FollowMoveRule c (moves_of events) → IsCurrent c (moves_of events) p
     → open_index c (events ++ by_client index Info p op ∷ []) (thread_of c p) ≡ None
 crashed_own c events index p op pos rule current =
@@ -119,7 +119,7 @@ elsewhere c t Ok p ne = refl
 elsewhere c t Fail p ne = refl
 elsewhere c t Info p ne = ne_eqb (thread_of c p) t ne
 
--- what the other threads have open
+-- the open operations of the other threads
 pub other_open : (c : ℕ) (events : List Event) (index : Option ℕ) (kind : EventKind) (p : ℕ) (op : Op) (t : ℕ) → t < c → thread_of c p ≢ t → open_index c (events ++ by_client index kind p op ∷ []) t ≡ open_index c events t
 other_open c events index kind p op t below ne =
     ap (λ q. at_of (open_of (events ++ e ∷ []) q)) at

@@ -17,7 +17,7 @@ use Rattle.processes.proofs.Refused.{none as never}
 use Rattle.events.specs.Tables.{Completes}
 use Rattle.history.specs.WellFormed.{IsValue, IsIndex, HasRoom, moves_of, open_of, FollowsRule, BreaksRule, IfClient, IsClientAnd, IsWellFormed, Refuses}
 
--- one test: what does not pass it is refused for x, and what passes it as the later tests say
+-- one test: an event that fails it is refused for x, and an event that passes it as the later tests say
 abbrev Test : Type 0 → Refusal → Refusal → Type 0 → Type 0
 Test Passes x why Later = ((why ≡ x) × ¬ Passes) ⊎ (Passes × Later)
 

@@ -1,4 +1,4 @@
--- Invariant: what a history keeps beside its events
+-- Invariant: the parts of a history in addition to its events
 use Rattle.std.specs.Prelude.{◌≡◌, ℕ, ◌+◌, ◌<◌, ◌≤◌, ◌^◌, Option, Some, None, List, [], ◌∷◌, ◌++◌, length, take, slice_get, slice_set}
 use Rattle.processes.specs.declared.threads.Thread.{Thread}
 use Rattle.processes.specs.MoveRule.{Move, thread_of, MayMove}
@@ -12,12 +12,12 @@ use Rattle.history.specs.declared.history.Prepared.{Prepared}
 use Rattle.history.specs.declared.history.Prepared.TheVariants.{Nothing, Push, Cut}
 use Rattle.history.specs.WellFormed.{IsConcurrency, IsHistoryOf, move_by, moves_of, open_index}
 
--- what a thread has open after an event of index n of its current process
+-- the open operation of a thread after an event of index n of its current process
 abbrev pub open_after : ℕ → EventKind → Option ℕ
 open_after n Invoke = Some n
 open_after n _ = None
 
--- where the move may come, the new threads stand after it too
+-- if the move may come, the new threads stand after it too
 abbrev pub CarriesOn : List Thread → Move → List Thread → Type 0
 CarriesOn old m new =
     (length new ≡ length old)
@@ -29,7 +29,7 @@ MovesOn n kind (Client p) old new opened later =
     CarriesOn old (move_by kind p) new × (later ≡ slice_set opened (thread_of (length opened) p) (open_after n kind))
 MovesOn n kind Nemesis old new opened later = (new ≡ old) × (later ≡ opened)
 
--- there are so many processes still
+-- there are this many processes still
 abbrev pub HasNext : Process → Type 0
 HasNext (Client p) = p + 64 < 2 ^ 32
 HasNext Nemesis = Unit {0}
@@ -50,8 +50,8 @@ brought events Nothing = None
 brought events Push = Some events
 brought events (Cut n clients) = Some (take n events)
 
--- n events are committed, and behind them stands the one that is prepared, if one is, and nothing else. What is prepared may
--- come: with the event too they are a history; or there are so many events, and the clients are those of the first of them
+-- n events are committed, and behind them stands the one that is prepared, if one is, and nothing else. The prepared change may come: with
+-- the event too they are a history; or there are n events, and the clients are those of the first of them
 abbrev pub IsReady : ℕ → ℕ → List Event → Prepared → Type 0
 IsReady c n events Nothing = length events ≡ n
 IsReady c n events Push = (length events ≡ n + 1) × IsHistoryOf c events

@@ -1,5 +1,5 @@
--- Promise: which event may follow which. Processes and threads are those of the Jepsen documentation; the tables, the limits
--- and the order of the tests are this project's own. c is the concurrency, and an event's index is its place
+-- Promise: which event may follow which. Processes and threads are those of the Jepsen documentation. The tables, the limits and the order
+-- of the tests are this project's own. c is the concurrency, and an event's index is its place
 use Rattle.std.specs.Prelude.{◌≡◌, ℕ, ◌+◌, ◌^◌, ◌<◌, Bool, false, ◌==◌, if◌then◌else◌, Option, Some, None, IfSome, option_map, option_and_then, List, [], ◌∷◌, ◌++◌, length}
 use Rattle.std.specs.Option.{option_or}
 use Rattle.std.specs.List.{filter_map}
@@ -20,8 +20,8 @@ use Rattle.events.specs.declared.event.Event.{Event}
 
 -- Processes and threads
 
--- what an event says of its process: an ok and a fail complete its operation, an info is a crash. Only an operation's event
--- is a move; a fault is none
+-- the move of an event's process: an ok and a fail complete its operation, an info is a crash. Only an operation's event is a move; a fault
+-- is none
 abbrev pub move_by : EventKind → ℕ → Move
 move_by Invoke p = Invokes p
 move_by Ok p = Move.Completes p
@@ -133,7 +133,7 @@ MayNotCut events n NoSuchIndex = length events < n
 MayNotCut events n NoMemory = Unit {0}
 MayNotCut events n _ = ⊥
 
--- what a history holds, and the events that commit will bring, where a change is prepared
+-- the events of a history, and those that commit will bring, if a change is prepared
 pub record HistoryView : Type 0 where
   pub concurrency : ℕ
   pub events : List Event

@@ -1,4 +1,4 @@
-//! What a history keeps of its clients.
+//! The clients of a history.
 ghost use Rattle.std.specs.Prelude.{◌≡◌, ℕ, ◌+◌, ◌<◌, ◌≤◌, ◌^◌, [], Some, None, length, slice_get, IfOk, IfErr, OnOk};
 ghost use Rattle.processes.specs.MoveRule.{IsConcurrency};
 ghost use Rattle.processes.specs.Threads.{StandAfter, MayNotStart};
@@ -18,8 +18,8 @@ pub struct Clients {
 }
 
 impl Clients {
-    /// Those of a history without events. [`Refusal::BadConcurrency`] where the concurrency is not 1 to 64, else
-    /// [`Refusal::NoMemory`] where a growth was refused. Takes the time of the threads.
+    /// Those of a history without events. [`Refusal::BadConcurrency`] if the concurrency is not 1 to 64, else [`Refusal::NoMemory`] if an
+    /// allocation fails. Costs O(threads).
     pub fn new(alloc: Global, concurrency: u32) -> Result<Clients, Refusal>
         ensures limits { OnOk result (IsConcurrency concurrency) }
         ensures number { IfOk result (λ clients. length clients.threads ≡ concurrency) }
@@ -34,7 +34,7 @@ impl Clients {
         Ok(Clients { threads, opened })
     }
 
-    /// Those that the events of a history make. [`Refusal::NoMemory`] where a growth was refused. Takes the time of all events.
+    /// Those that the events of a history make. [`Refusal::NoMemory`] if an allocation fails. Costs O(all events).
     pub fn after(alloc: Global, concurrency: u32, events: &[Event]) -> Result<Clients, Refusal>
         requires limits { IsConcurrency concurrency }
         requires history { IsHistoryOf concurrency events.now }
@@ -51,7 +51,7 @@ impl Clients {
         Ok(clients)
     }
 
-    /// After an event of this index the thread of its process moves on. Where its process may not do so, nothing is said. Takes
+    /// After an event of this index the thread of its process moves on. If its process may not do so, nothing is said. Takes
     /// constant time.
     pub fn move_on(&mut self, index: u32, kind: EventKind, process: Process)
         requires some { 0 < length self.old.opened.items }
@@ -67,7 +67,7 @@ impl Clients {
     }
 }
 
-// What a thread has open after an event of its current process.
+// The open operation of a thread after an event of its current process.
 fn open_after(index: u32, kind: EventKind) -> Option<u32>
     ensures { result ≡ open_after index kind }
 {

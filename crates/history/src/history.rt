@@ -21,12 +21,12 @@ use std::mem::replace;
 /// The most events of a history.
 pub const MOST_EVENTS: u32 = 1_048_576;
 
-/// A history of events, in the manner of Jepsen (<https://github.com/jepsen-io/jepsen>): an event enters it only where
+/// A history of events, in the manner of Jepsen (<https://github.com/jepsen-io/jepsen>): an event enters it only if
 /// it is well-formed after those before it. The index of an event is its place, from 0. A history holds at most 2^20
 /// events, of 1 to 64 threads.
 ///
-/// Each change is prepared, which may fail and changes nothing but what is prepared, and then committed. What was prepared
-/// before is dropped.
+/// Each change is prepared, which may fail and changes nothing but what is prepared, and then committed. A change that was prepared before
+/// is dropped.
 pub struct History {
     concurrency: u32,
     /// So many events are committed.
@@ -43,7 +43,7 @@ enum Prepared {
     Nothing,
     /// The event that stands behind those that are committed.
     Push,
-    /// The first so many events alone, with what they make of the clients. It is rare, so these stand apart.
+    /// The first n events alone, with their clients. It is rare, so these stand apart.
     Cut(u32, Box<Clients>),
 }
 
@@ -80,10 +80,10 @@ impl Drop for History {
 }
 
 impl History {
-    /// The history without events, of threads 0 to `concurrency` - 1. It takes the time of the threads.
+    /// The history without events, of threads 0 to `concurrency` - 1. It costs O(threads).
     ///
     /// # Errors
-    /// [`Refusal::BadConcurrency`] where the concurrency is not 1 to 64; else [`Refusal::NoMemory`] where a growth was refused.
+    /// [`Refusal::BadConcurrency`] if the concurrency is not 1 to 64; else [`Refusal::NoMemory`] if an allocation fails.
     pub fn new(alloc: Global, concurrency: u32) -> Result<History, Refusal>
         ensures limits { OnOk result (IsConcurrency concurrency) }
         ensures opened { IfOk result (λ history. history ≡ no_events concurrency) }
@@ -102,12 +102,11 @@ impl History {
     /// Prepares to append an event: tests it, and puts it behind those that are committed.
     ///
     /// # Errors
-    /// The refusal of the first test that the event does not pass, in the order [`Refusal::BadValue`],
-    /// [`Refusal::BadIndex`], [`Refusal::HistoryFull`], then [`Refusal::WrongProcess`] and [`Refusal::Busy`] for an
-    /// invocation, or [`Refusal::NotOpen`] and [`Refusal::Mismatch`] for a completion; [`Refusal::NoMemory`] last.
-    /// Then nothing is prepared.
+    /// The refusal of the first test that the event does not pass. The order is [`Refusal::BadValue`], [`Refusal::BadIndex`],
+    /// [`Refusal::HistoryFull`], then [`Refusal::WrongProcess`] and [`Refusal::Busy`] for an invocation, or [`Refusal::NotOpen`] and
+    /// [`Refusal::Mismatch`] for a completion; [`Refusal::NoMemory`] last. Then nothing is prepared.
     ///
-    /// The time does not grow with the history, but where its memory grows.
+    /// The time does not grow with the history, but if its memory grows.
     #[inline(always)]
     pub fn prepare_push(&mut self, event: Event) -> Result<(), Refusal>
         ensures well_formed { OnOk result (Admits self.old event) }
@@ -133,10 +132,10 @@ impl History {
         self.events.get(self.count as usize)
     }
 
-    /// Prepares to keep the first `n` events alone, and the threads that they make. It takes the time of these events.
+    /// Prepares to keep the first `n` events alone, and the threads that they make. It costs O(n).
     ///
     /// # Errors
-    /// [`Refusal::NoSuchIndex`] where there are fewer events; else [`Refusal::NoMemory`] where memory was refused. Then
+    /// [`Refusal::NoSuchIndex`] if there are fewer events; else [`Refusal::NoMemory`] if memory was refused. Then
     /// nothing is prepared.
     pub fn prepare_cut(&mut self, n: u32) -> Result<(), Refusal>
         ensures within { OnOk result (n ≤ length self.old.events) }
@@ -157,7 +156,7 @@ impl History {
         Ok(())
     }
 
-    /// Carries out what is prepared. It takes no memory and cannot fail, and the time of what it takes away.
+    /// Carries out what is prepared. It takes no memory and cannot fail, and costs the drop of the old parts.
     #[inline(always)]
     pub fn commit(&mut self)
         requires { IsSome self.old.next }
@@ -290,8 +289,7 @@ impl History {
         self.concurrency
     }
 
-    /// The number of events, at most 2^20, which is the index of the next event. What is said here of the events holds of every
-    /// history.
+    /// The number of events, at most 2^20, which is the index of the next event. These clauses about the events hold for every history.
     pub fn len(&self) -> u32
         ensures value { result ≡ length self.now.events }
         ensures limit { result ≤ 2 ^ 20 }
@@ -314,10 +312,10 @@ impl History {
         &self.events.as_slice()[..self.count as usize]
     }
 
-    /// The events of a key, in order, each with its index, copied into memory of their own. Takes the time of all events.
+    /// The events of a key, in order, each with its index, copied into memory of their own. Costs O(all events).
     ///
     /// # Errors
-    /// `AllocError` where a growth was refused.
+    /// `AllocError` if an allocation fails.
     pub fn events_of(&self, key: Key) -> Result<Vec<(u32, Event)>, AllocError>
         ensures { IfOk result (λ found.
             found.items ≡ events_of_key key (indexed_from 0 self.now.events)) }
@@ -334,11 +332,11 @@ impl History {
         Ok(found)
     }
 
-    /// The map of an event: its index, type, process, name and value, in this order. What it spells is the event, which states
-    /// its index. It takes the time of the members of a set, or of a partition's groups, and else constant time.
+    /// The map of an event: its index, type, process, name and value, in this order. It spells the event, which states its index. It costs
+    /// O(members of a set, or a partition's groups), and else constant time.
     ///
     /// # Errors
-    /// `AllocError` where a growth was refused.
+    /// `AllocError` if an allocation fails.
     pub fn to_edn(&self, index: u32) -> Result<Edn, AllocError>
         requires { index < length self.now.events }
         ensures value { IfOk result (λ element. IfSome (slice_get self.now.events index)

@@ -1,7 +1,7 @@
-//! Histories of events: which event may follow which, by the process rule, and why another one is refused. What events are, and
-//! how a text spells them, is said in `events`, which stands below it; who has a history finds these names here too.
+//! Histories of events: which event may follow which, by the process rule, and why another one is refused. The crate `events` below defines
+//! events and their spelling; its names are exported here too.
 //!
-//! A call takes memory only where its result can be `AllocError`, or a refusal for want of memory.
+//! A call allocates only if its result can be `AllocError`, or a refusal because memory ran out.
 #![tactic(auto)]
 
 mod clients;

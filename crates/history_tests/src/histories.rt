@@ -54,7 +54,7 @@ fn concurrency_has_limits(rt: HostRuntime) {
     }
 }
 
-// A partition, one that names a replica twice, and an invocation: copies of them are pushed. What the second was answered.
+// A partition, one that names a replica twice, and an invocation: copies of them are pushed. The answer to the second.
 fn push_copies(history: &mut History, alloc: Global) -> Result<Result<(), Refusal>, Refusal> {
     history.push(partition(alloc, 2)?.copy()?)?;
     let twice = history.push(partition(alloc, 1)?);
@@ -75,7 +75,7 @@ fn is_partition(event: &Event) -> bool {
     }
 }
 
-// What the second event was answered, how many there are, and whether the first is the partition.
+// The answer to the second event, the number of events, and whether the first is the partition.
 fn after_copies(alloc: Global) -> Result<(Result<(), Refusal>, u32, bool), Refusal> {
     let mut history = History::new(alloc, 1)?;
     let twice = push_copies(&mut history, alloc)?;
@@ -101,8 +101,8 @@ fn seen(history: &History) -> Seen {
     (len, history.current(0), history.open_at(0))
 }
 
-// What is done to a history: an event of a write, by its process and value, or a cut; in one call, in its first half alone,
-// or in two halves, where this is seen between them.
+// A change of a history: an event of a write, by its process and value, or a cut. It is made in one call, in its first half alone, or in
+// two halves if the history is read between them.
 #[derive(Clone, Copy)]
 enum Deed {
     Push(EventKind, u32, i64),
@@ -130,7 +130,7 @@ fn cut_in_halves(history: &mut History, len: u32, between: Seen) -> Result<(), R
     Ok(())
 }
 
-// Does it, and tells the answer.
+// Makes the change, and returns the answer.
 fn answer(history: &mut History, deed: Deed) -> Result<(), Refusal> {
     match deed {
         Push(kind, process, value) => history.push(written(kind, process, value)),
@@ -143,7 +143,7 @@ fn answer(history: &mut History, deed: Deed) -> Result<(), Refusal> {
     }
 }
 
-// What is done, its answer, and what is seen then.
+// The change, its answer, and the visible state then.
 type Row = (Deed, Result<(), Refusal>, Seen);
 
 // The place of the first row that is answered or seen otherwise, in a new history.
@@ -169,8 +169,7 @@ const PREPARED: [Row; 5] = [
     (Push(Done, 0, 4), Ok(()), (Some(2), 0, None)),
 ];
 
-// A prepared event is none of the events until it is committed; the next one takes its place, and where that is refused
-// none is prepared.
+// A prepared event is not among the events until its commit; the next one takes its place, and after a refusal none is prepared.
 #[test]
 fn prepared_events(rt: HostRuntime) {
     assert!(rt; matches!(first_other(rt.alloc(), 1, &PREPARED), Ok(None)));
@@ -183,7 +182,7 @@ fn kind_prepared(history: &History) -> Option<EventKind> {
     }
 }
 
-// The kind of the prepared event before an event is prepared, before its commit, after it, and where a cut is prepared.
+// The kind of the prepared event before an event is prepared, before its commit, after it, and if a cut is prepared.
 fn kinds_prepared(alloc: Global) -> Result<[Option<EventKind>; 4], Refusal> {
     let mut history = History::new(alloc, 1)?;
     let first = kind_prepared(&history);
@@ -195,7 +194,7 @@ fn kinds_prepared(alloc: Global) -> Result<[Option<EventKind>; 4], Refusal> {
     Ok([first, second, third, kind_prepared(&history)])
 }
 
-// The event that is prepared to be appended is shown until it is carried out. A cut is no event.
+// The history shows the event that is prepared to be appended until it is carried out. A cut is not an event.
 #[test]
 fn shows_the_prepared_event(rt: HostRuntime) {
     assert!(rt; kinds_prepared(rt.alloc()) == Ok([None, Some(Invoke), None, None]));
@@ -219,8 +218,7 @@ const CUTS: [Row; 12] = [
     (Push(Invoke, 0, 5), Ok(()), ONE_OPEN),
 ];
 
-// A cut leaves the first events, and the threads as these made them; it waits for its commit, and takes the place of another
-// change.
+// A cut leaves the first events, and the threads as these made them; it waits for its commit, and takes the place of another change.
 #[test]
 fn cuts(rt: HostRuntime) {
     assert!(rt; matches!(first_other(rt.alloc(), 2, &CUTS), Ok(None)));
@@ -240,7 +238,7 @@ fn write_and_read(alloc: Global) -> Result<History, Refusal> {
     Ok(history)
 }
 
-// The text of the element, where it has one.
+// The text of the element, if it has one.
 fn text_of(alloc: Global, element: &Edn) -> Result<Vec<u8>, Refusal> {
     let mut text = Vec::new(alloc);
     if in_profile(element) {

@@ -9,7 +9,7 @@ fn op(name: Name, part: Part) -> Op {
     Op { name, key: 7, part }
 }
 
-// The queue without an order that these values were put into; None where a value has no outcome.
+// The queue without an order that these values were put into; None if a value has no outcome.
 fn filled(alloc: Global, values: &[i64]) -> Result<Option<Multiset>, AllocError> {
     let mut state = UnorderedQueue::start(alloc);
     for value in values {
@@ -134,7 +134,7 @@ fn queue_of(alloc: Global, many: i64) -> Result<Items, AllocError> {
     Ok(items)
 }
 
-// The queue behind its front, where that is this value.
+// The queue behind its front, if that is this value.
 fn behind(alloc: Global, items: &Items, value: i64) -> Result<Option<Items>, AllocError> {
     let dequeue = op(Name::Dequeue, Part::Nil);
     let Some((rest, found)) = FifoQueue::apply(alloc, items, &dequeue)?.pop() else {
@@ -146,7 +146,7 @@ fn behind(alloc: Global, items: &Items, value: i64) -> Result<Option<Items>, All
     Ok(Some(rest))
 }
 
-// What is left once the numbers from 0 on have come out.
+// The rest once the numbers from 0 on have come out.
 fn left(alloc: Global, queue: &Items, many: i64) -> Result<Option<Items>, AllocError> {
     let mut items = queue.copy()?;
     for value in 0..many {
@@ -174,7 +174,7 @@ fn long_queue_shares_its_items(rt: HostRuntime) {
     assert!(rt; are_shared(rt.alloc()) == Ok([true, true]));
 }
 
-// 0 to 99 twice each: each value beside its like, or each after the others.
+// 0 to 99 twice each: equal values side by side, or each after the others.
 fn two_each(alloc: Global, in_pairs: bool) -> Result<Multiset, AllocError> {
     let mut values = Multiset::new(alloc);
     for value in 0..200 {
@@ -245,7 +245,7 @@ fn copies_are_equal(rt: HostRuntime) {
     assert!(rt; matches!(copy_of_read_fits(rt.alloc()), Ok(true)));
 }
 
-// Whether they fit, where the answer is no set.
+// Whether they fit, if the answer is not a set.
 fn fits_plain(found: Found, answer: Answer) -> bool {
     fits(&found, &answer)
 }
@@ -271,7 +271,7 @@ fn item_fits() -> [bool; 2] {
     ]
 }
 
-// What finds nothing agrees with every answer; a register is no set, and a set no other set.
+// An operation without an answer agrees with every answer; a register is not a set, and a set equals no other set.
 #[test]
 fn answers_fit_what_was_found(rt: HostRuntime) {
     let alloc = rt.alloc();

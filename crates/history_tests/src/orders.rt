@@ -102,7 +102,7 @@ const OF_SET: [Row; 3] = [
     (&[0, 1, 2], Some((2, 2, AnotherAnswer))),
 ];
 
-// Two values, of which the second comes out.
+// Two values; the second comes out.
 const QUEUE: &str = "
     {:type :invoke, :process 0, :f :enqueue, :value [7 1]}
     {:type :invoke, :process 1, :f :enqueue, :value [7 2]}
@@ -150,7 +150,7 @@ fn history_of(alloc: Global, text: &str) -> Result<History, Refusal> {
     Ok(history)
 }
 
-// What is to be said.
+// The expected answer.
 fn said_by(row: Row) -> Confirmation {
     match row.1 {
         None => Confirmation::Linearizable,

@@ -10,7 +10,7 @@ use std::test::Fail;
 use values::Members;
 use wide_set::WideSet;
 
-// What an event carries: nothing, a value, or the members that a read has answered.
+// The value of an event: nothing, a value, or the members that a read has answered.
 #[derive(Clone, Copy)]
 enum Said {
     Nil,
@@ -31,8 +31,7 @@ fn part_of(alloc: Global, said: Said) -> Result<Part, AllocError> {
 // An event of the operation with this id, and its answer.
 type Row = (u32, EventKind, Name, Said, Step);
 
-// Whether each event is answered so, by one set, or each event by a copy of the set before it. Nothing is tried, and no budget is
-// exceeded.
+// Whether each event is answered so, by one set, or each event by a copy of the set before it. Nothing is tried, and no budget is exceeded.
 fn judge(alloc: Global, rows: &[Row], copies: bool) -> Result<bool, AllocError> {
     let mut set = WideSet::start(alloc, 1);
     for row in rows {

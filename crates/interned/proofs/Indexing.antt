@@ -10,7 +10,7 @@ use Rattle.interned.specs.Index.{AreStates}
 use Rattle.interned.proofs.Lists.{mapped_at, once_push, place_of}
 
 module _ {S : Type 0} (feeds : S → HashWrites) (items : List S) (hashes : List ℕ) (hashed : hashes ≡ map (hash_by feeds) items) where
-  -- the hash of what stands somewhere
+  -- the hash of the value at some place
   pub hash_at : (j : ℕ) (s : S) → slice_get items j ≡ Some s → get_or hashes j 0 ≡ hash_by feeds s
   hash_at j s e =
       ap (λ l. get_or l j 0) hashed

@@ -1,10 +1,10 @@
--- Invariant: what was found, by a key
+-- Invariant: answers, by a key
 use Rattle.models.specs.declared.finding.Found.{Found}
 use Rattle.models.specs.declared.finding.Found.TheVariants.{Unit as Nothing, Reg as Register, Item as Front, Elements as Set}
 use Rattle.interned.specs.declared.found_key.FoundKey.{FoundKey}
 use Rattle.interned.specs.declared.found_key.FoundKey.TheVariants.{Unit, Reg, Item, Elements}
 
--- what was found, by its key
+-- the answer, by its key
 abbrev pub found_of : FoundKey → Found
 found_of Unit = Nothing
 found_of (Reg state) = Register state

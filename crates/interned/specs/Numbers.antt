@@ -2,7 +2,7 @@
 use Rattle.std.specs.Prelude.{◌≡◌, ◌+◌, ℕ, Option, Some, None, List, slice_get}
 use Rattle.models.specs.declared.finding.Found.{Found}
 
--- the number of what was found, by the place where it stands
+-- the number of an answer, from its place
 abbrev pub IsSlot : List Found → ℕ → Option Found → Type 0
 IsSlot founds slot None = slot ≡ 0
 IsSlot founds slot (Some found) =

@@ -1,4 +1,4 @@
-//! What was found, as a key by which it is looked up.
+//! An answer as a key for looking it up.
 ghost use Rattle.std.specs.Prelude.{◌≡◌, IfOk};
 ghost use Rattle.interned.specs.FoundKeys.{found_of};
 
@@ -6,7 +6,7 @@ use models::Found;
 use std::alloc::AllocError;
 use values::Members;
 
-/// What an operation found, by an order. Two are equal where the same was found.
+/// The answer of an operation, with an order. Two are equal if the same was found.
 #[derive(PartialEq, Eq, PartialOrd, Ord, Drop)]
 pub enum FoundKey {
     Unit,
@@ -16,7 +16,7 @@ pub enum FoundKey {
 }
 
 impl FoundKey {
-    /// The key of what was found.
+    /// The key of the answer.
     pub fn of(found: Found) -> FoundKey
         ensures { found_of result ≡ found }
     {
@@ -28,8 +28,8 @@ impl FoundKey {
         }
     }
 
-    /// What was found, which shares the members of a set. Takes constant time, and no memory; `AllocError` where as many share
-    /// them as can be counted.
+    /// The answer, which shares the members of a set. Takes constant time, and no memory; `AllocError` if as many share them as can be
+    /// counted.
     pub fn found(&self) -> Result<Found, AllocError>
         ensures { IfOk result (λ found. found ≡ found_of self.now) }
     {

@@ -1,4 +1,4 @@
-//! What was found, by number.
+//! Answers, by number.
 ghost use Rattle.std.specs.Prelude.{◌≡◌, ◌≢◌, ◌↔◌, ◌<◌, ◌++◌, ◌∷◌, [], ℕ, List, Some, None};
 ghost use Rattle.std.specs.Prelude.{length, IsTrue, slice_get, option_copied, IfOk, OnOk, OnErr, IfSome};
 ghost use Rattle.events.specs.Events.{IsFront};
@@ -12,7 +12,7 @@ use std::alloc::{AllocError, Global};
 use std::collections::BTreeMap;
 use std::marker::Model;
 
-// So many are compared in turn, which is fastest where there are no more; the others are looked up.
+// This number are compared in turn, which is fastest if there are no more; the others are looked up.
 const FIRST: usize = 32;
 
 /// Different things that were found, each with a number, which is one more than its place. The first thirty-two are compared in
@@ -62,7 +62,7 @@ impl Founds {
         self.items.len()
     }
 
-    /// Takes all away, and keeps the memory of their list. Takes the time of what was found.
+    /// Takes all away, and keeps the memory of their list. Costs O(answers).
     pub fn clear(&mut self)
         ensures { self.new ≡ [] }
     {
@@ -70,7 +70,7 @@ impl Founds {
         self.slots.clear();
     }
 
-    /// What stands at this place, if anything does. Takes constant time.
+    /// The answer at this place, if there is one. Takes constant time.
     pub fn get(&self, at: usize) -> Option<&Found>
         ensures { option_copied result ≡ slice_get self.now at }
     {
@@ -78,7 +78,7 @@ impl Founds {
     }
 }
 
-// Where nothing to tell stands among the first, which is most often near their front.
+// Where `Unit` stands among the first, which is most often near their beginning.
 fn place_of_unit(items: &[Found]) -> Option<usize>
     ensures there { IfSome result (λ at. slice_get items.now at ≡ Some Found.Unit) }
     ensures none { result ≡ None → (at : ℕ) → at < 32 → slice_get items.now at ≢ Some Found.Unit }
@@ -92,8 +92,8 @@ fn place_of_unit(items: &[Found]) -> Option<usize>
     None
 }
 
-// Where this front of a queue stands among the first. It is compared with those that came last, and then with those before, since
-// the last are found again most often.
+// The place of this queue answer among the first. It is compared with those that came last, and then with those before, since the last are
+// found again most often.
 fn place_of_item(items: &[Found], value: i64) -> Option<usize>
     ensures there { IfSome result (λ at. slice_get items.now at ≡ Some (Found.Item value)) }
     ensures none { result ≡ None → (at : ℕ) → at < 32
@@ -109,7 +109,7 @@ fn place_of_item(items: &[Found], value: i64) -> Option<usize>
     None
 }
 
-// Whether it is this front of a queue.
+// Whether it is this queue answer.
 fn is_item(found: &Found, value: i64) -> bool
     ensures { IsTrue result ↔ (found.now ≡ Found.Item value) }
 {
@@ -137,7 +137,7 @@ fn place_of_any(items: &[Found], found: &Found) -> Option<usize>
     None
 }
 
-// Where it stands among the first. What most calls of a queue find has a loop of its own, which is shorter.
+// Where it stands among the first. The answers of most calls of a queue have a loop of their own, which is shorter.
 #[inline(always)]
 fn place_in_first(items: &[Found], found: &Found) -> Option<usize>
     ensures there { IfSome result (λ at. slice_get items.now at ≡ Some found.now) }
@@ -177,9 +177,9 @@ fn put(founds: &mut Founds, found: Found) -> Result<(), AllocError>
     put_key(founds, FoundKey::of(found))
 }
 
-/// The number of what was found: one more than where it stands. It is put behind the others if it is new. `AllocError` where
-/// there is no memory for it, or where as many share the members of a set as can be counted: then nothing is put. It is
-/// compared with the first thirty-two, and else looked up: the time grows with the logarithm of their number.
+/// The number of the answer: one more than its place. It is put behind the others if it is new. `AllocError` if there is no memory for
+/// it, or if as many share the members of a set as can be counted: then nothing is put. It is compared with the first thirty-two, and
+/// else looked up: the time grows with the logarithm of their number.
 #[inline(always)]
 pub fn slot_at(founds: &mut Founds, found: Found) -> Result<usize, AllocError>
     ensures slot { IfOk result (λ slot. IsSlot founds.new slot (Some found)) }
@@ -192,7 +192,7 @@ pub fn slot_at(founds: &mut Founds, found: Found) -> Result<usize, AllocError>
     slot_behind(founds, found)
 }
 
-// The same, of what does not stand among the first.
+// The same for an answer that is not among the first.
 #[inline(never)]
 fn slot_behind(founds: &mut Founds, found: Found) -> Result<usize, AllocError>
     requires { (at : ℕ) → at < 32 → slice_get founds.old at ≢ Some found }

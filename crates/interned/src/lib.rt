@@ -1,10 +1,10 @@
 //! Values by small numbers: each different state, and each thing that was found, stands once and has a number, so that ends are
 //! rows of numbers.
 //!
-//! A state is found by an index of the states' hashes, and compared where the hash is the same. Of what was found the first
-//! thirty-two are compared in turn, and more are looked up by an order.
+//! A state is found by an index of the states' hashes, and compared if the hash is the same. The first thirty-two answers are compared
+//! in turn, and more are looked up by an order.
 //!
-//! A call takes memory only where its result can be `AllocError`, or a refusal for want of memory.
+//! A call allocates only if its result can be `AllocError`, or a refusal because memory ran out.
 #![tactic(auto)]
 
 mod found_key;

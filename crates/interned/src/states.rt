@@ -57,7 +57,7 @@ impl<S: Hash + Drop> States<S> {
         }
     }
 
-    /// Takes all states away, and keeps the memory of their list and of its index. Takes the time of the states.
+    /// Takes all states away, and keeps the memory of their list and of its index. Costs O(states).
     pub fn clear(&mut self)
         ensures { self.new ≡ [] }
     {
@@ -82,7 +82,7 @@ impl<S: Hash + Drop> States<S> {
     }
 }
 
-// Makes room for one more where there is none. A short list gets room for four times as many, so that it is seldom moved.
+// Makes room for one more if there is none. A short list gets room for four times as many, so that it is seldom moved.
 #[inline(always)]
 fn make_room<T>(list: &mut Vec<T>) -> Result<(), AllocError>
     ensures items { list.new.items ≡ list.old.items }
@@ -146,9 +146,9 @@ fn numbered<M: SeqObject>(
     Ok(at)
 }
 
-/// The number of the state, which is put behind the others if it is new. `AllocError` where memory was refused, or where there
-/// are too many states for places of 32 bits: then the states are as they were. Takes the time of its hash, and of comparing it
-/// with the states of the same hash; where there are as many states as buckets, all are indexed anew.
+/// The number of the state, which is put behind the others if it is new. `AllocError` if memory was refused, or if there are too many
+/// states for places of 32 bits: then the states are as they were. Costs its hash, and a comparison with the states of the same hash. If
+/// there are as many states as buckets, all are indexed again.
 #[inline(always)]
 pub fn number_of<M: SeqObject>(
     states: &mut States<M::State>,
@@ -184,7 +184,7 @@ fn copies<M: SeqObject>(alloc: Global, items: &[M::State]) -> Result<Vec<M::Stat
     Ok(copies)
 }
 
-/// The same states, with the same numbers. Takes the time of a copy of each state. They are indexed when one is looked up.
+/// The same states, with the same numbers. Costs a copy of each state. They are indexed when one is looked up.
 pub fn copied<M: SeqObject>(
     alloc: Global,
     states: &States<M::State>,

@@ -1,4 +1,4 @@
--- Promise: what an order of the command line reads, writes and ends with
+-- Promise: the input, the output and the exit status of an order of the command line
 use Rattle.std.specs.Prelude.{◌≡◌, ◌≢◌, ◌⊎◌, ℕ, Bool, true, false, List, codes, Option, Result, Err, MatchOption, MatchResult, IfErr, IsErrAnd, IfOk, OnOk, string_bytes}
 use Rattle.edn.specs.declared.refusal.Refusal.{Refusal}
 use Rattle.edn.specs.declared.refusal.Refusal.TheVariants.{ReadFailed, WriteFailed}
@@ -20,7 +20,7 @@ use Rattle.command_line.specs.declared.order.Order.{Order}
 use Rattle.command_line.specs.declared.order.Order.TheVariants as order
 use Rattle.command_line.specs.declared.order.Stop.{Stop}
 
--- what a reader had, and has left; what came of its reads before and after, where that is known; and whether it has failed
+-- the bytes of a reader and the rest; the results of its reads before and after, if that is known; and whether it has failed
 pub record Input : Type 0 where
   pub had : Option (List ℕ)
   pub left : Option (List ℕ)
@@ -28,7 +28,7 @@ pub record Input : Type 0 where
   pub log_after : Option (List Logged)
   pub has_failed : Bool
 
--- what a writer held, and holds; whether it has failed, and whether what was written is flushed
+-- the bytes that a writer held, and holds; whether it has failed, and whether they are flushed
 pub record Output : Type 0 where
   pub before : Option (List ℕ)
   pub after : Option (List ℕ)
@@ -44,7 +44,7 @@ EndsWith outcome status =
 abbrev pub IsUntouched : Setup → Input → Output → Refusal → Type 0
 IsUntouched setup input output why = MayNotOpen setup why × (input.left ≡ input.had) × (output.after ≡ output.before)
 
--- a script of these lines: what `scripts::run_script` promises, and the exit status that comes of it
+-- a script of these lines: the promises of `scripts::run_script`, and the exit status of its end
 pub record IsScript (setup : Setup) (is_strict : Bool) (input : Input) (output : Output) (status : ℕ) : Type 0 where
   pub outcome : Result (Option Verdict) Refusal
   pub limits : IsSetup setup ⊎ IsErrAnd outcome (IsUntouched setup input output)
@@ -67,13 +67,13 @@ pub record IsScript (setup : Setup) (is_strict : Bool) (input : Input) (output :
 abbrev pub IsUnread : Input → Type 0
 IsUnread input = input.left ≡ input.had
 
--- a check of standard input, where the path is `-`, else of the file of this path
+-- a check of standard input, if the path is `-`, else of the file of this path
 abbrev pub IsCheck : (List ℕ → Option (List ℕ)) → List ℕ → Setup → Input → Output → ℕ → Type 0
 IsCheck holds path setup input output status =
     (path ≡ codes "-" → Checks setup input.had input.left input.has_failed output.before output.after output.has_failed output.is_flushed status)
     × (path ≢ codes "-" → IsUnread input × ChecksFile setup (holds path) output.before output.after output.has_failed output.is_flushed status)
 
--- an order in the file of its path, shown of the history on standard input, where the path is `-`, else of that in the file of
+-- an order in the file of its path, shown of the history on standard input, if the path is `-`, else of that in the file of
 -- this path
 abbrev pub IsConfirmation : (List ℕ → Option (List ℕ)) → List ℕ → List ℕ → ℕ → ModelKind → Input → Output → ℕ → Type 0
 IsConfirmation holds path order_path concurrency kind input output status =
@@ -87,7 +87,7 @@ IsARun setup output status =
     × IsPut text told output.before output.after output.has_failed output.is_flushed status)
     × (setup.mode ≡ Strict → status ≢ 1)
 
--- the order is carried out, where the system's files hold these
+-- the order is carried out, if the system's files hold these
 abbrev pub IsCarriedOut : (List ℕ → Option (List ℕ)) → Order → Input → Output → ℕ → Type 0
 IsCarriedOut holds (order.Script config is_strict) input output status = IsScript (setup_of config) is_strict input output status
 IsCarriedOut holds (order.Check path workers config) input output status = IsCheck holds (string_bytes path) (setup_of config) input output status
@@ -95,7 +95,7 @@ IsCarriedOut holds (order.Confirm path order_path concurrency kind) input output
     IsConfirmation holds (string_bytes path) (string_bytes order_path) concurrency kind input output status
 IsCarriedOut holds (order.Run config) input output status = IsUnread input × IsARun (setup_of config) output status
 
--- what the program ends with. Where there is no order nothing is read, and the status is 3, or 0 for help and the version
+-- the end of the program. If there is no order nothing is read, and the status is 3, or 0 for help and the version
 abbrev pub EndsAs : (List ℕ → Option (List ℕ)) → Result Order Stop → Input → Output → ℕ → Type 0
 EndsAs holds given input output status =
     MatchResult given

@@ -1,4 +1,4 @@
-//! Orders, carried out: what each of them reads and writes, and the exit status that comes of it.
+//! Orders, carried out: the input and the output of each, and its exit status.
 ghost use Rattle.std.specs.Prelude.{◌≡◌, ◌≤◌, None, false, IfOk};
 ghost use Rattle.std.specs.Process.{exit_status};
 ghost use Rattle.harness.specs.Setups.{setup_of};
@@ -22,17 +22,17 @@ use std::rt::Clock;
 use std::sync::Wait;
 use std::thread::Threads;
 
-/// What standard input is called, where a read of it fails.
+/// The name of standard input in the message about a failed read.
 pub const INPUT: &str = "standard input";
 
-// Says how to go on, where somebody at a terminal has to type what the program reads.
+// Says how to go on, if somebody at a terminal has to type what the program reads.
 fn greet<R: Eprint>(rt: &R, is_terminal: bool) {
     if is_terminal {
         let _ = rt.eprintln(TYPED);
     }
 }
 
-/// Answers the lines of the reader. Says how to go on, where somebody at a terminal has to type them.
+/// Answers the lines of the reader. Says how to go on, if somebody at a terminal has to type them.
 pub fn script<'a, X: Wait + Clock + Eprint, R: ReadsBeside<W>, W: Write + Failed + Flushes>(
     rt: &X,
     alloc: Global,
@@ -67,7 +67,7 @@ pub fn script<'a, X: Wait + Clock + Eprint, R: ReadsBeside<W>, W: Write + Failed
     status_after(rt, alloc, outcome, aside)
 }
 
-/// Judges the history of a file; of the reader, where the path is `-`.
+/// Judges the history of a file; of the reader, if the path is `-`.
 pub fn check<
     'a,
     X: Wait + Threads + Opens + Sync + Clock + Eprint,
@@ -112,7 +112,7 @@ pub fn check<
     status
 }
 
-/// Says what an order of operations shows of the history of a file; of that of the reader, where the path is `-`.
+/// Says what an order of operations shows of the history of a file; of that of the reader, if the path is `-`.
 pub fn confirm<'a, X: Wait + Opens + Clock + Eprint, R: Read + Failed, W: Write + Failed + Flushes>(
     rt: &X,
     alloc: Global,
@@ -195,8 +195,8 @@ pub fn run<'a, X: Wait + Threads + Sync + Clock + Eprint, W: Write + Failed + Fl
     status
 }
 
-/// Carries out what the words asked for, and gives the exit status: the order, of which standard input is this reader and standard
-/// output this writer; or what stands in place of an order. Whether somebody has to type the input, its handle says.
+/// Carries out the order in the words, or its alternative, and gives the exit status. This reader is standard input, and this writer is
+/// standard output. Whether somebody has to type the input, its handle says.
 pub fn ended<
     'a,
     'b,
@@ -236,7 +236,7 @@ pub fn ended<
     ExitCode::from(status)
 }
 
-// The same, or the status of what stands in place of an order.
+// The same, or the status of the alternative to an order.
 fn status_given<
     'a,
     'b,
@@ -278,7 +278,7 @@ fn status_given<
     }
 }
 
-// Carries out an order, of which standard input is this reader and standard output this writer.
+// Carries out an order, with this reader as standard input and this writer as standard output.
 fn carried_out<
     'a,
     'b,

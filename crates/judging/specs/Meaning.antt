@@ -1,5 +1,5 @@
--- Promise: what an event makes of the histories of one key that a frontier stands for, what it answers and costs; how a
--- frontier begins, and what a copy is
+-- Promise: the effect of an event on the histories of one key that a frontier stands for, its answer and its cost; the beginning of a
+-- frontier, and a copy
 use Rattle.std.specs.Prelude.{◌≡◌, ◌≢◌, ◌↔◌, ℕ, ◌+◌, ◌*◌, ◌≤◌, ◌⊎◌, List, [], ◌∷◌, ◌++◌, length, Result, IfOk, MatchResult}
 use Rattle.std.specs.declared.alloc.AllocError.{AllocError}
 use Rattle.std.specs.List.{Contains}
@@ -31,8 +31,8 @@ Blows more budget marks (Invoked id op) = ⊥
 Blows more budget marks (Failed id) = ⊥
 Blows more budget marks (Crashed id) = ⊥
 
--- Over where the mark blows the budget; else Alive where the history with it is linearizable, and
--- Dead where it is not
+-- Over if the mark blows the budget; else Alive if the history with it is linearizable, and
+-- Dead if it is not
 abbrev pub IsStep : Count → Object → ℕ → List Mark → Mark → Step → Type 0
 IsStep more o budget marks mark Over = Blows more budget marks mark
 IsStep more o budget marks mark Alive =
@@ -56,28 +56,27 @@ IsReturn (Invoked id op) = ⊥
 IsReturn (Failed id) = ⊥
 IsReturn (Crashed id) = ⊥
 
--- no more than n operations may still take place and change something: those that are open, and those
--- that have crashed and are no reads
+-- no more than n operations may still take place and change something: those that are open, and those that have crashed and are not reads
 pub record HasAtMostPending (marks : List Mark) (n : ℕ) : Type 0 where
   pub ids : List ℕ
   pub many : length ids ≤ n
   pub each : (id : ℕ) → IsOpen marks id ⊎ HasCrashedBy is_no_read marks id → Contains ids id
 
--- an ok makes at most (budget + 1) * n steps where no more than n operations may still take place and change
--- something just before it; the count of steps, before it and after it, never falls
+-- an ok makes at most (budget + 1) * n steps if no more than n operations may still take place and change something just before it. The
+-- count of steps, before it and after it, never falls
 abbrev pub StepsOfOk : ℕ → (List Mark → Type 0) → ℕ → ℕ → Type 0
 StepsOfOk budget old before after =
     (before ≤ after)
     × ((marks : List Mark) → old marks → (n : ℕ) → HasAtMostPending marks n
     → after ≤ before + (budget + 1) * n)
 
--- what an event makes of the histories that are stood for: those before it and those after it
+-- the effect of an event on the histories of a frontier: those before it and those after it
 module _ (old new : List Mark → Type 0) where
   -- each stays
   abbrev pub Keeps : Type 0
   Keeps = (marks : List Mark) → old marks → new marks
 
-  -- each has the mark now, where that may follow it
+  -- each has the mark now, if that may follow it
   abbrev pub Takes : Mark → Type 0
   Takes mark = (marks : List Mark) → old marks → MayFollow marks mark → new (marks ++ mark ∷ [])
 
@@ -94,9 +93,8 @@ pub record Answers (more : Count) (o : Object) (budget : ℕ) (old : List Mark �
       → IsAnswer more o budget marks mark step
   pub over_at_ok : step ≡ Over → IsReturn mark
 
--- what is known of a frontier: the histories of one key that it stands for; those that it will stand for
--- once what is prepared is carried out; the budget; and how many steps were made so far, each of which
--- tries an operation in a state
+-- a frontier: the histories of one key that it stands for; those that it will stand for once the prepared change is carried out; and the
+-- budget. Also the number of steps so far, each of which tries an operation in a state
 pub record FrontierView : Type 1 where
   pub stands : List Mark → Type 0
   pub will_stand : List Mark → Type 0
@@ -110,15 +108,14 @@ pub record IsStart (budget : ℕ) (new : FrontierView) : Type 0 where
   pub applied_is : new.applied ≡ 0
 
 module _ (old new : FrontierView) where
-  -- what a mark costs: an ok steps within `StepsOfOk`, another mark none
+  -- the cost of a mark: an ok steps within `StepsOfOk`, another mark none
   abbrev pub Costs : Mark → Type 0
   Costs (Returned id answer) = StepsOfOk old.budget old.stands old.applied new.applied
   Costs (Invoked id op) = new.applied ≡ old.applied
   Costs (Failed id) = new.applied ≡ old.applied
   Costs (Crashed id) = new.applied ≡ old.applied
 
-  -- the answer is right, and the frontier takes the mark; after Over, and where there is no memory, it stands for what it stood
-  -- for. The budget stays
+  -- the answer is right, and the frontier takes the mark; after Over, and if there is no memory, it keeps its meaning. The budget stays
   pub record Observes (more : Count) (o : Object) (mark : Mark) (result : Result Step AllocError)
       : Type 0 where
     pub step : IfOk result (Answers more o old.budget old.stands mark)
@@ -127,15 +124,15 @@ module _ (old new : FrontierView) where
     pub budget : new.budget ≡ old.budget
     pub cost : Costs mark
 
-  -- the same of an invocation and a crash, which are always taken where there is memory
+  -- the same of an invocation and a crash, which are always taken if there is memory
   pub record TakesAlways (mark : Mark) (result : Result (Unit {0}) AllocError) : Type 0 where
     pub kept : MatchResult result (λ _. Takes old.stands new.stands mark)
         (λ _. Keeps old.stands new.stands)
     pub budget : new.budget ≡ old.budget
     pub cost : Costs mark
 
-  -- the answer is right, and the mark is prepared: the frontier stands for what it stood for, and will take the mark, or after Over
-  -- will stand for the same. The budget stays
+  -- the answer is right, and the mark is prepared: the frontier keeps its meaning, and will take the mark, or after Over will stand for the
+  -- same. The budget stays
   pub record Prepares (more : Count) (o : Object) (mark : Mark) (result : Result Step AllocError)
       : Type 0 where
     pub step : IfOk result (Answers more o old.budget old.stands mark)
@@ -144,7 +141,7 @@ module _ (old new : FrontierView) where
     pub budget : new.budget ≡ old.budget
     pub cost : Costs mark
 
-  -- what is prepared is carried out, and costs no step
+  -- the prepared change is carried out, and costs no step
   pub record Commits : Type 0 where
     pub stands : Keeps old.will_stand new.stands
     pub budget : new.budget ≡ old.budget

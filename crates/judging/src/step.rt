@@ -1,4 +1,4 @@
-//! What an event leaves of the history of a key.
+//! The status of a key's history after an event.
 
 /// What an event leaves.
 #[derive(Clone, Copy, Debug, PartialEq, Eq)]

@@ -16,7 +16,7 @@ use Rattle.lean_ends.proofs.Beginning.{after_invoke}
 abbrev pub AreComplete : List Mark → (LeanEnd → Type 0) → Type 0
 AreComplete marks L = (order : List Taken) (t : Option ℤ) → IsLegalOrder register marks order t → (e : LeanEnd) × L e × Covers marks e order t
 
--- what a mark makes of ends
+-- the ends that a mark makes of ends
 abbrev pub Next : List Mark → (LeanEnd → Type 0) → Mark → LeanEnd → Type 0
 Next marks L m f = (e : LeanEnd) × L e × Becomes marks e m f
 

@@ -15,7 +15,7 @@ use Rattle.lean_ends.proofs.Splits.{two_cuts}
 use Rattle.lean_ends.proofs.Steps.{LastWrite, run_view, run_same, no_read}
 use Rattle.lean_ends.proofs.Once.{read_no_write}
 
--- the read may stand where the value is v: what comes behind does not precede it
+-- the read may stand where the value is v: no operation behind it precedes it
 abbrev pub MayFind : List Mark → List Taken → ℕ → ℤ → Type 0
 MayFind marks order r v =
     (xs ys : List Taken) × (order ≡ xs ++ ys) × Run register None xs (Some v) × ((y : Taken) → Contains ys y → ¬ Precedes marks y.id r)

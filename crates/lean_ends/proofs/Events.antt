@@ -1,4 +1,4 @@
--- each order of the history with one more completion comes of what the completion makes of an end
+-- each order of the history with one more completion stands for an end that the completion makes of an old end
 use Rattle.std.proofs.Common.{◌≡◌, ◌≢◌, ℕ, ℤ, inl, inr, ⊎_elim, IsTrue, Option, Some, None, List, [], ◌∷◌, ◌++◌, refl, sym, ap, ◌∙◌, subst, append_assoc}
 use Rattle.std.specs.List.{Contains}
 use Rattle.std.proofs.lemmas.List.Elements.{Contains-append_left, Contains-push, Contains-push_cases}
@@ -25,7 +25,7 @@ use Rattle.lean_ends.proofs.Ending.{write_was, read_was, find_was, covers_withou
 pub front_well : (marks : List Mark) (m : Mark) → AreWellFormed (marks ++ m ∷ []) → AreWellFormed marks
 front_well marks m well before after n cut = well before (after ++ m ∷ []) n (sym (append_assoc before (n ∷ after) (m ∷ [])) ∙ ap (λ l. l ++ m ∷ []) cut)
 
--- what comes of an end by a mark, and stands for the order
+-- an end made by a mark, which stands for the order
 abbrev pub Leads : List Mark → Mark → LeanEnd → List Taken → Option ℤ → Type 0
 Leads marks m e order t = (f : LeanEnd) × Becomes marks e m f × Covers (marks ++ m ∷ []) f order t
 
@@ -112,7 +112,7 @@ module _ (marks : List Mark) (id : ℕ) (answer : Answer) (well : AreWellFormed 
   apart : (x : ℕ) (v : ℤ) → MayWrite longer x v → x ≢ id
   apart x v w s = w.not_returned (answer, subst (λ n. Contains longer (Returned n answer)) (sym s) returned)
 
-  -- the operation goes of an end that stands for the order, of which it is no free write
+  -- the operation is removed from an end that stands for the order and does not have it as a free write
   goes : (g : LeanEnd) → Covers marks g order t → ((x : ℕ) (v : ℤ) → Extra marks g order x v → x ≢ id) → (f : LeanEnd) × IsWithout g id f × Covers longer f order t
   goes g cov other = let f = some_without g id in (f.0, f.1, covers_without marks (Returned id answer) tt g f.0 order t f.1 apart other cov)
 

@@ -1,4 +1,4 @@
--- an order that stands for an end stands for what a completion, or an invocation, makes of it
+-- an order that stands for an end stands for the end that a completion, or an invocation, makes of it
 use Rattle.std.proofs.Common.{◌≡◌, ◌≢◌, ℕ, ℤ, inl, inr, ⊎_elim, Option, Some, None, List, [], ◌∷◌, ◌++◌, sym, ap, ◌∙◌, subst, append_assoc}
 use Rattle.std.specs.List.{Contains}
 use Rattle.std.proofs.lemmas.List.Elements.{Contains-append_left, Contains-push}

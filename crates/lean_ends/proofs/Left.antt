@@ -77,7 +77,7 @@ some_is_left marks ends well are = (
   (λ k. (let o = sound_left_by [] marks (start ∷ []) ends well are (λ e h. subst (IsLeft []) (only_start e h) left_at_first) k.0 k.1 in (o.0, o.1, o.2.legal))),
 )
 
--- something is counted only of a history that has a legal order, so a key that is dead is never blown
+-- something is counted only for a history that has a legal order, so a dead key is never over budget
 pub counted_order : (marks : List Mark) (n : ℕ) → HasMoreLeanEnds marks n → IsLinearizable register marks
 counted_order marks n h = first h.ends h.are h.many
   where
@@ -144,7 +144,7 @@ only_itself marks (x ∷ left) p e f h k a = ⊎_elim
     (Contains-cons_cases x left f k))
     (Contains-cons_cases x left e h)
 
--- what a mark leaves does not depend on how the same ends are listed
+-- the ends that a mark leaves do not depend on how the same ends are listed
 within : (marks : List Mark) (m : Mark) (ends others left these : List LeanEnd) → ((e : LeanEnd) → Contains ends e → Contains others e) → ((e : LeanEnd) → Contains others e → Contains ends e)
     → AreLeftBy marks m ends left → AreLeftBy marks m others these → (f : LeanEnd) → Contains left f → Contains these f
 within marks m ends others left these to from a b f h =

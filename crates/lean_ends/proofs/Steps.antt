@@ -38,7 +38,7 @@ read_step op s r =
     subst (λ n. IsOneOf (register_apply n op.part s) (s, Reg s)) (sym r.0)
     (subst (λ p. IsOneOf (register_apply Read p s) (s, Reg s)) (sym r.1) (inl refl))
 
--- what a write finds, and leaves, does not depend on the state
+-- the answer of a write, and the state after it, do not depend on the state
 pub write_anywhere : (op : Op) (v : ℤ) (s s2 t : Option ℤ) (found : Found) → Writes op v → register.Steps s op found t → register.Steps s2 op found t
 write_anywhere op v s s2 t found w h =
     let at : (x : Option ℤ) → register.Steps x op found t ≡ IsOneOf (register_apply Write (Int v) x) (t, found) = λ x. ap (λ n. IsOneOf (register_apply n op.part x) (t, found)) w.0 ∙ ap (λ p. IsOneOf (register_apply Write p x) (t, found)) w.1 in

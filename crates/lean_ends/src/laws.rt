@@ -17,7 +17,7 @@ pub fn lean_law()
         → IsLinearizable register marks ↔ ((e : LeanEnd) × Contains ends e) }
 {}
 
-/// How many lean ends a history has does not depend on how they are found, and a history that has more of them than so many is linearizable.
+/// The number of lean ends of a history does not depend on how they are found, and a history that has more than n of them is linearizable.
 pub fn count_law()
     ensures one { (marks : List Mark) (ends others : List LeanEnd) → AreLeanEnds marks ends → AreLeanEnds marks others
         → length ends ≡ length others }

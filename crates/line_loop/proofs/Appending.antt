@@ -15,7 +15,7 @@ Appends-take a b c text i n m e p q =
 pub Appends-then_nil : (a b c : Option (List ℕ)) (bs : List ℕ) → Appends a b bs → Appends b c [] → Appends a c bs
 Appends-then_nil a b c bs p q = subst (Appends a c) (append-nil bs) (Appends-trans a b c bs [] p q)
 
--- what is to be written grows
+-- the text to be written grows
 pub Appends-more : (a : Option (List ℕ)) (old new bytes : List ℕ) → new ≡ old ++ bytes → Appends (append_known a old) (append_known a new) bytes
 Appends-more None old new bytes e = tt
 Appends-more (Some x) old new bytes e = ap (λ l. x ++ l) e ∙ sym (append_assoc x old bytes)
@@ -35,7 +35,7 @@ Appends-under None b bytes p = tt
 Appends-under (Some x) None bytes p = absurd p
 Appends-under (Some x) (Some y) bytes p = ap (λ l. l ++ bytes) (p ∙ append-nil x) ∙ sym (append-nil (x ++ bytes))
 
--- what was to be written has been
+-- the text that was to be written has been written
 pub Appends-written : (a b c : Option (List ℕ)) (bytes text : List ℕ) → Appends a (append_known b bytes) text → Appends b c bytes → Appends a c text
 Appends-written None b c bytes text p q = tt
 Appends-written (Some x) None c bytes text p q = absurd p

@@ -1,4 +1,4 @@
--- What more bytes do to the cut of an input, and to what is held of its last line.
+-- The effect of more bytes on the cut of an input, and on the held part of its last line.
 use Rattle.std.proofs.Common.{◌≡◌, ◌≢◌, ℕ, ◌+◌, ◌-◌, ◌<◌, ◌≤◌, List, [], ◌∷◌, ◌++◌, length, take, refl, ap, sym, ◌∙◌, subst, arith, append-nil, append_assoc, length-take, inl, inr}
 use Rattle.std.specs.Prelude.{flat_map}
 use Rattle.std.proofs.lemmas.List.{take-append-le, take_all}

@@ -1,4 +1,4 @@
--- What a loop over lines says of its refusal, by why it was refused.
+-- The clauses of a loop over lines about its refusal, by the reason.
 use Rattle.std.proofs.Common.{◌≡◌, ◌≢◌, Bool, true, false, sym, ap, ◌∙◌, subst, inl, inr, ⊎_elim}
 use Rattle.std.specs.Prelude.{Result, Ok, Err, IfOk, IfErr}
 use Rattle.std.specs.Result.{IsErrAnd}
@@ -8,7 +8,7 @@ use Rattle.edn.specs.declared.refusal.Refusal.TheVariants.{NoMemory, ReadFailed,
 use Rattle.line_loop.specs.Stopping.{MayStop}
 use Rattle.line_loop.specs.BetweenReads.{MayStopWriting}
 
--- what a `?` gives on
+-- the error that a `?` passes on
 pub given_on : {X : Type 0} (r : Result X Refusal) (why : Refusal) → IsErrAnd r (λ e. e ≡ why) → r ≡ Err why
 given_on r why h = let p = err_from_is_err_and r h in p.1 ∙ ap Err p.2
 

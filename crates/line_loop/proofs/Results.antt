@@ -1,4 +1,4 @@
--- What a `Result` says, whatever it is.
+-- Facts of any `Result`.
 use Rattle.std.specs.Prelude.{Result, Ok, Err, OnOk, OnErr, IfErr}
 use Rattle.std.proofs.Common.{◌≡◌, subst, sym}
 

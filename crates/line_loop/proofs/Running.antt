@@ -1,4 +1,4 @@
--- How the replies run on, from what stands between two reads.
+-- How the replies continue, from the state between two reads.
 use Rattle.std.proofs.Common.{◌≡◌, ◌≢◌, ℕ, ◌+◌, ◌-◌, ◌<◌, Bool, true, false, List, [], ◌∷◌, ◌++◌, length, take, refl, ap, sym, ◌∙◌, subst, arith, append-nil, append_assoc, inl, inr}
 use Rattle.std.specs.Prelude.{Option, None, Some, Result, Ok, Err, OnOk, OnErr, ⊤}
 use Rattle.std.proofs.lemmas.List.{take_all, append_cancel_left}
@@ -27,7 +27,7 @@ module _ {S : Type 0} (may : S → List ℕ → List ℕ → S → Type 0) where
       let (next, one, more, answered, run, whole) = p in
       (next, one, more ++ second, answered, replies_more next lines others more second mid new run q, ap (λ l. l ++ second) whole ∙ append_assoc one more second)
 
-  -- what is held is answered as the line is
+  -- the held bytes are answered as the line is
   answers_whole : (held rest text : List ℕ) (old new : S) → held ≡ take (line_limit + 1) rest → IsAnsweredFor may old held text new → may old rest text new
   answers_whole held rest text old new e h = elim (leb_tells (length rest) line_limit) as (λ _. may old rest text new) [
     | inl p ↦ let same : held ≡ rest = e ∙ take_all (line_limit + 1) rest (let short = p.1 in omega arith) in subst (λ l. may old l text new) same (h.within (let short = p.1 in let long : length held ≡ length rest = ap length same in omega arith))
@@ -87,7 +87,7 @@ module _ {S : Type 0} (may : S → List ℕ → List ℕ → S → Type 0) where
       subst (λ r. GoesOn may (ended line) (between state r written) there) same
       (goes_whole line plain (between state inner written) there empty empty text answered (Appends-more written inner.replies replies text grown))
 
-  -- what is held of a session is answered, and none of it is held
+  -- the held bytes of a session are answered, and then none is held
   pub answers_held_line : {M : Type 0} (state : M → S) (inner old : Reading M) → inner ≡ old → (line : List ℕ) → line ≡ inner.held → (machine : M) (text replies held : List ℕ)
       → IsAnsweredFor may (state inner.machine) line text (state machine) → replies ≡ inner.replies ++ text → held ≡ []
       → (written : Option (List ℕ)) → LineIsAnswered may (between state old written) (between state (record { machine = machine; held = held; replies = replies }) written)
@@ -150,7 +150,7 @@ module _ {S : Type 0} (may : S → List ℕ → List ℕ → S → Type 0) where
       } in
       subst (λ r. Stands may old before (seen ++ piece) (between state r b)) (sym same) at
 
-  -- what has stopped has stopped too where more was read
+  -- a loop that has stopped has stopped too if more was read
   stopped_more : (old : S) (before : Option (List ℕ)) (seen more : List ℕ) (after : Option (List ℕ)) → IsPartlyAnswered may old before seen false after → IsPartlyAnswered may old before (seen ++ more) false after
   stopped_more old before seen more after h =
       let b = h.beginning in
@@ -209,7 +209,7 @@ module _ {S : Type 0} (may : S → List ℕ → List ℕ → S → Type 0) where
   pub stops_last : (here : Between S) → StopsAtEnd may here here.written
   stops_last here old before seen h = stopped_here old before seen here here.written true (last_line h.rest) h refl (Appends-nil here.written)
 
-  -- what was answered is written
+  -- the answers are written
   stopped_written : (old : S) (before : Option (List ℕ)) (input : List ℕ) (has_ended : Bool) (a b : Option (List ℕ)) (replies : List ℕ) → Appends a b replies
       → IsPartlyAnswered may old before input has_ended (append_known a replies) → IsPartlyAnswered may old before input has_ended b
   stopped_written old before input has_ended a b replies wrote h = record { written = h.written; grown = Appends-written before a b replies h.written h.grown wrote; beginning = h.beginning }
@@ -384,6 +384,6 @@ module _ {S : Type 0} (may : S → List ℕ → List ℕ → S → Type 0) where
       → Consumes left left' seen → Stands may old before seen (between state reading written) → KeepsUp may old (state reading.machine) left left' before written
   keeps_up state old left left' before seen reading written none read h = record { seen = seen; read = read; answered = up_to_date state old before seen reading written none h }
 
-  -- the flush, of what is still to be answered
+  -- the flush of the replies that are still due
   pub stopped_flushed : (old : S) (before : Option (List ℕ)) (seen : List ℕ) (a b : Option (List ℕ)) → Appends a b [] → IsPartlyAnswered may old before seen false a → IsPartlyAnswered may old before seen false b
   stopped_flushed old before seen a b q h = record { written = h.written; grown = Appends-then_nil before a b h.written h.grown q; beginning = h.beginning }

@@ -1,4 +1,4 @@
--- Invariant: what stands between two reads, and how a piece of the input leads on from there
+-- Invariant: the state between two reads, and how a piece of the input continues it
 use Rattle.std.specs.Prelude.{◌≡◌, ◌⊎◌, ℕ, ◌+◌, ◌<◌, ◌≤◌, Bool, true, false, List, [], ◌++◌, take, length, Option}
 use Rattle.std.specs.Io.KnownBytes.{Appends, append_known}
 use Rattle.edn.specs.declared.refusal.Refusal.{Refusal}
@@ -7,13 +7,13 @@ use Rattle.line_loop.specs.Lines.{Cuts}
 use Rattle.line_loop.specs.ReplyText.{line_limit, Replies}
 use Rattle.line_loop.specs.Stopping.{IsAnswered, IsPartlyAnswered}
 
--- a machine, what is held of the line that is being read, and the replies that are not written yet
+-- a machine, the held part of the line that is being read, and the unwritten replies
 pub record Reading (M : Type 0) : Type 0 where
   pub machine : M
   pub held : List ℕ
   pub replies : List ℕ
 
--- what stands between two reads: what is held of a line, the machine's state, what the writer has taken once all replies are written
+-- the state between two reads: the held part of a line, the machine's state, and the bytes that the writer has once all replies are written
 pub record Between (S : Type 0) : Type 0 where
   pub held : List ℕ
   pub state : S
@@ -22,12 +22,12 @@ pub record Between (S : Type 0) : Type 0 where
 abbrev pub between : {M S : Type 0} → (M → S) → Reading M → Option (List ℕ) → Between S
 between state reading written = record { held = reading.held; state = state reading.machine; written = append_known written reading.replies }
 
--- why a step may be refused: it reads nothing, and says that the writer failed exactly where it has
+-- why a step may be refused: it reads nothing, and says that the writer failed exactly if it has
 abbrev pub MayStopWriting : Refusal → Bool → Type 0
 MayStopWriting e has_failed = ((e ≡ NoMemory) × (has_failed ≡ false)) ⊎ ((e ≡ WriteFailed) × (has_failed ≡ true))
 
 module _ {S : Type 0} (may_reply : S → List ℕ → List ℕ → S → Type 0) where
-  -- the bytes seen so far are answered but for the line that is held, clipped to one byte over the limit
+  -- the bytes seen so far are answered except for the held line, clipped to one byte over the limit
   pub record Stands (old : S) (before : Option (List ℕ)) (seen : List ℕ) (here : Between S) : Type 0 where
     pub lines : List (List ℕ)
     pub rest : List ℕ
@@ -37,7 +37,7 @@ module _ {S : Type 0} (may_reply : S → List ℕ → List ℕ → S → Type 0)
     pub held_is : here.held ≡ take (line_limit + 1) rest
     pub grown : Appends before here.written text
 
-  -- this piece leads from what stands to what stands, whatever came before
+  -- this piece leads from one state between reads to another, whatever came before
   abbrev pub GoesOn : List ℕ → Between S → Between S → Type 0
   GoesOn piece here there = (old : S) (before : Option (List ℕ)) (seen : List ℕ) → Stands old before seen here → Stands old before (seen ++ piece) there
 

@@ -15,7 +15,7 @@ pub record Cuts (input : List ℕ) (lines : List (List ℕ)) (rest : List ℕ) :
   pub each : All IsLine lines
   pub partial : IsLine rest
 
--- what stands after the last line feed counts as a line where it has a byte
+-- the bytes after the last line feed count as a line if there are any
 abbrev pub last_line : List ℕ → List (List ℕ)
 last_line [] = []
 last_line (b ∷ bs) = (b ∷ bs) ∷ []

@@ -5,15 +5,14 @@ use Rattle.line_loop.specs.Logs.{Logged, Kept}
 use Rattle.line_loop.specs.Stopping.{IsUpToDate}
 
 module _ {S : Type 0} (may_reply : S → List ℕ → List ℕ → S → Type 0) (is_closed : S → Bool) where
-  -- when this read began, the writer held the replies to all lines of what was read before, they were flushed, and the
-  -- machine was open
+  -- when this read began, the writer held the replies to all lines that were read before, they were flushed, and the machine was open
   pub record HasAnswered (old : S) (before : Option (List ℕ)) (seen : List ℕ) (read : Logged) : Type 0 where
     pub here : S
     pub answered : IsUpToDate may_reply old before seen here read.held
     pub flushed : read.is_flushed ≡ true
     pub is_open : is_closed here ≡ false
 
-  -- so it was when each of these reads began, which in turn lead from what was seen to what is
+  -- so it was when each of these reads began, which in turn lead from the bytes seen before to those seen now
   abbrev pub HoldsNothingBack : S → Option (List ℕ) → List ℕ → List Logged → List ℕ → Type 0
   HoldsNothingBack old before seen [] new = new ≡ seen
   HoldsNothingBack old before seen (read ∷ reads) new = HasAnswered old before seen read × HoldsNothingBack old before (seen ++ read.bytes) reads new

@@ -1,13 +1,13 @@
--- Promise: what the log of a reader keeps of each read
+-- Promise: the facts that the log of a reader keeps of each read
 use Rattle.std.specs.Prelude.{◌≡◌, ℕ, Bool, List, [], ◌∷◌, ◌++◌, take, Option, None, Some, Result, Ok, Err}
 
--- one read: what the writer held when it began, where that is known, whether it was flushed, and the bytes that were read
+-- one read: the writer's bytes when it began, if they are known, whether they were flushed, and the bytes of the read
 pub record Logged : Type 0 where
   pub held : Option (List ℕ)
   pub is_flushed : Bool
   pub bytes : List ℕ
 
--- the bytes that a read into the buffer gave: none where there was an error
+-- the bytes that a read into the buffer gave: none if there was an error
 abbrev pub bytes_read : {E : Type 0} → Result ℕ E → List ℕ → List ℕ
 bytes_read (Ok n) buffer = take n buffer
 bytes_read (Err e) buffer = []

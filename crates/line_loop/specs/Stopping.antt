@@ -1,4 +1,4 @@
--- Promise: what a writer has taken where a loop over lines stops, at the end of its input or before
+-- Promise: the bytes that a writer has when a loop over lines stops, at the end of its input or before
 use Rattle.std.specs.Prelude.{◌≡◌, ◌≢◌, ℕ, Bool, true, false, List, ◌++◌, Option, ◌⊎◌}
 use Rattle.std.specs.Io.KnownBytes.{Appends, Consumes, IsAtEnd}
 use Rattle.edn.specs.declared.refusal.Refusal.{Refusal}
@@ -6,15 +6,15 @@ use Rattle.edn.specs.declared.refusal.Refusal.TheVariants.{NoMemory, ReadFailed,
 use Rattle.line_loop.specs.Lines.{Cuts, last_line}
 use Rattle.line_loop.specs.ReplyText.{Replies, IsReplyText}
 
--- what a loop may be refused for once it has begun
+-- the refusals of a loop once it has begun
 abbrev pub MayStop : Refusal → Type 0
 MayStop e = (e ≡ NoMemory) ⊎ (e ≡ ReadFailed) ⊎ (e ≡ WriteFailed)
 
--- what a reading may be refused for: that the reader failed exactly where it has
+-- the refusals of a reading: that the reader failed exactly if it has
 abbrev pub MayStopReading : Refusal → Bool → Type 0
 MayStopReading e has_failed = ((e ≡ NoMemory) × (has_failed ≡ false)) ⊎ ((e ≡ ReadFailed) × (has_failed ≡ true))
 
--- the lines that were read to their end: the rest is one where the input has ended
+-- the lines that were read to their end: the rest is one if the input has ended
 abbrev pub read_lines : Bool → List (List ℕ) → List ℕ → List (List ℕ)
 read_lines true lines rest = lines ++ last_line rest
 read_lines false lines rest = lines
@@ -60,8 +60,7 @@ module _ {S : Type 0} (may_reply : S → List ℕ → List ℕ → S → Type 0)
     pub at_end : IsAtEnd left'
     pub answered : IsAnswered old before input new after
 
-  -- the loop was refused: what the reader gave, and how far it was answered. The reader was at its end only where it
-  -- did not fail
+  -- the loop was refused: the reader's bytes, and how far they were answered. The reader was at its end only if it did not fail
   pub record Stops (old : S) (left left' : Option (List ℕ)) (before after : Option (List ℕ)) (refusal : Refusal) : Type 0 where
     pub seen : List ℕ
     pub has_ended : Bool

@@ -1,4 +1,4 @@
--- Promise: what is watched, whether it has failed, and whether what was written to it is flushed
+-- Promise: the log of an object, whether it has failed, and whether its written bytes are flushed
 use Rattle.std.specs.Prelude.{Bool}
 
 pub record Watch (T : Type 0) : Type 0 where

@@ -16,14 +16,14 @@ use std::sync::Wait;
 /// Reads lines, has the machine answer each, and writes and flushes the replies to the lines of one read before the next. At the
 /// reader's end, or once the machine is closed, it gives the machine's verdict.
 ///
-/// A last line without a line feed counts where it has a byte. Of a line of more than 65,536 bytes, its line feed not counted,
-/// the machine is told that there was one, and does not see it. Once the machine is closed nothing is read; the lines that were
-/// read with the one that closed it are still given to it. Beside the machine it holds a piece of 8,192 bytes, one line, and
-/// the replies to the lines that end in one piece. It takes the time of the bytes, and of the machine's answers.
+/// A last line without a line feed counts if it has a byte. If a line has more than 65,536 bytes, its line feed not counted, the machine
+/// learns that there was one, and does not see it. Once the machine is closed nothing is read; it still gets the lines that were read with
+/// the one that closed it. Beside the machine it holds a piece of 8,192 bytes, one line, and the replies to the lines that end in one
+/// piece. It costs O(bytes), and the machine's answers.
 ///
 /// # Errors
 ///
-/// `ReadFailed` and `WriteFailed` where the reader or the writer has failed, and else `NoMemory` where memory is refused. The
+/// `ReadFailed` and `WriteFailed` if the reader or the writer has failed, and else `NoMemory` if memory is refused. The
 /// writer has then taken a beginning of the replies.
 pub fn answer_lines<X: Wait, M: LineMachine, R: ReadsBeside<W>, W: Write + Failed + Flushes>(
     rt: &X,
@@ -34,8 +34,8 @@ pub fn answer_lines<X: Wait, M: LineMachine, R: ReadsBeside<W>, W: Write + Faile
 ) -> Result<M::Verdict, Refusal>
     requires reads { R.has_failed reader.old ≡ false }
     requires writes { W.has_failed writer.old ≡ false }
-    // The reader has not failed, all that it had is consumed, and the writer grew by a reply text of it; or the machine is
-    // closed, and all lines that were read to their line feed had their replies.
+    // The reader has not failed, all that it had is consumed, and the writer grew by a reply text of it. Or the machine is closed, and all
+    // lines that were read to their line feed had their replies.
     ensures done { IfOk result (λ verdict. (end : M.State) × M.shows end verdict
         × ((Finishes M.may_reply (M.state machine) end
         (R.remaining reader.old) (R.remaining reader.new)

@@ -2,8 +2,8 @@
 //! [`LineMachine`] answer each, and writes the reply to each before it reads further. [`read_whole`] reads all that a reader
 //! has, and [`write_text`] writes a whole text.
 //!
-//! A call takes memory only where its result can be `AllocError`, or a refusal for want of memory; a reader and a writer may take
-//! their own.
+//! A call allocates only if its result can be `AllocError`, or a refusal because memory ran out; a reader and a writer may allocate for
+//! themselves.
 #![tactic(auto)]
 
 mod answering;

@@ -9,7 +9,7 @@ pub trait LineMachine: Drop {
     /// Its state, as clauses see it. No value of it is made.
     type State;
 
-    /// What it says of its state at the end of the input.
+    /// Its answer about its state at the end of the input.
     type Verdict: Drop;
 
     ghost state: { Self → Self.State };
@@ -26,7 +26,7 @@ pub trait LineMachine: Drop {
     ///
     /// # Errors
     ///
-    /// Only where memory is refused.
+    /// Only if memory is refused.
     fn answer(&mut self, line: &[u8], reply: &mut Vec<u8>) -> Result<(), AllocError>
         requires within { length line.now ≤ line_limit }
         requires empty { reply.old.items ≡ [] }
@@ -37,7 +37,7 @@ pub trait LineMachine: Drop {
     ///
     /// # Errors
     ///
-    /// Only where memory is refused.
+    /// Only if memory is refused.
     fn answer_too_long(&mut self, reply: &mut Vec<u8>) -> Result<(), AllocError>
         requires { reply.old.items ≡ [] }
         ensures { OnOk result ((line : List ℕ) → line_limit < length line

@@ -49,8 +49,7 @@ fn read_some<R: Read + Failed>(reader: &mut R, piece: &mut [u8]) -> Result<Broug
     }
 }
 
-/// One read, beside a writer that stands so, of a reader that has not failed. An error after which `failed()` is still false
-/// counts as 0 bytes.
+/// One read of a reader that has not failed, with a writer in this state. An error after which `failed()` is still false counts as 0 bytes.
 pub(crate) fn read_beside<R: ReadsBeside<W>, W: Write + Flushes>(
     reader: &mut R,
     writer: &W,
@@ -87,7 +86,7 @@ pub(crate) fn read_beside<R: ReadsBeside<W>, W: Write + Flushes>(
     }
 }
 
-// What is said where memory is refused: that the reader has failed, where it has.
+// The refusal when memory is refused: that the reader has failed, if it has.
 fn want_of_memory<R: Failed>(reader: &R) -> Refusal
     ensures { MayStopReading result (R.has_failed reader.now) }
 {
@@ -98,11 +97,11 @@ fn want_of_memory<R: Failed>(reader: &R) -> Refusal
     }
 }
 
-/// All that the reader has, read to its end in pieces of 8,192 bytes. It takes the time of the bytes, and memory for them.
+/// All that the reader has, read to its end in pieces of 8,192 bytes. It costs O(bytes), and memory for them.
 ///
 /// # Errors
 ///
-/// `ReadFailed` where the reader has failed, and else `NoMemory` where memory is refused. Some of the bytes were then read.
+/// `ReadFailed` if the reader has failed, and else `NoMemory` if memory is refused. Some of the bytes were then read.
 pub fn read_whole<X: Wait, R: Read + Failed>(
     rt: &X,
     alloc: Global,

@@ -33,7 +33,7 @@ pub fn place_text(alloc: Global, refusal: &Refusal) -> Result<String, AllocError
     }
 }
 
-/// Appends the line of a refusal to a reply. It takes constant time, but where the reply's memory grows.
+/// Appends the line of a refusal to a reply. It takes constant time, but if the reply's memory grows.
 ///
 /// # Errors
 ///

@@ -1,4 +1,4 @@
-//! What stands between two reads.
+//! The state between two reads.
 ghost use Rattle.std.specs.Prelude.{◌≡◌, ◌+◌, ◌-◌, ◌<◌, ℕ, List, [], ◌++◌, take, length, Option, OnOk, OnErr, IfErr, IfSome, IfNone, true, false};
 ghost use Rattle.line_loop.specs.Lines.{IsLine, ended};
 ghost use Rattle.line_loop.specs.BetweenReads.{Reading, between, MayStopWriting, IsAnsweredFor, LineIsAnswered, GoesOn, StopsIn, Ends, StopsAtEnd};
@@ -17,8 +17,8 @@ use std::sync::Wait;
 /// Bytes of a line at most, its line feed not counted.
 pub const LINE_LIMIT: usize = 65_536;
 
-/// A machine, what is held of the line that is being read, at most one byte over the limit, and the replies that are
-/// not written yet: none between two reads.
+/// A machine, the held part of the line that is being read, at most one byte over the limit, and the unwritten replies: none between two
+/// reads.
 #[derive(Drop)]
 pub struct Session<M: LineMachine> {
     machine: M,
@@ -38,7 +38,7 @@ impl<M: LineMachine> Model for Session<M> {
 }
 
 impl<M: LineMachine> Session<M> {
-    /// A machine, of whose input nothing was read yet.
+    /// A machine that has read nothing of its input yet.
     pub fn new(alloc: Global, machine: M) -> Session<M>
         ensures machine { result.machine ≡ machine }
         ensures held { result.held ≡ [] }
@@ -66,12 +66,12 @@ impl<M: LineMachine> Session<M> {
         self.machine.closed()
     }
 
-    /// Takes a piece of the input: each line that ends in it is answered, the replies are written together and flushed, and
-    /// what follows the last of the lines is held.
+    /// Takes a piece of the input: answers each line that ends in it, writes the replies together and flushes them, and holds the rest
+    /// after the last line.
     ///
     /// # Errors
     ///
-    /// `WriteFailed`, where the writer has failed, and else `NoMemory`, after the replies that were made have been written
+    /// `WriteFailed`, if the writer has failed, and else `NoMemory`, after the replies that were made have been written
     /// and flushed.
     pub fn take_piece<X: Wait, W: Write + Failed + Flushes>(
         &mut self,
@@ -212,7 +212,7 @@ impl<M: LineMachine> Session<M> {
         answered
     }
 
-    // Answers a last line without a line feed, where there is one.
+    // Answers a last line without a line feed, if there is one.
     fn answer_last(&mut self) -> Result<(), Refusal>
         ensures ok { OnOk result ((written : Option (List ℕ)) → Ends M.may_reply
             (between M.state self.old written)

@@ -1,4 +1,4 @@
-//! Readers and writers that tell whether they have failed, and whether what was written is flushed.
+//! Readers and writers that report whether they have failed, and whether the written bytes are flushed.
 ghost use Rattle.std.specs.Prelude.{◌≡◌, ◌<◌, Bool, true, false, List, length, Option, None, IfOk, OnOk, OnErr, Ok};
 ghost use Rattle.std.specs.Io.{ReadsAtMost, WritesAtMost};
 ghost use Rattle.std.specs.Io.KnownBytes.{ReadConsumes, WriteAppends, Keeps};
@@ -28,12 +28,12 @@ pub trait Flushes {
         ensures { result ≡ is_flushed self.now };
 }
 
-/// A reader whose reads are seen beside the writer that answers them.
+/// A reader whose log has each read together with the state of the writer that answers it.
 ///
-/// A clause over its log says what the writer held at each read: that no reply is held back is said by the log of any such
-/// reader, of which the code that reads knows nothing.
+/// A clause over its log says that no reply is held back: the log has the writer's bytes at each read. The clause holds for any such
+/// reader, since the reading code knows nothing else of it.
 pub trait ReadsBeside<W: Write + Flushes>: Read + Failed {
-    // What came of each read, in turn, where it is known.
+    // The result of each read, in turn, if it is known.
     ghost log: { Self → Option (List Logged) } = { λ _. None };
 
     /// Reads as [`Read::read`] does, while the writer stands so.

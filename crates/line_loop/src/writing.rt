@@ -31,7 +31,7 @@ fn write_some<W: Write + Failed>(writer: &mut W, text: &[u8]) -> Result<usize, R
 ///
 /// # Errors
 ///
-/// `WriteFailed`, where the writer has failed. It has then taken a beginning of the text.
+/// `WriteFailed`, if the writer has failed. It has then taken a beginning of the text.
 pub fn write_text<X: Wait, W: Write + Failed>(
     rt: &X,
     writer: &mut W,
@@ -58,7 +58,7 @@ pub fn write_text<X: Wait, W: Write + Failed>(
 ///
 /// # Errors
 ///
-/// `WriteFailed`, where the writer has failed, in this flush or before.
+/// `WriteFailed`, if the writer has failed, in this flush or before.
 pub fn flush_all<X: Wait, W: Write + Failed + Flushes>(
     rt: &X,
     writer: &mut W,
@@ -76,7 +76,7 @@ pub fn flush_all<X: Wait, W: Write + Failed + Flushes>(
         if writer.flushed() {
             return Ok(());
         }
-        // `failed()` tells of its error.
+        // `failed()` reports its error.
         let _ = writer.flush();
     }
     unreachable!()

@@ -1,4 +1,4 @@
--- beside a blown queue, a read of a value that nobody has written
+-- with a queue over budget, a read of a value that nobody has written
 use Rattle.std.proofs.Common.{◌≡◌, ◌≢◌, ◌↔◌, ℕ, ◌+◌, ◌≤◌, ℤ, pos, ◌⊎◌, inl, inr, ⊎_elim, IsTrue, nat_eq, Option, Some, None, List, [], ◌∷◌, length, refl, sym, ap, ◌∙◌, subst, arith}
 use Rattle.std.specs.List.{Contains}
 use Rattle.std.proofs.lemmas.Bool.{cases_eq, eq-eqb, eqb-true, ne_eqb}
@@ -97,7 +97,7 @@ no_other_ok x h = ⊎_elim (not_ok asks x 3 (read 2 Nil) refl) (λ n. absurd (Co
 within : IsWithinBudget register 4 (asks ∷ answers ∷ [])
 within = within_at_last (asks ∷ []) answers no_other_ok (HasMoreThan register) 4 few
 
--- what all keys say
+-- the marks of all keys
 abbrev entries : List Entry
 entries = first ∷ second ∷ ok ∷ asks ∷ answers ∷ []
 

@@ -63,6 +63,6 @@ least k i b =
     (λ ne. absurd (none_blown (HasMoreThan fifo_queue) 4 (of_key k entries) (none_of k ne) i b.blown))
     (cases_eq k 1)
 
--- nothing is left beside the blown key
+-- nothing is left without the key over budget
 pub verdict_unknown : IsVerdict (λ key. FifoQueue) (λ key. 4) (all_entries two_enqueues_then_ok) (Unknown 1 2)
 verdict_unknown = ((λ k. nat_eq k 1), blown_is, (fronts_of_none (product (λ key. FifoQueue)), blown_at_four, least))

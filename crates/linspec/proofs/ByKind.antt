@@ -1,4 +1,4 @@
--- what each kind counts: what layers above use of it, kind by kind
+-- the count of each kind: the facts for the layers above, kind by kind
 use Rattle.std.proofs.Common.{◌≡◌, ℕ, ◌+◌, List, [], ◌∷◌, length, arith}
 use Rattle.std.specs.List.{Contains}
 use Rattle.models.specs.declared.model_kind.ModelKind.{ModelKind}
@@ -12,7 +12,7 @@ use Rattle.linspec.proofs.Lists.{Contains-head}
 use Rattle.linspec.proofs.Fronts.{IsLinearizable-end}
 use Rattle.linspec.proofs.CrashedReads.{CountsLess, less_with_reads}
 
--- what has an end has a legal order
+-- a history with an end has a legal order
 some_order : (o : Object) (marks : List Mark) (n : ℕ) → HasMoreThan o marks n → IsLinearizable o marks
 some_order o marks n h = first h.ends h.many h.each
   where
@@ -20,7 +20,7 @@ some_order o marks n h = first h.ends h.many h.each
     first [] many each = (let none : 0 ≡ n + 1 = many in absurd (omega arith))
     first (e ∷ ends) many each = (IsLinearizable-end o marks).1 (e, each e (Contains-head e ends))
 
--- something is counted only of a history that has a legal order, so a key that is dead is never blown
+-- something is counted only for a history that has a legal order, so a dead key is never over budget
 pub counted_order : (kind : ModelKind) (marks : List Mark) (n : ℕ) → CountsMoreThan kind marks n → IsLinearizable (object_of kind) marks
 counted_order Register = some_order (object_of Register)
 counted_order CasRegister = some_order (object_of CasRegister)

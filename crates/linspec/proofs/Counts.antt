@@ -25,7 +25,7 @@ no_longer_than {X} (x ∷ xs) ys once h =
     let b : length (c.0 ++ c.1) ≡ length c.0 + length c.1 = length-append c.0 c.1 in
     omega arith
 
--- a list that has each end once tells how many there are
+-- a list that has each end once has as many elements as there are ends
 pub more_ends : {counts : Op → Bool} (o : Object) (marks : List Mark) (ends : List (End o.State)) (n : ℕ) → Pairwise (λ e f. e ≢ f) ends → ((e : End o.State) → Contains ends e ↔ IsEndBy counts o marks e) → HasMoreThanBy counts o marks n ↔ (n < length ends)
 more_ends o marks ends n once each = (
   (λ h. let l : length h.ends ≤ length ends = no_longer_than h.ends ends h.distinct (λ e k. (each e).1 (h.each e k)) in let m : length h.ends ≡ n + 1 = h.many in omega arith),

@@ -1,4 +1,4 @@
--- fewer crashed operations count: what that does to ends, to blown keys and to verdicts
+-- fewer crashed operations count: the effect on ends, on keys over budget and on verdicts
 use Rattle.std.proofs.Common.{◌≡◌, ◌≢◌, ◌↔◌, ℕ, ◌≤◌, suc, ⊎_elim, Bool, IsTrue, List, [], ◌∷◌, length, refl, sym, ap, ◌∙◌, subst}
 use Rattle.std.specs.List.{Contains}
 use Rattle.models.specs.declared.model_kind.ModelKind.{ModelKind}
@@ -15,7 +15,7 @@ use Rattle.linspec.proofs.Lists.{Contains-nil, Contains-head, Contains-tail, Con
 use Rattle.linspec.proofs.Parts.{Records-unique, Marks-unique}
 use Rattle.linspec.proofs.Fates.{end_of_by}
 
--- what counts by the one counts by the other
+-- an operation that counts by the first predicate counts by the second
 abbrev pub CountsFewer : (Op → Bool) → (Op → Bool) → Type 0
 CountsFewer fewer more = (op : Op) → IsTrue (fewer op) → IsTrue (more op)
 
@@ -36,11 +36,11 @@ module _ (fewer more : Op → Bool) (less : CountsFewer fewer more) (o : Object)
       let f : (f : End o.State) × LeavesBy more o marks end.0 f × (f.state ≡ e.state) = end_of_by more o marks end.0 e.state v.legal in
       (f.0, (end.0, v, f.1, sym f.2))
 
-  -- an operation that is in the one order, and counts, is in the other, where both leave f
+  -- an operation that is in the one order, and counts, is in the other, if both leave f
   in_both : (a b : List Taken) (f : End o.State) → LeavesBy more o marks a f → LeavesBy more o marks b f → (id : ℕ) → Includes a id × HasCrashedBy fewer marks id → Includes b id × HasCrashedBy fewer marks id
   in_both a b f x y id h = (((y.crashed id).0 ((x.crashed id).1 (h.0, crashed_still id h.1))).0, h.1)
 
-  -- f tells which end that was
+  -- f names that end
   fuller_once : (e d f : End o.State) → IsFrom e f → IsFrom d f → e ≡ d
   fuller_once e d f a b =
       let v : LeavesBy fewer o marks a.0 e = a.1 in
@@ -77,7 +77,7 @@ module _ (fewer more : Op → Bool) (less : CountsFewer fewer more) (o : Object)
         each = λ f k. (let e = all.3 f k in (e.2.0, e.2.2));
       }
 
--- what the one count has more than n of, the other has too
+-- if the first count is more than n, so is the second
 abbrev pub CountsLess : Count → Count → Type 0
 CountsLess fewer more = (marks : List Mark) (n : ℕ) → fewer marks n → more marks n
 
@@ -109,7 +109,7 @@ module _ (fewer more : ModelKind → Count) (less : (kind : ModelKind) → Count
   none_by : NoneBy more → NoneBy fewer
   none_by none k b = none k (blown_by _ _ (less (kinds k)) _ _ b)
 
-  -- where no key is blown, what is counted does not matter
+  -- if no key is over budget, the count does not matter
   with_by : (c d : ModelKind → Count) → NoneBy c → NoneBy d → (blown : ℕ → Bool) (v : Verdict) → IsVerdictWithBy c kinds budgets entries blown v → IsVerdictWithBy d kinds budgets entries blown v
   with_by c d a b blown (Illegal key index) is = is
   with_by c d a b blown (Unknown key index) is = absurd (a key (index, is.1.blown))

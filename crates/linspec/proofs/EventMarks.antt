@@ -63,7 +63,7 @@ module _ (events : List Event) (at : ℕ) (e : Event) (l : at < length events) (
       ∙ ap (λ n. marks (entries_of (indexed_from 0 (take at events))) ++ marks (entries_by n (last_invocation (take at events)) (op_event e))) (let t : 0 + length (take at events) ≡ at = omega (arith, length-before events at l) in t)
       ∙ ap (λ m. marks (entries_of (indexed_from 0 (take at events))) ++ m) (sym marks_at-is)
 
-  -- what is kept of the marks after one more event
+  -- the kept marks after one more event
   pub marks-none : (all : List kept.KeptMark) → marks_of_kept all ≡ marks (entries_of (indexed_from 0 (take at events))) → [] ≡ marks_at events at → marks_of_kept all ≡ marks (entries_of (indexed_from 0 (take (at + 1) events)))
   marks-none all h none = h ∙ sym (append-nil _) ∙ ap (λ m. marks (entries_of (indexed_from 0 (take at events))) ++ m) none ∙ sym marks-more
 

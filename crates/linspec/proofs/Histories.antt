@@ -1,4 +1,4 @@
--- what the process rule gives for the entries of a history
+-- the consequences of the process rule for the entries of a history
 use Rattle.std.proofs.Common.{◌≡◌, ◌≢◌, ℕ, ◌+◌, ◌≤◌, ◌<◌, ⊎_elim, cond, nat_eq, Option, Some, None, List, [], ◌∷◌, ◌++◌, refl, sym, ap, ◌∙◌, subst, append_assoc, arith}
 use Rattle.std.specs.List.{Contains}
 use Rattle.std.proofs.lemmas.Bool.{cases_eq, eq-eqb, ne_eqb}
@@ -44,7 +44,7 @@ keyed_snoc D e keyed op_key one_key = record {
       (Contains-push_cases D e f h);
 }
 
--- what holds of the entries so far, before an event of index n or more
+-- the facts about the entries so far, before an event of index n or more
 record Good (n : ℕ) (last : ℕ → ℕ) (busy : ℕ → Option ℕ) (D : List Entry) : Type 0 where
   keyed : IsKeyed D
   well : AreWellFormed (marks D)

@@ -33,7 +33,7 @@ around (x ∷ order) id =
     (cases_eq x.id id)
 
 module _ (o : Object) (marks : List Mark) (id : ℕ) (op : Op) (new : IsNew marks id) where
-  -- an order of what was there before, without the new one
+  -- an order of the old operations, without the new one
   pub IsLegalOrder-without : (order : List Taken) (s : o.State) → IsLegalOrder o marks order s → IsLegalOrder o (marks ++ Invoked id op ∷ []) order s
   IsLegalOrder-without order s l =
       IsLegalOrder-more o marks (Invoked id op) order s l

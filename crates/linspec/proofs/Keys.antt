@@ -153,7 +153,7 @@ module _ (kinds : ℕ → ModelKind) where
           ),
         )
 
-    -- what the search finds, from the start states of the list on
+    -- the result of the search, from the start states of the list on
     pub found_by_search : (list : List (ℕ × ModelKind)) → AgreeWith kinds list → HaveKinds list marks
         → CanFinish Steps marks [] (map start_of list) ↔ IsLinearizable (product kinds) marks
     found_by_search list agree have =
@@ -172,7 +172,7 @@ module _ (kinds : ℕ → ModelKind) where
         covers : Covers (map start_of list)
         covers id op h = let r = have id op h in (any r.0 (object_of r.0).start, to_map start_of list (op.key, r.0) r.1)
 
--- the same, where the marks, the taken ones and the states are given by equations
+-- the same, if the marks, the taken ones and the states are given by equations
 pub answer_of_search : (list : List (ℕ × ModelKind)) (kept all : List Mark) (taken : List ℕ) (states : List Keyed) → kept ≡ all → taken ≡ [] → states ≡ map start_of list
     → (b : Bool) → IsTrue b ↔ CanFinish Steps kept taken states
     → (kinds : ℕ → ModelKind) → AgreeWith kinds list → HaveKinds list all → IsTrue b ↔ IsLinearizable (product kinds) all

@@ -62,7 +62,7 @@ abbrev EachFitsOne : List Taken → ℕ → Answer → Type 0
 EachFitsOne [] id answer = Unit {0}
 EachFitsOne (x ∷ order) id answer = OnTrue (nat_eq x.id id) (Fits x.found answer) × EachFitsOne order id answer
 
--- what each done operation finds fits its answer
+-- the value that each done operation finds fits its answer
 abbrev pub EachFits : List Mark → List Taken → Type 0
 EachFits [] order = Unit {0}
 EachFits (Invoked id op ∷ marks) order = EachFits marks order

@@ -95,7 +95,7 @@ same_bool false true f g = g refl
 same_bool false false f g = refl
 
 module _ (more : ModelKind → Count) (kinds : ℕ → ModelKind) (budgets : ℕ → ℕ) (entries : List Entry) (rising : IsRising entries) where
-  -- a key is blown at an index of its own
+  -- a key is over budget at an index of its own
   blown_entry : (k i : ℕ) → IsBlownKeyAtBy more kinds budgets entries k i → (e : Entry) × Contains entries e × (e.key ≡ k) × (e.index ≡ i)
   blown_entry k i b =
       let at : IsBlownAtBy (more (kinds k)) (budgets k) (of_key k entries) i = b.blown in

@@ -32,7 +32,7 @@ with_open e x t = record { state = t; pending = map.insert e.pending x.id x.foun
 abbrev pub with_crashed : {S : Type 0} → End S → Taken → S → End S
 with_crashed e x t = record { state = t; pending = e.pending; crashed = set.insert e.crashed x.id }
 
--- f is e with one more pending operation, which takes place last. Where it has crashed it is no read
+-- f is e with one more pending operation, which takes place last. If it has crashed it is not a read
 pub record Extends (o : Object) (marks : List Mark) (e : End o.State) (x : Taken) (f : End o.State) : Type 0 where
   pub invoked : Contains marks (Invoked x.id x.op)
   pub not_returned : ¬ HasReturned marks x.id
@@ -77,7 +77,7 @@ module _ (o : Object) (marks : List Mark) where
   leaves_reach (x ∷ xs) order e f v r =
       subst (λ l. Leaves o marks l f) (append_assoc order (x ∷ []) xs) (leaves_reach xs (order ++ x ∷ []) r.0 f (leaves_more order e r.0 x v r.1) r.2)
 
-  -- what is reached from an end is an end
+  -- an end that is reached from an end is an end
   pub ends_closed : (e : End o.State) (xs : List Taken) (f : End o.State) → IsEnd o marks e → Reaches o marks e xs f → IsEnd o marks f
   ends_closed e xs f end r = (end.0 ++ xs, leaves_reach xs end.0 e f end.1 r)
 
@@ -137,7 +137,7 @@ module _ (o : Object) (marks : List Mark) where
             (λ y h. pending y (Contains-tail x xs y h)),
       )
 
-  -- every end of an order that ends with pending operations is reached from an end of what stands before them
+  -- every end of an order that ends with pending operations is reached from an end of the operations before them
   pub end_before : (order xs : List Taken) (f : End o.State) → AllCount marks xs → Leaves o marks (order ++ xs) f → ((y : Taken) → Contains xs y → ¬ HasReturned marks y.id)
       → (e : End o.State) × Leaves o marks order e × Reaches o marks e xs f
   end_before order xs f all w pending =

@@ -49,7 +49,7 @@ abbrev pub LeadTo : List Keyed → ℕ → List (AnyState × Found) → Found �
 LeadTo states key outcomes found after =
     (b : AnyState) × IsOneOf outcomes (b, found) × (with_state states key b ≡ after)
 
--- the front of an order: the operations that are taken, and the states that they leave
+-- the prefix of an order: the operations that are taken, and the states that they leave
 pub record AttemptView : Type 0 where
   pub taken : List ℕ
   pub states : List Keyed

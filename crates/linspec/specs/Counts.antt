@@ -1,4 +1,4 @@
--- Promise: what is counted against the budget of a key, by the kind of its object (this project's own)
+-- Promise: the count that the budget of a key limits, by the kind of its object (this project's own)
 use Rattle.std.specs.Prelude.{ℕ, Bool, List}
 use Rattle.models.specs.declared.model_kind.ModelKind.{ModelKind}
 use Rattle.models.specs.declared.model_kind.ModelKind.TheVariants.{Register, CasRegister, Mutex, FifoQueue, Set, UnorderedQueue, WideRegister, WideSet}
@@ -8,8 +8,8 @@ use Rattle.events.specs.Events.{Mark}
 use Rattle.linspec.specs.Ends.{every, is_no_read, HasMoreThanBy}
 use Rattle.linspec.specs.LeanEnds.{HasMoreLeanEndsThan}
 
--- the history of a key of this kind has more than n of what is counted. A plain kind counts its ends, where counts says which
--- crashed operations count; a wide register its lean ends; of a wide set nothing is counted
+-- the history of a key of this kind has a count of more than n. A plain kind counts its ends, where counts says which crashed operations
+-- count. A wide register counts its lean ends, and a wide set nothing
 abbrev pub CountsMoreThanBy : (Op → Bool) → ModelKind → List Mark → ℕ → Type 0
 CountsMoreThanBy counts Register = HasMoreThanBy counts (object_of Register)
 CountsMoreThanBy counts CasRegister = HasMoreThanBy counts (object_of CasRegister)

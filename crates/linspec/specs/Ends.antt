@@ -1,4 +1,4 @@
--- Promise: what the legal orders of a key leave, and a key with too many of them (this project's own)
+-- Promise: the ends of the legal orders of a key, and a key with too many of them (this project's own)
 use Rattle.std.specs.Prelude.{◌≡◌, ◌≢◌, ◌↔◌, ℕ, ◌+◌, ◌≤◌, Bool, true, false, List, ◌∷◌, ◌++◌, length, Some, IsTrue}
 use Rattle.std.specs.List.{Contains}
 use Rattle.std.specs.Ordering.{nat_cmp}
@@ -15,7 +15,7 @@ use Rattle.events.specs.Events.Mark.{Invoked, Returned, Crashed}
 use Rattle.linspec.specs.Operations.{IsOpen}
 use Rattle.linspec.specs.Orders.{Taken, Includes, IsLegalOrder, Pairwise}
 
--- what a legal order leaves: the state, what each open operation in it found, the crashed operations in it that count
+-- the end of a legal order: the state, the answer of each open operation in it, and the crashed operations in it that count
 pub record End (S : Type 0) : Type 0 where
   pub state : S
   pub pending : map.FinMap nat_cmp Found
@@ -68,12 +68,12 @@ pub record IsBlownAtBy (more : Count) (budget : ℕ) (entries : List Entry) (i :
   pub is_ok : (id : ℕ) × (answer : Answer) × (event.mark ≡ Returned id answer)
   pub many : more (marks before) budget
 
--- the blown index is the least such
+-- the index at which the budget is exceeded is the least such
 pub record IsBlownIndexBy (more : Count) (budget : ℕ) (entries : List Entry) (i : ℕ) : Type 0 where
   pub blown : IsBlownAtBy more budget entries i
   pub least : (j : ℕ) → IsBlownAtBy more budget entries j → i ≤ j
 
--- the budget is blown where some ok event does so
+-- the budget is exceeded if it is so at some ok event
 abbrev pub IsBlownBy : Count → ℕ → List Entry → Type 0
 IsBlownBy more budget entries = (i : ℕ) × IsBlownAtBy more budget entries i
 

@@ -127,6 +127,6 @@ acquire_while_held =
     ∷ event 1 Invoke (acquire 4)
     ∷ []
 
--- the same, and then the other one has it too
+-- the same, and then the second client has it too
 abbrev pub mutex_held_twice : List Event
 mutex_held_twice = acquire_while_held ++ event 1 Ok (acquire 4) ∷ []

@@ -1,4 +1,4 @@
--- Promise: what is judged: a history as it stands, and the kind and the budget of every key (this project's own)
+-- Promise: the judged history: the present events, and the kind and the budget of every key (this project's own)
 use Rattle.std.specs.Prelude.{ℕ, ◌≤◌, nat_eq, not, unwrap_or, List, [], ◌∷◌, ◌++◌, take}
 use Rattle.std.specs.List.{filter, filter_map}
 use Rattle.std.specs.Map.{lookup}
@@ -10,7 +10,7 @@ use Rattle.linspec.specs.declared.verdict.Verdict.{Verdict}
 use Rattle.linspec.specs.Verdicts.{IsVerdict}
 use Rattle.linspec.specs.KeyHistory.{KeyHistory}
 
--- events in order, of so many threads; the kind and the budget of a key for which none was set, and those that were set
+-- events in order, of `concurrency` threads; the kind and the budget of a key for which none was set, and those that were set
 pub record JudgedHistory : Type 0 where
   pub concurrency : ℕ
   pub kind : ModelKind
@@ -63,7 +63,7 @@ each_once (k ∷ ks) = k ∷ filter (λ j. not (nat_eq j k)) (each_once ks)
 abbrev pub keys_in_order : List Event → List ℕ
 keys_in_order events = each_once (filter_map key_of events)
 
--- what is judged of one key: its own events, by its kind and its budget
+-- the judged history of one key: its own events, by its kind and its budget
 abbrev pub history_of_key : JudgedHistory → ℕ → KeyHistory
 history_of_key h key = record {
   kind = kind_of h key;

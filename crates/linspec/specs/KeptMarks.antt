@@ -7,7 +7,7 @@ use Rattle.events.specs.Events.Act.{Invokes}
 use Rattle.linspec.specs.declared.kept_marks.KeptMark.{KeptMark}
 use Rattle.linspec.specs.declared.kept_marks.KeptMark.TheVariants.{Invoked, Returned, Failed, Crashed}
 
--- what a kept mark says
+-- the mark of a kept mark
 abbrev pub mark_of : KeptMark → events.Mark
 mark_of (Invoked id op) = events.Mark.Invoked id op
 mark_of (Returned id answer) = events.Mark.Returned id answer
@@ -34,7 +34,7 @@ last_invocation_from i last (e ∷ events) = last_invocation_from (i + 1) (last_
 abbrev pub last_invocation : List Event → ℕ → ℕ
 last_invocation events = last_invocation_from 0 (λ _. 0) events
 
--- the list of what there is
+-- the list of the value, if there is one
 abbrev pub option_items : {X : Type 0} → Option X → List X
 option_items None = []
 option_items (Some x) = x ∷ []

@@ -1,4 +1,4 @@
--- Promise: what is judged of one key (this project's own)
+-- Promise: the judged history of one key (this project's own)
 use Rattle.std.specs.Prelude.{ℕ, Bool, List, [], ◌∷◌, ◌++◌, length, nat_lt}
 use Rattle.std.specs.List.{filter}
 use Rattle.models.specs.declared.model_kind.ModelKind.{ModelKind}
@@ -7,8 +7,7 @@ use Rattle.events.specs.Events.{entries_of}
 use Rattle.linspec.specs.declared.verdict.KeyStatus.{KeyStatus}
 use Rattle.linspec.specs.Verdicts.{IsKeyStatus}
 
--- what is judged of one key: the kind of its object, the budget, and its events with their indices, in the order in which
--- they came
+-- the judged history of one key: the kind of its object, the budget, and its events with their indices, in the order in which they came
 pub record KeyHistory : Type 0 where
   pub kind : ModelKind
   pub budget : ℕ

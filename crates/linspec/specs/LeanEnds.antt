@@ -35,8 +35,8 @@ pub record MayWrite (marks : List Mark) (id : ℕ) (v : ℤ) : Type 0 where
 abbrev pub MayRead : List Mark → ℕ → Type 0
 MayRead marks id = IsRead marks id × IsOpen marks id
 
--- a lean end: the state; the open and crashed writes that took place, since an answer needs them; who may still take place just
--- before the last write; and which values each open read may find
+-- a lean end. It has the state, and the open and crashed writes that took place, since an answer needs them. It has the operations that may
+-- still take place just before the last write, and the values that each open read may find
 pub record LeanEnd : Type 0 where
   pub state : Option ℤ
   pub needed : ℕ → Bool
@@ -47,7 +47,7 @@ pub record LeanEnd : Type 0 where
 abbrev pub start : LeanEnd
 start = record { state = None; needed = λ i. false; door = λ i. false; finds = λ i v. false }
 
--- the write takes place behind all others: what is open may still take place just before it, and each open read may find it
+-- the write takes place behind all others: open operations may still take place just before it, and each open read may find it
 pub record IsPutBehind (marks : List Mark) (e : LeanEnd) (id : ℕ) (v : ℤ) (f : LeanEnd)
     : Type 0 where
   pub state : f.state ≡ Some v
@@ -106,14 +106,14 @@ Answers marks e id answer f =
     ⊎ (IsRead marks id × (answer ≡ Nothing) × IsWithout e id f)
     ⊎ ((v : ℤ) × IsRead marks id × (answer ≡ Number v) × EndsRead marks e id v f)
 
--- what the mark makes of an end of the history before it
+-- the effect of the mark on an end of the history before it
 abbrev pub Becomes : List Mark → LeanEnd → Mark → LeanEnd → Type 0
 Becomes marks e (Invoked id op) f = Begins e id op f
 Becomes marks e (Returned id answer) f = Answers marks e id answer f
 Becomes marks e (Failed id) f = (¬ IsTrue (e.needed id)) × IsWithout e id f
 Becomes marks e (Crashed id) f = (IsRead marks id × IsWithout e id f) ⊎ ((¬ IsRead marks id) × (f ≡ e))
 
--- what more marks make of it
+-- the effect of several marks on it
 abbrev pub BecomesBy : List Mark → LeanEnd → List Mark → LeanEnd → Type 0
 BecomesBy marks e [] f = e ≡ f
 BecomesBy marks e (m ∷ more) f =
@@ -131,7 +131,7 @@ pub record IsAtMost (marks : List Mark) (e f : LeanEnd) : Type 0 where
   pub door : (i : ℕ) → IsTrue (e.door i) → IsTrue (f.door i)
   pub finds : (r : ℕ) (w : ℤ) → IsTrue (e.finds r w) → IsTrue (f.finds r w)
 
--- what the mark makes of these ends, without those that are at most another one
+-- the ends that the mark makes of these ends, without those that are at most another one
 pub record AreLeftBy (marks : List Mark) (m : Mark) (ends left : List LeanEnd) : Type 0 where
   pub each : (f : LeanEnd) → Contains left f → (e : LeanEnd) × Contains ends e × Becomes marks e m f
   pub all : (e f : LeanEnd) → Contains ends e → Becomes marks e m f

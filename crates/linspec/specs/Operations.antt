@@ -7,7 +7,7 @@ use Rattle.models.specs.declared.finding.Answer.{Answer}
 use Rattle.events.specs.Events.{Mark}
 use Rattle.events.specs.Events.Mark.{Invoked, Returned, Failed, Crashed}
 
--- the operation is invoked; it is done; it is open, which is invoked without a completion
+-- the operation is invoked; it is done; it is open, that is, invoked without a completion
 abbrev pub IsInvoked : List Mark → ℕ → Type 0
 IsInvoked marks id = (op : Op) × Contains marks (Invoked id op)
 

@@ -10,7 +10,7 @@ use Rattle.events.specs.Events.{Mark}
 use Rattle.events.specs.Events.Mark.{Invoked, Returned, Failed}
 use Rattle.linspec.specs.Operations.{HasReturned, Precedes}
 
--- an operation as it stands in an order, with what it finds there
+-- an operation at its place in an order, with its answer there
 pub record Taken : Type 0 where
   pub id : ℕ
   pub op : Op

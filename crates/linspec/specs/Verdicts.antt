@@ -24,8 +24,8 @@ abbrev pub EveryFrontIsLinearizable : Object → List Entry → Type 0
 EveryFrontIsLinearizable o entries =
     (front : List Entry) → IsFront front entries → IsLinearizable o (marks front)
 
--- Over where the budget is blown; else Dead where some front is not linearizable; else Alive. More says what is more than
--- the budget
+-- Over if the budget is exceeded; else Dead if some prefix is not linearizable; else Alive. `more` says when a count is more than the
+-- budget
 abbrev pub IsKeyStatusBy : Count → Object → ℕ → List Entry → KeyStatus → Type 0
 IsKeyStatusBy more o budget entries (Over i) = IsBlownIndexBy more budget entries i
 IsKeyStatusBy more o budget entries (Dead i) =
@@ -34,7 +34,7 @@ IsKeyStatusBy more o budget entries (Dead i) =
 IsKeyStatusBy more o budget entries Alive =
     IsWithinBudgetBy more budget entries × EveryFrontIsLinearizable o entries
 
--- the history without the events of the keys that blown says
+-- the history without the events of the keys for which blown is true
 abbrev pub set_aside : (ℕ → Bool) → List Entry → List Entry
 set_aside blown entries = filter (λ e. not (blown e.key)) entries
 
@@ -46,7 +46,7 @@ module _ (more : ModelKind → Count) (kinds : ℕ → ModelKind) (budgets : ℕ
   abbrev pub IsBlownKeyAtBy : ℕ → ℕ → Type 0
   IsBlownKeyAtBy k i = IsBlownIndexBy (more (kinds k)) (budgets k) (of_key k entries) i
 
-  -- the verdict, where blown says which keys are blown
+  -- the verdict, if blown is true of the keys over budget
   abbrev pub IsVerdictWithBy : (ℕ → Bool) → Verdict → Type 0
   IsVerdictWithBy blown (Illegal key index) =
       (last : Entry) × EndsShortestBadFront (product kinds) (set_aside blown entries) last
@@ -92,7 +92,7 @@ IsBlownKeyWithReads = IsBlownKeyBy CountsMoreThanWithReads
 abbrev pub IsVerdictWithReads : (ℕ → ModelKind) → (ℕ → ℕ) → List Entry → Verdict → Type 0
 IsVerdictWithReads = IsVerdictBy CountsMoreThanWithReads
 
--- what join promises: a pair of the list with the least Dead index, else one with the least Over index, else Legal
+-- the promise of join: a pair of the list with the least Dead index, else one with the least Over index, else Legal
 abbrev pub IsJoin : List (ℕ × KeyStatus) → Verdict → Type 0
 IsJoin statuses (Illegal key index) =
     Contains statuses (key, Dead index)

@@ -20,7 +20,7 @@ use models::{AnyState, Found, Key, ModelKind, Op};
 use std::alloc::{AllocError, Global};
 use std::marker::Model;
 
-/// The front of an order: its operations, and the state that they leave of each key.
+/// A prefix of an order: its operations, and the state that they leave of each key.
 #[derive(Drop)]
 struct Attempt {
     taken: Vec<usize>,
@@ -78,8 +78,7 @@ fn states_with(
     Ok(after)
 }
 
-/// What the operation comes to in the state of its key: each state after it, and what it finds there. Nothing where it cannot
-/// take place.
+/// The outcomes of the operation in the state of its key: each state after it, and its answer. Nothing if it cannot take place.
 fn outcomes_in(
     alloc: Global,
     states: &[(Key, AnyState)],
@@ -109,7 +108,7 @@ fn may_stand_after(marks: &[KeptMark], taken: &[usize], id: usize) -> bool
     !is_among(taken, id) && !has_failed(marks, id) && !precedes_some(marks, id, taken)
 }
 
-/// The order with the operation behind it, where the state of its key is now this one.
+/// The order with the operation behind it, if the state of its key is now this one.
 fn with_outcome(
     alloc: Global,
     order: &Attempt,
@@ -256,7 +255,7 @@ fn start_states(
 
 /// Whether the history is linearizable (Herlihy and Wing 1990, section 2.3), where the object of each key is of the kind
 /// that the list gives it. It tries each order in which the operations can take place one after another, and nothing
-/// else, so that it may serve as the measure of quicker ways. Nothing is said where the list lacks a key of the history,
+/// else, so that it may serve as the measure of quicker ways. Nothing is said if the list lacks a key of the history,
 /// or gives one two kinds.
 ///
 /// Meant for at most eight operations: the time grows with the number of their orders, and beyond that it is out of reach.

@@ -1,4 +1,4 @@
-//! What happens to the operations of a history, and questions about it, each answered by going through it all.
+//! The operations of a history with their events, and questions about it, each answered by going through it all.
 ghost use Rattle.std.specs.Prelude.{◌≡◌, ◌↔◌, ℕ, ◌<◌, IsTrue, IfOk, length};
 ghost use Rattle.std.specs.List.{Contains};
 ghost use Rattle.models.specs.declared.operation.Op.{Op};
@@ -13,7 +13,7 @@ use events::{Body, Event, EventKind, Process};
 use models::{Answer, Found, Op, fits};
 use std::alloc::{AllocError, Global};
 
-/// What happens to an operation, which the index of its invocation names.
+/// An event of an operation, which the index of its invocation names.
 #[derive(Drop)]
 pub enum KeptMark {
     Invoked(usize, Op),
@@ -32,7 +32,7 @@ fn is_invocation_by(event: &Event, process: u32) -> bool
     }
 }
 
-/// The index of the last invocation by the process, 0 where there is none.
+/// The index of the last invocation by the process, 0 if there is none.
 fn last_invocation_by(events: &[Event], process: u32) -> usize
     ensures { result ≡ last_invocation events.now process }
 {
@@ -45,7 +45,7 @@ fn last_invocation_by(events: &[Event], process: u32) -> usize
     last
 }
 
-// What the event of this place and kind says of the operation, whose process's last invocation is `last`.
+// The mark of the event of this place and kind, whose process's last invocation is `last`.
 fn kept_mark(at: usize, last: usize, kind: EventKind, op: &Op) -> Result<KeptMark, AllocError>
     ensures { IfOk result (λ mark. mark_of mark ≡ mark_by_act at last (act_by kind op.now)) }
 {
@@ -57,7 +57,7 @@ fn kept_mark(at: usize, last: usize, kind: EventKind, op: &Op) -> Result<KeptMar
     }
 }
 
-// What the event at this place says of an operation. A fault says nothing.
+// The mark of the event at this place. A fault has none.
 fn mark_at(events: &[Event], at: usize) -> Result<Option<KeptMark>, AllocError>
     requires { at < length events.now }
     ensures { IfOk result (λ mark. marks_of_kept (option_items mark) ≡ marks_at events.now at) }
@@ -72,7 +72,7 @@ fn mark_at(events: &[Event], at: usize) -> Result<Option<KeptMark>, AllocError>
     }
 }
 
-/// What happens to the operations of a history of these events. Takes the square of their number.
+/// The marks of a history of these events. Takes the square of their number.
 pub fn marks_of(alloc: Global, events: &[Event]) -> Result<Vec<KeptMark>, AllocError>
     ensures { IfOk result (λ all.
         marks_of_kept all.items ≡ marks (entries_of (indexed_from 0 events.now))) }
@@ -114,14 +114,14 @@ fn has_returned(marks: &[KeptMark], id: usize) -> bool
     marks.iter().any(|mark| returns(mark, id))
 }
 
-/// Whether the operation has failed. Takes the time of the marks.
+/// Whether the operation has failed. Costs O(marks).
 pub fn has_failed(marks: &[KeptMark], id: usize) -> bool
     ensures { IsTrue result ↔ Contains (marks_of_kept marks.now) (Failed id) }
 {
     marks.iter().any(|mark| fails(mark, id))
 }
 
-/// Whether `a` has returned before `b` is invoked (Herlihy and Wing 1990, section 2). Takes the time of the marks.
+/// Whether `a` has returned before `b` is invoked (Herlihy and Wing 1990, section 2). Costs O(marks).
 pub fn precedes(marks: &[KeptMark], a: usize, b: usize) -> bool
     ensures { IsTrue result ↔ Precedes (marks_of_kept marks.now) a b }
 {
@@ -144,7 +144,7 @@ fn agrees(mark: &KeptMark, id: usize, found: &Found) -> bool
     }
 }
 
-/// Whether what the operation found fits its answer, where it has returned. Takes the time of the marks.
+/// Whether what the operation found fits its answer, if it has returned. Costs O(marks).
 pub fn fits_answer(marks: &[KeptMark], id: usize, found: &Found) -> bool
     ensures { IsTrue result ↔ ((answer : Answer) →
         Contains (marks_of_kept marks.now) (Returned id answer) → Fits found.now answer) }
@@ -152,14 +152,14 @@ pub fn fits_answer(marks: &[KeptMark], id: usize, found: &Found) -> bool
     marks.iter().all(|mark| agrees(mark, id, found))
 }
 
-/// Whether the operation is among these. Takes the time of these.
+/// Whether the operation is among these. Costs O(their number).
 pub fn is_among(taken: &[usize], id: usize) -> bool
     ensures { IsTrue result ↔ Contains taken.now id }
 {
     taken.contains(&id)
 }
 
-/// Whether the mark is no return of an operation beside these.
+/// Whether the mark is not a return of an operation outside these.
 fn is_done(mark: &KeptMark, taken: &[usize]) -> bool
     ensures { IsTrue result ↔ ((id : ℕ) (answer : Answer) →
         mark_of mark.now ≡ Returned id answer → Contains taken.now id) }

@@ -26,7 +26,7 @@ pub fn empty_law()
     ensures all { (kinds : ℕ → ModelKind) → IsLinearizable (product kinds) [] }
 {}
 
-/// Each front of a linearizable history is linearizable, for one key and for all keys together.
+/// Each prefix of a linearizable history is linearizable, for one key and for all keys together.
 pub fn fronts_law()
     ensures one { (kind : ModelKind) (front entries : List Entry) →
         AreWellFormed (marks entries) → IsFront front entries
@@ -50,8 +50,7 @@ pub fn no_revival_law()
         → ¬ IsLinearizable (product kinds) (marks entries) }
 {}
 
-/// Neither an invocation of a new operation nor a crash kills: what was linearizable still is, for one key and for all
-/// keys together.
+/// Neither an invocation of a new operation nor a crash kills: a linearizable history stays so, for one key and for all keys together.
 pub fn never_kills_law()
     ensures invocation { (kind : ModelKind) (marks : List Mark) (id : ℕ) (op : Op) →
         IsNew marks id → IsLinearizable (object_of kind) marks
@@ -80,7 +79,7 @@ pub fn one_answer_law()
         → IsVerdictBy more kinds budgets entries w → v ≡ w }
 {}
 
-/// What the process rule gives for the entries of a history.
+/// Consequences of the process rule for the entries of a history.
 pub fn history_law()
     ensures keyed { (events : List (ℕ × Event)) →
         IsHistory events → IsKeyed (entries_of events) }
@@ -103,7 +102,7 @@ pub fn write_then_read_law()
         → ¬ IsLinearizable register (key_marks 7 (write_then_read v a)) }
 {}
 
-/// A pending write may have been read; where the write then fails, it may not.
+/// A pending write may have been read; if the write then fails, it may not.
 pub fn pending_write_law()
     ensures pending { IsLinearizable register (key_marks 7 read_of_pending_write) }
     ensures failed { ¬ IsLinearizable register (key_marks 7 read_of_failed_write) }
@@ -131,14 +130,14 @@ pub fn blown_index_law()
     ensures five { IsWithinBudget fifo_queue 5 (key_entries 1 two_enqueues_then_ok) }
 {}
 
-/// Where a budget is blown and nothing else is wrong, the verdict is Unknown, with the key and the blown index.
+/// If a key is over budget and nothing else is wrong, the verdict is Unknown, with the key and its index.
 pub fn unknown_law()
     ensures { IsVerdict (λ key. ModelKind.FifoQueue) (λ key. 4)
         (all_entries two_enqueues_then_ok) (Verdict.Unknown 1 2) }
 {}
 
-/// Illegal comes before Unknown: beside a blown key, a read of a value that nobody has written makes the verdict Illegal,
-/// with its own key and index.
+/// Illegal comes before Unknown: if one key is over budget, a read of a value that nobody has written makes the verdict Illegal, with its
+/// own key and index.
 pub fn illegal_before_unknown_law()
     ensures illegal { IsVerdict queue_at_one (λ key. 4)
         (all_entries bad_read_beside_blown) (Verdict.Illegal 2 4) }
@@ -146,8 +145,7 @@ pub fn illegal_before_unknown_law()
         (all_entries bad_read_beside_blown) (Verdict.Unknown key index) }
 {}
 
-/// What counts in an end: a crashed read has one end; and two, without it and with it, where each crashed operation
-/// counts.
+/// The operations that count in an end: a crashed read has one end; and two, without it and with it, if each crashed operation counts.
 pub fn what_counts_law()
     ensures one { HasMoreThan register (key_marks 7 crashed_read) 0 }
     ensures not_two { ¬ HasMoreThan register (key_marks 7 crashed_read) 1 }
@@ -155,8 +153,8 @@ pub fn what_counts_law()
     ensures not_three { ¬ HasMoreThanWithReads register (key_marks 7 crashed_read) 2 }
 {}
 
-/// What it changes that crashed reads are set aside: there are never more ends than with them; a key that is blown would be
-/// blown with them, at the same index or earlier; and where no key would be, the verdict is the same.
+/// The effect of setting crashed reads aside. There are never more ends than with them. A key that is over budget would be so with them, at
+/// the same index or earlier. If no key would be, the verdict is the same.
 pub fn crashed_reads_law()
     ensures fewer { (kind : ModelKind) (marks : List Mark) (n : ℕ) →
         HasMoreThan (object_of kind) marks n → HasMoreThanWithReads (object_of kind) marks n }

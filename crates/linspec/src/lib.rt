@@ -1,12 +1,11 @@
-//! What it means that a history is linearizable: the definitions, and laws that show them to be right. Every verdict is proved by
-//! these.
+//! The meaning of a linearizable history: the definitions, and laws that show them to be right. Every verdict is proved by these.
 //!
-//! `specs/Orders.antt` has legal orders and linearizability, of one object and of many; `Ends.antt` what legal orders leave of one
-//! key, and when they are more than a budget; `Counts.antt` what each kind counts against its budget; `Verdicts.antt` how a key
-//! stands and what joins the keys; `JudgedHistory.antt` all of this of a history of many keys with its kinds and budgets. [`brute`]
-//! computes linearizability by trying orders, for tests.
+//! `specs/Orders.antt` has legal orders and linearizability, of one object and of many. `Ends.antt` has the ends of the legal orders of one
+//! key, and when they are more than a budget. `Counts.antt` has the count of each kind, and `Verdicts.antt` how a key stands and what joins
+//! the keys. `JudgedHistory.antt` has all of this for a history of many keys with its kinds and budgets. [`brute`] computes linearizability
+//! by trying orders, for tests.
 //!
-//! A call takes memory only where its result can be `AllocError`, or a refusal for want of memory.
+//! A call allocates only if its result can be `AllocError`, or a refusal because memory ran out.
 #![tactic(auto)]
 
 mod brute_force;

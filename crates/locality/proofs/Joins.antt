@@ -76,7 +76,7 @@ not_yet o entries last s front is not_in =
         let c : length (front ++ x ∷ r) ≡ length (s.before ++ last ∷ []) = ap length e in
         s.shorter front is (omega arith)
 
--- of two fronts the one that is no longer is a front of the other
+-- of two prefixes the one that is not longer is a prefix of the other
 shorter_in : (us vs front r : List Entry) (x : Entry) → us ++ vs ≡ front ++ r → length front ≤ length us → Contains front x → Contains us x
 shorter_in us vs front r x e le h =
     ⊎_elim
@@ -139,7 +139,7 @@ module _ (more : ModelKind → Count) (kinds : ℕ → ModelKind) (budgets : ℕ
   front_key : (front : List Entry) → IsFront front rest → (k : ℕ) → IsFront (of_key k front) (of_key k rest)
   front_key front is k = (of_key k is.0, sym (filter-append (λ (e : Entry). nat_eq e.key k) front is.0) ∙ ap (of_key k) is.1)
 
-  -- a front of the rest, where the dead keys' parts are linearizable
+  -- a prefix of the rest, if the dead keys' parts are linearizable
   front_lin : (front : List Entry) → IsFront front rest → ((k i : ℕ) → Contains statuses (k, Dead i) → blown k ≡ false → IsLinearizable (object_of (kinds k)) (marks (of_key k front))) → IsLinearizable (product kinds) (marks front)
   front_lin front is dead_ok = IsLinearizable-join kinds front (IsKeyed-front front rest is rest_keyed) (AreWellFormed-front front rest is rest_well) (λ k. by_case k (case_of k))
     where
@@ -216,7 +216,7 @@ module _ (more : ModelKind → Count) (kinds : ℕ → ModelKind) (budgets : ℕ
         d.2,
       )
 
-  -- what join promises is the verdict
+  -- the promise of join is the verdict
   pub IsVerdict-join : (v : Verdict) → IsJoin statuses v → IsVerdictBy more kinds budgets entries v
   IsVerdict-join (Illegal key index) j = (blown, blown_is, illegal key index j)
   IsVerdict-join (Unknown key index) j = (blown, blown_is, unknown key index j)

@@ -1,4 +1,4 @@
--- the orders of all keys, merged into one: for each ok in turn, what its key's order has up to the operation that returns
+-- the orders of all keys, merged into one: for each ok in turn, the operations of its key's order up to the one that returns
 use Rattle.std.proofs.Common.{◌≡◌, ◌≢◌, ℕ, zero, suc, ◌≤◌, ◌<◌, ◌⊎◌, inl, inr, ⊎_elim, cond, nat_eq, List, [], ◌∷◌, ◌++◌, refl, sym, ap, ◌∙◌, subst, append_assoc, arith}
 use Rattle.std.specs.List.{Contains}
 use Rattle.std.proofs.lemmas.Bool.{cases_eq, cases_order, eq-eqb, ne_eqb}
@@ -59,7 +59,7 @@ module _ (entries : List Entry) (keyed : IsKeyed entries) (well : AreWellFormed 
   abbrev InTime : Taken → Taken → Type 0
   InTime x y = ¬ Precedes (marks entries) y.id x.id
 
-  -- what is left of each key's order, where the entries ds have been gone through
+  -- the rest of each key's order after the entries ds
   pub record Rest (ds : List Entry) (rem : ℕ → List Taken) : Type 0 where
     pub own : (k : ℕ) (x : Taken) → Contains (rem k) x → x.op.key ≡ k
     pub invoked : (k : ℕ) (x : Taken) → Contains (rem k) x → Contains (marks entries) (Invoked x.id x.op)
@@ -100,7 +100,7 @@ module _ (entries : List Entry) (keyed : IsKeyed entries) (well : AreWellFormed 
       (left_key n rem ds r k))
       (cases_order k n)
 
-  -- an entry that is no ok changes nothing
+  -- an entry other than an ok changes nothing
   skip : (ds : List Entry) (rem : ℕ → List Taken) (e : Entry) → Rest ds rem → ((k : ℕ) (x : Taken) (a : Answer) → Contains (rem k) x → e.mark ≢ Returned x.id a) → Rest (ds ++ e ∷ []) rem
   skip ds rem e r other = record {
     own = r.own;

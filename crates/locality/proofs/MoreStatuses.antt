@@ -9,7 +9,7 @@ use Rattle.linspec.specs.declared.verdict.Verdict.TheVariants.{Legal, Illegal, U
 use Rattle.linspec.specs.Verdicts.{IsJoin}
 
 module _ (statuses : List (ℕ × KeyStatus)) (key : ℕ) where
-  -- what holds of each pair of the list that has this status, and of the new pair
+  -- a fact about each pair of the list that has this status, and about the new pair
   each : (s : KeyStatus) (P : ℕ → ℕ → Type 0) (form : ℕ → KeyStatus) → ((k i : ℕ) → Contains statuses (k, form i) → P k i) → ((i : ℕ) → s ≡ form i → P key i)
       → (k i : ℕ) → Contains (statuses ++ (key, s) ∷ []) (k, form i) → P k i
   each s P form old new k i h =

@@ -63,7 +63,7 @@ AreWellFormed-filter p by_key entries keyed well before after m cut =
         (λ e h q. by_key e z (keyed.one_key e z (subst (λ l. Contains l e) (sym c.2) (Contains-append_left c.0 (z ∷ c.1) e h)) z_in (q ∙ ap id_of (sym is))) ∙ c.5)
         (well (marks c.0) (marks c.1) m (ap (λ w. marks c.0 ++ w ∷ marks c.1) (sym is) ∙ sym (marks-append c.0 (z ∷ c.1)) ∙ ap marks (sym c.2))))
 
--- the entries of a key, where that key is kept, and where it is set aside
+-- the entries of a key, where that key is kept, and if it is set aside
 module _ (blown : ℕ → Bool) (k : ℕ) where
   pub of_key-kept : (entries : List Entry) → blown k ≡ false → of_key k (filter (λ (e : Entry). not (blown e.key)) entries) ≡ of_key k entries
   of_key-kept [] e = refl

@@ -7,7 +7,7 @@ use linspec::{KeyStatus, Verdict};
 use models::Key;
 
 /// The verdict of a list of statuses: Illegal with the key and index of the least Dead; without a Dead Unknown with the
-/// key and index of the least Over; else Legal. Where the list has the status of each key of a history, once, this is
+/// key and index of the least Over; else Legal. If the list has the status of each key of a history, once, this is
 /// the verdict on that history (`join_law`). Total, takes no memory, and the time of the list's length. (This project's
 /// own, on the locality of linearizability: Herlihy and Wing 1990, section 3.1.)
 pub fn join(statuses: &[(Key, KeyStatus)]) -> Verdict
@@ -20,9 +20,8 @@ pub fn join(statuses: &[(Key, KeyStatus)]) -> Verdict
     verdict
 }
 
-/// The verdict of a list of statuses with one more, from the verdict of that list: so it is kept up to date while keys come,
-/// and the statuses need not be gone over. Of no statuses the verdict is Legal (`no_keys_law`). Total, takes no memory, and
-/// constant time.
+/// The verdict of a list of statuses with one more, from the verdict of that list. So it is kept up to date while keys come, and the
+/// statuses need not be read again. Without statuses the verdict is Legal (`no_keys_law`). Total, takes no memory, and constant time.
 pub fn join_with(verdict: Verdict, key: Key, status: KeyStatus) -> Verdict
     ensures { (statuses : List (ℕ × KeyStatus)) → IsJoin statuses verdict
         → IsJoin (statuses ++ (key, status) ∷ []) result }
@@ -52,7 +51,7 @@ fn with_dead(verdict: Verdict, key: Key, index: u32) -> Verdict
     }
 }
 
-// The verdict of a list with one more blown key.
+// The verdict of a list with one more key over budget.
 fn with_over(verdict: Verdict, key: Key, index: u32) -> Verdict
     ensures { (statuses : List (ℕ × KeyStatus)) → IsJoin statuses verdict
         → IsJoin (statuses ++ (key, KeyStatus.Over index) ∷ []) result }

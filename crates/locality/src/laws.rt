@@ -13,7 +13,7 @@ ghost use Rattle.linspec.specs.Verdicts.{IsVerdict, IsVerdictBy, IsRising, IsKey
 ghost use Rattle.locality.specs.OneKey.{IsOfKey, verdict_of};
 ghost use Rattle.locality.specs.BadKeys.{HaveSameBadKeys};
 
-/// Locality: a history is linearizable exactly where each key's part of it is (Herlihy and Wing 1990, section 3.1).
+/// Locality: a history is linearizable exactly if each key's part of it is (Herlihy and Wing 1990, section 3.1).
 pub fn locality_law()
     ensures { (kinds : ℕ → ModelKind) (entries : List Entry) →
         IsKeyed entries → AreWellFormed (marks entries)
@@ -21,8 +21,8 @@ pub fn locality_law()
         ↔ ((k : ℕ) → IsLinearizable (object_of (kinds k)) (marks (of_key k entries))) }
 {}
 
-/// The verdict on the whole history is the join of the statuses of its keys: what `join` promises of a list that has the
-/// status of each key, once, is the verdict.
+/// The verdict on the whole history is the join of the statuses of its keys: for a list with the status of each key, once, the promise of
+/// `join` is the verdict.
 pub fn join_law()
     ensures { (kinds : ℕ → ModelKind) (budgets : ℕ → ℕ) (entries : List Entry)
         (statuses : List (ℕ × KeyStatus)) (v : Verdict) →
@@ -40,7 +40,7 @@ pub fn join_law_by()
         → IsVerdictBy (CountsMoreThanBy counts) kinds budgets entries v }
 {}
 
-/// Where all operations are of one key, the verdict is that key's status; where there is none, it is Legal; whichever
+/// Where all operations are of one key, the verdict is that key's status; if there is none, it is Legal; whichever
 /// crashed operations count.
 pub fn one_key_law()
     ensures one { (counts : Op → Bool) (kinds : ℕ → ModelKind) (budgets : ℕ → ℕ) (key : ℕ)
@@ -57,8 +57,8 @@ pub fn no_keys_law()
     ensures { IsJoin [] Verdict.Legal }
 {}
 
-/// The verdict of a list of statuses depends on its dead and its over keys alone: not on the keys that are alive, nor on
-/// the order, nor on how often a pair is there.
+/// The verdict of a list of statuses depends on its dead and its over keys alone. It does not depend on the keys that are alive, on the
+/// order, or on how often a pair is there.
 pub fn bad_keys_law()
     ensures { (xs ys : List (ℕ × KeyStatus)) (v : Verdict) →
         HaveSameBadKeys xs ys → IsJoin xs v → IsJoin ys v }

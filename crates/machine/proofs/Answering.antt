@@ -1,4 +1,4 @@
--- What an operation finds is an answer that its ok may have
+-- The value that an operation finds is an answer that its ok may have
 use Rattle.std.proofs.Common.{◌≡◌, ℤ, Bool, true, false, if◌then◌else◌, Option, Some, None, List, [], ◌∷◌, refl, ap, subst, ⊎_elim}
 use Rattle.std.specs.Ordering.{int_eq}
 use Rattle.models.specs.declared.operation.Op.{Op}

@@ -18,7 +18,7 @@ first_one (P ∷ tests) zero (suc j) a b = absurd (a b.0)
 first_one (P ∷ tests) (suc i) zero a b = absurd (b a.0)
 first_one (P ∷ tests) (suc i) (suc j) a b = ap suc (first_one tests i j a.1 b.1)
 
--- the refusal is that of the first test that fails, of so many
+-- the refusal is that of the first test that fails, of `count` tests
 pub record FailsFirst (tests : List (Type 0)) (count : ℕ) (why_of : ℕ → Refusal) (why : Refusal) : Type 0 where
   pub index : ℕ
   pub below : index < count

@@ -1,5 +1,5 @@
--- What a trial on a strict store keeps: the serves that took place, in their order, are a legal order of the history, which
--- leaves the true states
+-- The invariant of a trial on a strict store: the serves that took place, in their order, are a legal order of the history, which leaves
+-- the true states
 use Rattle.std.proofs.Common.{◌≡◌, ◌≢◌, ℕ, ◌+◌, ◌%◌, ◌<◌, ⊎_elim, Option, Some, None, List, [], ◌∷◌, ◌++◌, length, slice_get, slice_set, refl, sym, ap, ◌∙◌, subst, arith, length-append}
 use Rattle.std.specs.List.{Contains, cons_option}
 use Rattle.std.proofs.lemmas.List.{append-nil}
@@ -36,8 +36,8 @@ use Rattle.machine.proofs.OfTickets.{IsOfTicket, of_others, of_more, of_served, 
 use Rattle.machine.proofs.Pushes.{marks_in, marks-push, history-push, no_history, may_follow}
 use Rattle.machine.proofs.Opens.{Opens, opens_none, opens_invocation, opens_ok, opens_fail, opens_info, opens_strike, no_marks}
 
--- where the operation of a ticket stands in the order: not there before it is served and where it was refused; there, with
--- what it found, where it is done; there, where its reply was lost
+-- where the operation of a ticket stands in the order. It is not there before it is served and if it was refused. It is there, with its
+-- answer, if it is done, and there if its reply was lost
 abbrev pub Stands : List Taken → ℕ → Option Outcome → Type 0
 Stands order id None = ¬ Includes order id
 Stands order id (Some Refused) = ¬ Includes order id
@@ -47,7 +47,7 @@ Stands order id (Some (Done found)) = (x : Taken) × Contains order x × (x.id �
 abbrev pub IsOrder : (kind : ModelKind) → List Event → List Taken → Truth kind → Type 0
 IsOrder kind events order truth = IsLegalOrder (product (λ _. kind)) (marks_in events) order truth
 
--- what holds where the operations of these tickets have taken place, in turn
+-- the facts after the operations of these tickets have taken place, in turn
 pub record Holds (kind : ModelKind) (m : Trial) (numbers : List ℕ) : Type 0 where
   pub history : IsHistoryOf m.concurrency m.events
   pub opens : Opens m.events
@@ -147,7 +147,7 @@ stands_more order x id (Some Refused) ne s = λ i. ⊎_elim (λ h. s (i.0, h, i.
 stands_more order x id (Some Lost) ne s = (s.0, Contains-append_left order (x ∷ []) s.0 s.1, s.2)
 stands_more order x id (Some (Done found)) ne s = (s.0, Contains-append_left order (x ∷ []) s.0 s.1, s.2, s.3)
 
--- what a serve does to the order
+-- the effect of a serve on the order
 record Extended (kind : ModelKind) (events : List Event) (order : List Taken) (id : ℕ) (op : Op) (outcome : Outcome) (truth' : Truth kind) : Type 0 where
   order' : List Taken
   legal : IsOrder kind events order' truth'
@@ -348,7 +348,7 @@ holds_end kind numbers (move ∷ moves) m end h leads =
     subst (Holds kind end) (with_rest numbers (took_place move) (serves_of moves))
     (holds_end kind (numbers ++ cons_option (took_place move) []) moves leads.0 end (holds_move kind numbers m leads.0 move h leads.1) leads.2)
 
--- what no trial of a strict store lacks: a history, and a legal order of it by the serves
+-- each trial of a strict store has a history, and a legal order of it by the serves
 pub holds_always : (c n : ℕ) (kind : ModelKind) (moves : List Move) (m : Trial) → IsCount n → Leads (opening c n kind) moves m → Holds kind m (serves_of moves)
 holds_always c n kind moves m count leads = holds_end kind [] moves (opening c n kind) m (holds_opening c n kind count) leads
 

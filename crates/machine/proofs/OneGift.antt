@@ -1,4 +1,4 @@
--- What is drawn, and which fault strikes next, is determined
+-- The drawn item, and the next fault, are determined
 use Rattle.std.proofs.Common.{◌≡◌, ◌≢◌, ⊎_elim, Option, Some, None, sym, ◌∙◌}
 use Rattle.std.proofs.lemmas.Option.{same_Some}
 use Rattle.events.specs.declared.event.Fault.{Fault}

@@ -87,7 +87,7 @@ not_none o some none = true≢false (sym some ∙ ap is_some none)
 pub same_ticket : (tickets : List Ticket) (number : ℕ) (t u : Ticket) → HasTicket tickets number t → HasTicket tickets number u → t ≡ u
 same_ticket tickets number t u a b = same_Some t u (sym a.0 ∙ b.0)
 
--- what holds of a ticket with the number holds of each
+-- a fact about a ticket with the number holds for each
 of_each : (P : Ticket → Type 0) (m : Machine) (number : ℕ) (t : Ticket) → HasTicket m.tickets number t → P t → (u : Ticket) → HasTicket m.tickets number u → P u
 of_each P m number t has p u also = subst P (same_ticket m.tickets number t u has also) p
 
@@ -192,7 +192,7 @@ passes m new (Finish number) (Says v) may = (
 passes m new Nemesis (Struck fault index) may = ((fault, may.1.0, may.1.1), (may.1.2.2, tt))
 passes m new command reply may = absurd may
 
--- what fails a test is not answered
+-- a command that fails a test is not answered
 stands : (m new : Machine) (command : Command) (reply : Reply) (why : Refusal) → Replies m command reply new → Fails m command why → ⊥
 stands m new command reply why may fails = not_refused (tests m command) (count command) (why_of command) why fails (passes m new command reply may)
 

@@ -80,7 +80,7 @@ drawn c events tickets thread op below part a = record {
       below = below;
     }
 
--- what the store found answers the operation
+-- the value that the store found answers the operation
 found_answers : (s : Cluster) (e : ℕ) (op : Op) (found : Found) (row : List Held) → Serves s e op found row → Answers op.name op.part found
 found_answers s e op found row t =
     (let k : SomeKind t.held.state = some_kind t.held.state in

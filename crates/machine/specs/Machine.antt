@@ -46,7 +46,7 @@ pub record Machine : Type 0 where
 
 -- The opening
 
--- how it is opened: threads, the kind and the budget of a key for which none is set, what draws, what strikes, and the store
+-- how it is opened: threads, the kind and the budget of a key for which none is set, the generator, the schedule of faults, and the store
 pub record Setup : Type 0 where
   pub concurrency : ℕ
   pub kind : ModelKind
@@ -141,7 +141,7 @@ abbrev pub HasOperation : Machine → ℕ → Type 0
 HasOperation m thread =
     (op : Op) × (after : Machine) × Gives m (Thread thread) (Gets (AnOp op)) after
 
--- the fault that strikes next, and the machine that is without it: the first of the schedule, where it is due, else one
+-- the fault that strikes next, and the machine that is without it: the first of the schedule, if it is due, else one
 -- that the nemesis draws
 abbrev pub NextFault : Machine → Fault → Machine → Type 0
 NextFault m fault after =
@@ -250,7 +250,7 @@ abbrev pub Runs : Machine → List (Command × Result Reply Refusal) → Machine
 Runs m [] end = m ≡ end
 Runs m (x ∷ run) end = (next : Machine) × MayStep m x.0 x.1 next × Runs next run end
 
--- the ticket whose operation takes place, if one does: it is served, and is done or its reply is lost
+-- the ticket whose operation takes place, if one does: a serve that is done or loses its reply
 abbrev pub served_by : Command → Reply → Option ℕ
 served_by (Serve number) (Served (WasDone found)) = Some number
 served_by (Serve number) (Served Lost) = Some number

@@ -1,4 +1,4 @@
--- Promise: what tickets stand for, and how many of them were served (this project's own)
+-- Promise: the meaning of tickets, and the number of served ones (this project's own)
 use Rattle.std.specs.Prelude.{◌≡◌, ℕ, ◌+◌, ◌<◌, false, if◌then◌else◌, is_some, Option, Some, None, List, [], ◌∷◌, slice_get}
 use Rattle.models.specs.declared.operation.Op.{Op}
 use Rattle.processes.specs.MoveRule.{thread_of}
@@ -20,7 +20,7 @@ pub record StandsFor (c : ℕ) (events : List Event) (t : Ticket) : Type 0 where
   pub thread : thread_of c t.process ≡ t.thread
   pub below : t.thread < c
 
--- what was found is an answer of the operation
+-- the value that was found is an answer of the operation
 abbrev pub IsAnswered : Op → Option Outcome → Type 0
 IsAnswered op None = Unit {0}
 IsAnswered op (Some (Done found)) = Answers op.name op.part found

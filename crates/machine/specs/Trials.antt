@@ -26,7 +26,7 @@ use Rattle.test_store.specs.Store as store
 use Rattle.test_store.specs.Store.{Cluster, MayServe, after_fault}
 use Rattle.machine.specs.declared.ticket.Ticket.{Ticket}
 
--- the history so far, for so many threads, the store, and the operations that were drawn
+-- the history so far, for `concurrency` threads, the store, and the operations that were drawn
 pub record Trial : Type 0 where
   pub concurrency : ℕ
   pub events : List Event
@@ -52,7 +52,7 @@ invocation process op = record {
   body = AnOp op;
 }
 
--- the part of an ok: what was found, or, where nothing is to tell, what the invocation carries
+-- the part of an ok: the answer, or, if there is none, the part of the invocation
 abbrev pub part_of : Found → Part → Part
 part_of Nothing part = part
 part_of (Reg None) part = Nil
@@ -60,8 +60,8 @@ part_of (Reg (Some v)) part = Int v
 part_of (Item v) part = Int v
 part_of (Elements members) part = Set members
 
--- how an operation completes whose serve came to this: done, it returns with what it found; refused, it fails; with its
--- reply lost, it crashes
+-- how an operation completes after this outcome of its serve: done, it returns with its answer; refused, it fails; with its reply lost, it
+-- crashes
 abbrev pub completion : ℕ → Op → Outcome → Event
 completion process op (Done found) = record {
   index = None;
@@ -162,7 +162,7 @@ abbrev pub Leads : Trial → List Move → Trial → Type 0
 Leads m [] end = m ≡ end
 Leads m (move ∷ moves) end = (next : Trial) × MayMove m move next × Leads next moves end
 
--- the ticket whose operation takes place in the move, if one does: it is served, and is done or its reply is lost
+-- the ticket whose operation takes place in the move, if one does: a serve that is done or loses its reply
 abbrev pub took_place : Move → Option ℕ
 took_place (Serves number (Done found)) = Some number
 took_place (Serves number Lost) = Some number
@@ -183,7 +183,7 @@ AreOfTickets tickets numbers order = ⊥
 abbrev pub entries_in : Trial → List Entry
 entries_in m = entries_of (indexed_from 0 m.events)
 
--- what was found makes an ok of the operation that the tables and the process rule allow
+-- the value that was found makes an ok of the operation that the tables and the process rule allow
 abbrev pub Answers : Name → Part → Found → Type 0
 Answers name part found =
     IsOkPart name (part_of found part) × IsRepeat Ok name part (part_of found part)

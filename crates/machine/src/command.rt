@@ -4,12 +4,12 @@ use linspec::Verdict;
 use models::{Key, ModelKind};
 use test_store::Outcome;
 
-/// What the one-thread object is told.
+/// The commands of the one-thread object.
 #[derive(Drop)]
 pub enum Command {
     /// An event comes next in the history.
     Append(Event),
-    /// The history is cut to its first so many events.
+    /// The history is cut to its first n events.
     Rewind(u32),
     /// A key is an object of this kind.
     SetModel(Key, ModelKind),
@@ -38,7 +38,7 @@ pub enum Reply {
     Pending,
     /// There is none for it, now or later.
     Done,
-    /// What the serve came to.
+    /// The outcome of the serve.
     Served(Outcome),
     /// The fault that struck, and the index of its event.
     Fault { fault: Fault, index: u32 },

@@ -19,10 +19,10 @@ ghost use Rattle.linspec.specs.JudgedHistory.{kind_of, entries_in, IsVerdictOn};
 ghost use Rattle.machine.specs.Machine.{Machine, Setup, opening, most_tickets, MayStep, Runs, serves_in, AreOfTrial};
 ghost use Rattle.machine.specs.Tickets.{served_of, StandsFor, IsAnswered, AreTickets};
 
-/// No false alarm: whatever draws, serves, finishes, faults, budgets and questions lead there, refused ones among them,
-/// from an opening with a strict store, the history is linearizable (Herlihy and Wing 1990) over all keys together: the
-/// serves that took place are a legal order of it. So no verdict on it is Illegal. `Core::step` of `harness` cites it, and
-/// so do the laws `no_false_alarm_on_a_tape` of `board` and `no_false_alarm_in_a_run` of `clients`.
+/// No false alarm. Whatever draws, serves, finishes, faults, budgets and questions lead there, refused ones among them, from an opening
+/// with a strict store, the history is linearizable (Herlihy and Wing 1990). This holds over all keys together: the serves that took place
+/// are a legal order of it. So no verdict on it is Illegal. `Core::step` of `harness` cites it, and so do the laws
+/// `no_false_alarm_on_a_tape` of `board` and `no_false_alarm_in_a_run` of `clients`.
 pub fn no_false_alarm()
     ensures order { (setup : Setup) (run : List (Command × Result Reply Refusal))
         (m : Machine) → setup.mode ≡ Strict → IsCount setup.replicas → AreOfTrial run
@@ -58,8 +58,8 @@ pub fn history_law()
         → IsHistoryOf new.judged.concurrency new.judged.events }
 {}
 
-/// No version of the store is greater than the number of tickets that were served, of which there are fewer than 2^32. So a
-/// serve never wants a version that is no u64: `harness` rests on it where it serves.
+/// No version of the store is greater than the number of served tickets, and there are fewer than 2^32 of these. So a serve never needs a
+/// version above the greatest u64, and `harness` depends on it.
 pub fn counted_law()
     ensures opening { (setup : Setup) →
         VersionsWithin (opening setup).store (served_of (opening setup).tickets) }

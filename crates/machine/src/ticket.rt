@@ -10,7 +10,7 @@ pub struct Ticket {
     /// The index of its invocation.
     pub index: u32,
     pub op: Op,
-    /// What serving it came to, where it was served.
+    /// The outcome of serving it, if it was served.
     pub outcome: Option<Outcome>,
     /// Whether its invocation was cut from the history.
     pub stale: bool,

@@ -12,10 +12,9 @@ ghost use Rattle.test_store.specs.Store.{IsCount};
 ghost use Rattle.machine.specs.Trials.{Answers, Trial, Move, opening, Leads, serves_of, AreOfTickets, entries_in};
 ghost use Rattle.machine.specs.Examples.{IsDoneTrial, IsLostTrial, IsRefusedTrial};
 
-/// No false alarm: whatever moves lead there from the opening, where the store is strict, the history is linearizable
-/// (Herlihy and Wing 1990), over all keys together: the serves that took place are a legal order of it. So no verdict on it
-/// is Illegal, with whatever budgets, and so with whatever keys set aside. The law [`no_false_alarm`](crate::no_false_alarm)
-/// says it of the one-thread object.
+/// No false alarm. Whatever moves lead there from the opening, if the store is strict, the history is linearizable (Herlihy and Wing 1990),
+/// over all keys together: the serves that took place are a legal order of it. So no verdict on it is Illegal, with whatever budgets, and
+/// so with whatever keys set aside. The law [`no_false_alarm`](crate::no_false_alarm) says it of the one-thread object.
 pub fn no_trial_is_a_false_alarm()
     ensures order { (c n : ℕ) (kind : ModelKind) (moves : List Move) (m : Trial)
         → IsCount n → Leads (opening c n kind) moves m
@@ -31,9 +30,8 @@ pub fn no_trial_is_a_false_alarm()
         → ¬ IsVerdict (λ _. kind) budgets (entries_in m) (Verdict.Illegal key index) }
 {}
 
-/// Where an operation takes place in an object, what it finds makes an ok that the tables and the process rule allow. So a
-/// served operation that is open can be completed wherever the history has room. The law [`tickets_law`](crate::tickets_law)
-/// rests on it.
+/// If an operation takes place in an object, its answer makes an ok that the tables and the process rule allow. So a served operation that
+/// is open can be completed wherever the history has room. The law [`tickets_law`](crate::tickets_law) rests on it.
 pub fn answers_law()
     ensures { (kind : ModelKind) (s t : (object_of kind).State) (op : Op) (found : Found)
         → (object_of kind).Steps s op found t → Answers op.name op.part found }

@@ -25,12 +25,12 @@ own_at UnorderedQueue s op r h = h
 own_at WideRegister s op r h = h
 own_at WideSet s op r h = h
 
--- what holds by the state's own kind holds by any kind whose state it is
+-- a fact about the state's own kind holds for any kind whose state it is
 pub outcomes-own : (a : AnyState) (op : Op) (r : Result (Vec (AnyState × Found) Global) AllocError)
     → IfOk r (λ outcomes. AreOwnOutcomes a op outcomes.items) → (kind : ModelKind) (s : (object_of kind).State) → a ≡ any kind s → IfOk r (λ outcomes. outcomes.items ≡ outcomes_of kind s op)
 outcomes-own a op r h kind s e = own_at kind s op r (subst (λ b. IfOk r (λ outcomes. AreOwnOutcomes b op outcomes.items)) e h)
 
--- what the outcomes say of the steps
+-- the facts about the steps from the outcomes
 module _ (kind : ModelKind) (op : Op) where
   listed_from : (xs : List ((object_of kind).State × Found)) (a : AnyState) (found : Found) → IsOneOf {X = AnyState × Found} (map (λ outcome. (any kind outcome.0, outcome.1)) xs) (a, found)
       → (t : (object_of kind).State) × (a ≡ any kind t) × IsOneOf {X = (object_of kind).State × Found} xs (t, found)

@@ -47,7 +47,7 @@ set_at_most_one _ _ s = omega arith
 alone : {S : Type 0} (xs : List (S × Found)) → length xs ≤ 1 → AreApart xs
 alone xs few i j d lt fits = absurd (omega arith)
 
--- one outcome at most is no more than so many, and none leaves the state of another
+-- one outcome at most is no more than n, and none leaves the state of another
 abbrev pub AreFew : {S : Type 0} → ℕ → List (S × Found) → Type 0
 AreFew most xs = (IsTrue false ↔ (most < length xs)) × AreApart xs
 

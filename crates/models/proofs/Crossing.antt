@@ -1,4 +1,4 @@
--- A state of any kind may go to another thread, and threads may share one.
+-- A state of any kind can be sent to another thread, and threads may share one.
 use denote.Param.Send.{IsSend, IsSync, sendable}
 use Rattle.std.proofs.Crossing.{crosses}
 use Rattle.values.proofs.Crossing.{items_send, items_sync, multiset_send, multiset_sync, spans_send, spans_sync}

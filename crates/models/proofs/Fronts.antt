@@ -1,4 +1,4 @@
--- what the table of a queue comes to, by its front
+-- the results of the table of a queue, by its front
 use Rattle.std.proofs.Common.{◌≡◌, ◌<◌, ℤ, pos, List, [], ◌∷◌, get_or, length, drop, refl, arith}
 use Rattle.models.specs.declared.operation.Name.TheVariants.{Dequeue}
 use Rattle.models.specs.declared.operation.Part.TheVariants.{Nil}

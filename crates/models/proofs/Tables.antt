@@ -1,4 +1,4 @@
--- what the tables of the objects come to
+-- the results of the tables of the objects
 use Rattle.std.proofs.Common.{◌≡◌, ◌↔◌, ℕ, ℤ, inl, Bool, true, false, if◌then◌else◌, Option, Some, None, List, [], ◌∷◌, ◌++◌, map, refl, sym, ap, subst}
 use Rattle.std.specs.Ordering.{int_eq}
 use Rattle.std.proofs.lemmas.List.{append-nil, append_assoc}
@@ -11,7 +11,7 @@ use Rattle.models.specs.Objects.{IsOneOf, cas_register_apply, mutex_apply, fifo_
 use Rattle.models.specs.Runs.{Runs, enqueued, dequeued}
 use Rattle.models.proofs.Steps.{same_outcome, Runs-append}
 
--- what a cas comes to, by whether the state is its first value
+-- the result of a cas, by whether the state is its first value
 abbrev by_test : ℤ → Bool → List (Option ℤ × Found)
 by_test b true = (Some b, Done) ∷ []
 by_test b false = []

@@ -1,4 +1,4 @@
--- what the table of the queue without an order comes to
+-- the results of the table of the queue without an order
 use Rattle.std.proofs.Common.{◌≡◌, ◌≢◌, ◌↔◌, ℕ, zero, suc, ◌+◌, ◌<◌, ◌≤◌, ℤ, pos, ◌<ℤ◌, inl, inr, ⊎_elim, cond, int_lt, List, [], ◌∷◌, ◌++◌, map, length, get_or, refl, sym, ap, ◌∙◌, subst, arith}
 use Rattle.std.specs.Ordering.{int_eq}
 use Rattle.std.specs.List.{Contains}
@@ -25,7 +25,7 @@ use Rattle.values.proofs.PutIn.{no_member, first_member, later_member, member_ca
 use Rattle.values.proofs.Bags.{with_one-later, with_one-here, without_one-here, without_one-later, same_int, other_int, Contains-values_of, IsAscending-values_of}
 use Rattle.models.proofs.Steps.{same_outcome, Runs-append}
 
--- what a dequeue comes to
+-- the result of a dequeue
 from_taken : (s values t : List ℤ) (found : Found) → IsOneOf (taken_from s values) (t, found) → (v : ℤ) × Contains values v × (t ≡ without_one v s) × (found ≡ Item v)
 from_taken s [] t found h = absurd h
 from_taken s (v ∷ values) t found h =

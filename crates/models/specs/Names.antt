@@ -27,6 +27,6 @@ text_of Enqueue = codes "enqueue"
 text_of Dequeue = codes "dequeue"
 text_of Add = codes "add"
 
--- what was found is such a thing; or there is none
+-- the optional value is such a thing; or there is none
 abbrev pub Finds : {X : Type 0} → Option X → (X → Type 0) → Type 0
 Finds {X} found P = MatchOption found ((x : X) → ¬ P x) P

@@ -25,7 +25,7 @@ pub record Object : Type 1 where
   pub Steps : State → Op → Found → State → Type 0
 
 -- a table: its states, the one it starts in, and the outcomes of an operation in a state, each the state after it and
--- what is found. Where none is listed, the operation can't take place
+-- what is found. If none is listed, the operation can't take place
 pub record Table : Type 1 where
   pub State : Type 0
   pub start : State
@@ -67,7 +67,7 @@ abbrev pub cas_register_apply : Name → Part → Option ℤ → List (Option �
 cas_register_apply Cas (Pair a b) (Some s) = if int_eq s a then (Some b, Done) ∷ [] else []
 cas_register_apply name part s = register_apply name part s
 
--- a mutex, held or not: acquire takes place where it is free, release where it is held
+-- a mutex, held or not: acquire takes place if it is free, release if it is held
 abbrev pub mutex_apply : Name → Part → Bool → List (Bool × Found)
 mutex_apply Acquire Nil false = (true, Done) ∷ []
 mutex_apply Release Nil true = (false, Done) ∷ []
@@ -89,8 +89,8 @@ set_apply _ _ s = []
 abbrev pub taken_from : List ℤ → List ℤ → List (List ℤ × Found)
 taken_from s values = map (λ v. (without_one v s, Item v)) values
 
--- a queue without an order, its values ascending: enqueue v puts one v in; dequeue takes one of any value out and finds it,
--- so it has one outcome for each of the values, by ascending value
+-- a queue without an order, its values ascending: enqueue v puts one v in. dequeue takes one of any value out and finds it, so it has one
+-- outcome for each of the values, by ascending value
 abbrev pub unordered_apply : Name → Part → List ℤ → List (List ℤ × Found)
 unordered_apply Enqueue (Int v) s = (with_one v s, Done) ∷ []
 unordered_apply Dequeue Nil s = taken_from s (values_of s)
@@ -139,7 +139,7 @@ table_of WideSet = record {
   apply = λ op s. set_apply op.name op.part s;
 }
 
--- the object of each kind is that of its table. A wide kind has the table of its plain kind: what is counted of it differs
+-- the object of each kind is that of its table. A wide kind has the table of its plain kind: only the count differs
 abbrev pub object_of : ModelKind → Object
 object_of kind = object_by (table_of kind)
 
@@ -161,8 +161,8 @@ set_of_numbers = object_of SetOfNumbers
 abbrev pub unordered_queue : Object
 unordered_queue = object_of UnorderedQueue
 
--- what was found agrees with the answer. A register answers its state, or nil, which says nothing; a queue the item that
--- was taken out alone, a set its members alone; what finds nothing agrees with every answer
+-- the value that was found agrees with the answer. A register answers its state, or nil, which says nothing. A queue answers the item that
+-- was taken out alone, and a set its members alone. An operation that finds nothing agrees with every answer
 abbrev pub Fits : Found → Answer → Type 0
 Fits Done answer = Unit {0}
 Fits (Reg s) Nothing = Unit {0}

@@ -20,7 +20,7 @@ use crate::{each_kind, of_kind};
 use std::alloc::{AllocError, Global};
 use values::{Items, Multiset, Spans};
 
-/// A state of an object of some kind, where the kind is known only as the program runs.
+/// A state of an object whose kind is known only as the program runs.
 pub enum AnyState {
     Register(Option<i64>),
     CasRegister(Option<i64>),
@@ -103,8 +103,8 @@ impl AnyState {
         each_kind!(state_kind; self)
     }
 
-    /// An equal state; `AllocError` where there is no memory for it, or where as many share the items or values of a queue as can
-    /// be counted. Takes the time of the spans of a set, and else constant time: the items and values of queues are shared.
+    /// An equal state; `AllocError` if there is no memory for it, or if as many share the items or values of a queue as can be counted.
+    /// Costs O(spans) for a set, and else constant time: the items and values of queues are shared.
     pub fn copy(&self, alloc: Global) -> Result<AnyState, AllocError>
         ensures { IfOk result (λ other. other ≡ self.now) }
     {
@@ -118,10 +118,9 @@ impl AnyState {
         each_kind!(same_state; self, other)
     }
 
-    /// The outcomes of the operation in the state, each once and in the order of the kind's table: the state after it and what it
-    /// finds. None where it can't take place; `AllocError` where there is no memory for a new state or for the list. Leaves the
-    /// state as it was. Takes the time of the spans of a set, and of its members for a read; else, for each outcome, time that
-    /// grows with the logarithm of the items or values.
+    /// The outcomes of the operation in the state, each once and in the order of the kind's table: the state after it and what it finds.
+    /// None if it can't take place; `AllocError` if there is no memory for a new state or for the list. Leaves the state as it was. Costs
+    /// O(spans) for a set, and O(members) for a read of it. Else each outcome costs O(log n) in the items or values.
     pub fn apply(&self, alloc: Global, op: &Op) -> Result<Vec<(AnyState, Found)>, AllocError>
         ensures { (kind : ModelKind) (s : (object_of kind).State) → self.now ≡ any kind s
             → IfOk result (λ outcomes. outcomes.items ≡ outcomes_of kind s op.now) }

@@ -1,4 +1,4 @@
-//! What operations find, and what the answers of clients say that they found.
+//! The values that operations find, and the answers of clients.
 ghost use Rattle.std.specs.Prelude.{◌≡◌, ◌↔◌, IsTrue, IfOk};
 ghost use Rattle.models.specs.Objects.{Fits, answer_of};
 
@@ -6,21 +6,21 @@ use crate::operation::Part;
 use std::alloc::AllocError;
 use values::Members;
 
-/// What an operation finds where it takes place (a sequential specification; Herlihy and Wing 1990, section 2).
+/// The value that an operation finds where it takes place (a sequential specification; Herlihy and Wing 1990, section 2).
 #[derive(Drop)]
 pub enum Found {
-    /// Nothing to tell, as for a write.
+    /// No answer, as for a write.
     Unit,
     /// The state of a register, nil at first.
     Reg(Option<i64>),
-    /// The front of a queue.
+    /// The first item of a queue.
     Item(i64),
     /// The members of a set.
     Elements(Members),
 }
 
 impl Found {
-    /// An equal value, which shares the members of a set. Takes constant time, and no memory; `AllocError` where as many
+    /// An equal value, which shares the members of a set. Takes constant time, and no memory; `AllocError` if as many
     /// share them as can be counted.
     pub fn copy(&self) -> Result<Found, AllocError>
         ensures { IfOk result (λ other. other ≡ self.now) }
@@ -47,7 +47,7 @@ impl Found {
     }
 }
 
-/// What the completion of an operation says that it found.
+/// The answer in the completion of an operation.
 #[derive(Drop)]
 pub enum Answer {
     /// Nothing, which is nil.
@@ -73,7 +73,7 @@ impl Answer {
         }
     }
 
-    /// An equal value, which shares the members of a set. Takes constant time, and no memory; `AllocError` where as many
+    /// An equal value, which shares the members of a set. Takes constant time, and no memory; `AllocError` if as many
     /// share them as can be counted.
     pub fn copy(&self) -> Result<Answer, AllocError>
         ensures { IfOk result (λ other. other ≡ self.now) }
@@ -87,8 +87,8 @@ impl Answer {
     }
 }
 
-/// Whether what was found agrees with the answer: a register answers its state or nil, a queue its front alone, a set its members
-/// alone; what finds nothing agrees with every answer (this project's own).
+/// Whether the value that was found agrees with the answer. A register answers its state or nil, a queue its front alone, and a set its
+/// members alone. An operation that finds nothing agrees with every answer (this project's own).
 pub fn fits(found: &Found, answer: &Answer) -> bool
     ensures { IsTrue result ↔ Fits found.now answer.now }
 {

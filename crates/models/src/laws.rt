@@ -42,9 +42,9 @@ pub fn queue_law()
         Runs fifo_queue [] (map (enqueued key) values ++ map (dequeued key) values) [] }
 {}
 
-/// A queue without an order gives each value back as often as it was put in, and no more often: at every moment what was
-/// enqueued is what dequeues have found and what is still in. In which order it was enqueued does not matter: dequeues may find
-/// the values in any order. And a dequeue finds any value that is in, and takes one of it out.
+/// A queue without an order gives each value back as often as it was put in, and no more often. At every moment the enqueued values are
+/// those that dequeues have found and those that are still in. In which order it was enqueued does not matter: dequeues may find the values
+/// in any order. And a dequeue finds any value that is in, and takes one of it out.
 pub fn unordered_queue_law()
     ensures each_once { (steps : List (Op × Found)) (t : List ℤ) (v : ℤ) →
         Runs unordered_queue [] steps t

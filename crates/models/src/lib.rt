@@ -1,10 +1,10 @@
-//! The sequential objects: operations, what they find, and what answers say of it.
+//! The sequential objects: operations, the values that they find, and answers.
 //!
-//! An object is a table ([`SeqObject`]): a state to start with, and for each operation in a state the outcomes, each a state after
-//! it and what it finds; no outcome where it can't take place. [`fits`] says whether an answer is one of what was found. The kinds
-//! and the names of operations stand in one list each, and what tells them apart are macros over these lists.
+//! An object is a table ([`SeqObject`]): a state to start with, and for each operation in a state the outcomes, each a state after it and
+//! its answer. There is no outcome if it can't take place. [`fits`] says whether an answer agrees with the value that was found. The
+//! kinds and the names of operations stand in one list each, and the functions that tell them apart are macros over these lists.
 //!
-//! A call takes memory only where its result can be `AllocError`, or a refusal for want of memory.
+//! A call allocates only if its result can be `AllocError`, or a refusal because memory ran out.
 #![tactic(auto)]
 
 pub mod any_state;

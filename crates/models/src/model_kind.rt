@@ -2,8 +2,8 @@
 ghost use Rattle.std.specs.Prelude.{◌≡◌};
 ghost use Rattle.models.specs.Names.{name_of, Finds};
 
-/// The kinds of sequential object, named as in Knossos. What the operations of each do is this project's own table
-/// (`Objects` of the crate's definitions); nothing rests on what a model of Knossos does.
+/// The kinds of sequential object, named as in Knossos. The operations of each are this project's own table (`Objects` of the crate's
+/// definitions); nothing depends on Knossos's models.
 #[derive(Clone, Copy, Debug, PartialEq, Eq)]
 pub enum ModelKind {
     /// Holds a value, nil at first: read, write.
@@ -27,9 +27,9 @@ pub enum ModelKind {
 /// The list of the kinds: `each_kind!(callback; args)` is `callback!(args; KIND "name", ..)`. KIND is the kind's variant in
 /// each enum that has one for each kind, and its [`SeqObject`](crate::SeqObject).
 ///
-/// Each function that tells the kinds apart, here and in the crates above, is such a callback. So a further kind is a line
-/// here, implementations of `SeqObject` and `OfKind`, a variant in each of these enums, and its table and name among the
-/// definitions (with its case where a proof goes by kinds).
+/// Each function that tells the kinds apart, here and in the crates above, is such a callback. So a further kind is a line here,
+/// implementations of `SeqObject` and `OfKind`, and a variant in each of these enums. Its table and name are among the definitions (with
+/// its case if a proof goes by kinds).
 #[macro_export]
 macro_rules! each_kind {
     ($callback:ident; $($args:tt)*) => {
@@ -86,7 +86,7 @@ impl ModelKind {
         each_kind!(name_of_kind; self)
     }
 
-    /// The kind of this name, or `None` where there is none.
+    /// The kind of this name, or `None` if there is none.
     pub fn of_name(text: &str) -> Option<ModelKind>
         ensures { Finds result (λ kind. text.now ≡ name_of kind) }
     {

@@ -9,7 +9,7 @@ use crate::operation::{Name, Op, Part};
 use crate::outcomes::put_outcome;
 use std::alloc::{AllocError, Global};
 
-/// A mutex, free at first: an acquire takes place where it is free, a release where it is held. Its state is whether it
+/// A mutex, free at first: an acquire takes place if it is free, a release if it is held. Its state is whether it
 /// is held.
 pub struct Mutex;
 

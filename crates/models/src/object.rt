@@ -1,4 +1,4 @@
-//! What each sequential object has: a sequential specification (Herlihy and Wing 1990, section 2).
+//! The parts of each sequential object: a sequential specification (Herlihy and Wing 1990, section 2).
 ghost use Rattle.std.specs.Prelude.{true, ◌≡◌, ◌↔◌, ◌≤◌, ◌<◌, ◌++◌, IsTrue, IfOk, OnOk, OnErr, List, length};
 ghost use Rattle.models.specs.declared.operation.Op.{Op};
 ghost use Rattle.models.specs.declared.finding.Found.{Found};
@@ -25,28 +25,26 @@ pub trait SeqObject {
     fn start(alloc: Global) -> Self::State
         ensures { result ≡ start_state };
 
-    /// An equal state; `AllocError` where there is no memory for it, or where as many share it as can be counted. Takes the
-    /// time of the spans of a set, and else constant time: the items and values of queues are shared.
+    /// An equal state; `AllocError` if there is no memory for it, or if as many share it as can be counted. Costs O(spans) for a set, and
+    /// else constant time: the items and values of queues are shared.
     fn copy(alloc: Global, state: &Self::State) -> Result<Self::State, AllocError>
         ensures { IfOk result (λ other. other ≡ state.now) };
 
-    /// Whether the operation has more outcomes in the state than so many, for a caller who will not make them all. They leave
-    /// different states. Takes no memory, and of a queue without an order the time of so many
-    /// values, each with the logarithm of all.
+    /// Whether the operation has more than `most` outcomes in the state, for a caller who will not make them all. They leave different
+    /// states. Takes no memory. For a queue without an order it costs O(`most`), each with the logarithm of all values.
     fn has_more_outcomes(state: &Self::State, op: &Op, most: usize) -> bool
         requires { 1 ≤ most }
         ensures more { IsTrue result ↔ (most < length (apply_to op.now state.now)) }
         ensures apart { AreApart (apply_to op.now state.now) };
 
-    /// Whether a state is one value without memory of its own, and each operation has at most one outcome in it, so that what each
-    /// operation does in a state is told at little cost. Takes constant time.
+    /// Whether a state is one value without memory of its own, and each operation has at most one outcome in it. Then the effect of each
+    /// operation in a state has a short record. Takes constant time.
     fn has_scalar_states() -> bool
         ensures { IsTrue result → (op : Op) (state : Self.State) → length (apply_to op state) ≤ 1 };
 
-    /// Puts the outcomes of the operation in the state behind those in the list, so that a caller who keeps the list has no
-    /// list made for each step; `AllocError` where there is no memory for a new state or for the list, which is then as before.
-    /// Leaves the state as it was. Takes the time of the spans of a set, and of its members for a read; else, for each outcome,
-    /// time that grows with the logarithm of the items or values.
+    /// Puts the outcomes of the operation in the state behind those in the list, so that a caller who keeps the list has no list made for
+    /// each step. `AllocError` if there is no memory for a new state or for the list, which is then as before. Leaves the state as it was.
+    /// Costs O(spans) for a set, and O(members) for a read of it. Else each outcome costs O(log n) in the items or values.
     fn append_outcomes(
         alloc: Global,
         state: &Self::State,
@@ -63,9 +61,9 @@ pub trait SeqObject {
     /// A read leaves the state as it was.
     ghost reads: { ReadsLeave (of_table Self.State start_state apply_to) };
 
-    /// The outcomes of the operation in the state, each once: the state after it and what it finds. None where it can't take
-    /// place; `AllocError` where there is no memory for a new state or for the list. Leaves the state as it was. Takes the time
-    /// of [`append_outcomes`](Self::append_outcomes).
+    /// The outcomes of the operation in the state, each once: the state after it and what it finds. None if it can't take place;
+    /// `AllocError` if there is no memory for a new state or for the list. Leaves the state as it was. Costs what
+    /// [`append_outcomes`](Self::append_outcomes) costs.
     final fn apply(
         alloc: Global,
         state: &Self::State,

@@ -22,11 +22,11 @@ pub enum Name {
 }
 
 /// The list of the names: `each_name!(callback; args)` is `callback!(args; NAME "text" PART HOW [PARTS], ..)`. PART is the
-/// variant of [`Part`] that an invocation carries, and PARTS are those that its ok may carry. HOW is `answers` where the ok
-/// says what was found, and `repeats` where it repeats what the invocation carries.
+/// variant of [`Part`] that an invocation carries, and PARTS are those that its ok may carry. HOW is `answers` if the ok
+/// says what was found, and `repeats` if it repeats what the invocation carries.
 ///
-/// Each function that tells the names apart, here and in the crates above, is such a callback. So a further name is a line
-/// here, a variant of [`Name`], and its cases among the definitions: its text, what it does to an object, and its parts.
+/// Each function that tells the names apart, here and in the crates above, is such a callback. So a further name is a line here, a variant
+/// of [`Name`], and its cases among the definitions: its text, its effect on an object, and its parts.
 #[macro_export]
 macro_rules! each_name {
     ($callback:ident; $($args:tt)*) => {
@@ -68,7 +68,7 @@ impl Name {
         each_name!(text_of_name; self)
     }
 
-    /// The name that is spelled so, or `None` where there is none.
+    /// The name that is spelled so, or `None` if there is none.
     pub fn of_text(text: &str) -> Option<Name>
         ensures { Finds result (λ name. text.now ≡ text_of name) }
     {
@@ -76,7 +76,7 @@ impl Name {
     }
 }
 
-/// What an operation carries beside its name and key.
+/// The value of an operation in addition to its name and key.
 #[derive(Drop)]
 pub enum Part {
     /// Nothing.
@@ -90,7 +90,7 @@ pub enum Part {
 }
 
 impl Part {
-    /// An equal part, which shares the members of a set. Takes constant time, and no memory; `AllocError` where as many
+    /// An equal part, which shares the members of a set. Takes constant time, and no memory; `AllocError` if as many
     /// share them as can be counted.
     pub fn copy(&self) -> Result<Part, AllocError>
         ensures { IfOk result (λ other. other ≡ self.now) }
@@ -126,7 +126,7 @@ pub struct Op {
 }
 
 impl Op {
-    /// An equal operation, which shares the members of a set. Takes constant time, and no memory; `AllocError` where as many
+    /// An equal operation, which shares the members of a set. Takes constant time, and no memory; `AllocError` if as many
     /// share them as can be counted.
     pub fn copy(&self) -> Result<Op, AllocError>
         ensures { IfOk result (λ other. other ≡ self.now) }

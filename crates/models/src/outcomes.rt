@@ -4,7 +4,7 @@ ghost use Rattle.std.specs.Prelude.{◌≡◌, [], ◌∷◌, ◌++◌, OnOk, On
 use crate::finding::Found;
 use std::alloc::AllocError;
 
-/// Puts the outcome behind the others; `AllocError` where there is no memory for it, and then they are as before.
+/// Puts the outcome behind the others; `AllocError` if there is no memory for it, and then they are as before.
 #[inline(always)]
 pub(crate) fn put_outcome<S: Drop>(
     outcomes: &mut Vec<(S, Found)>,
@@ -21,7 +21,7 @@ pub(crate) fn put_outcome<S: Drop>(
     put_with_room(outcomes, state, found)
 }
 
-// The same, where there may be no room.
+// The same, if there may be too little room.
 #[inline(never)]
 fn put_with_room<S: Drop>(
     outcomes: &mut Vec<(S, Found)>,

@@ -17,7 +17,7 @@ use values::Multiset;
 /// is in and finds it. So a dequeue has an outcome for each of the values, and they are listed by ascending value.
 pub struct UnorderedQueue;
 
-// Whether there are more different values than so many. Looks at no further ones then.
+// Whether there are more than `most` different values. Looks at no further ones then.
 fn has_more_values(state: &Multiset, most: usize) -> bool
     ensures { IsTrue result ↔ (most < length (values_of state.now)) }
 {
@@ -53,7 +53,7 @@ fn append_at(
     put_outcome(outcomes, rest, Found::Item(value))
 }
 
-// Puts an outcome for each value behind the others; where there is no memory, for some of them.
+// Puts an outcome for each value behind the others; if there is no memory, for some of them.
 fn append_each(state: &Multiset, outcomes: &mut Vec<(Multiset, Found)>) -> Result<(), AllocError>
     ensures appended { OnOk result
         (outcomes.new.items ≡ outcomes.old.items ++ taken_from state.now (values_of state.now)) }
@@ -69,7 +69,7 @@ fn append_each(state: &Multiset, outcomes: &mut Vec<(Multiset, Found)>) -> Resul
     Ok(())
 }
 
-// Puts an outcome for each value behind the others; where there is no memory, none.
+// Puts an outcome for each value behind the others; if there is no memory, none.
 fn append_dequeues(
     state: &Multiset,
     outcomes: &mut Vec<(Multiset, Found)>,

@@ -46,7 +46,7 @@ pub none_rebuilt : (place : Option ℕ) (rows : List (ℕ × KeyHistory)) (count
 none_rebuilt None rows count none fits = sym (count_on_none count fits)
 none_rebuilt (Some p) rows count none fits = absurd (none p refl)
 
--- what is prepared, as a caller sees it, once something is to be set for a key
+-- the prepared change, as a caller sees it, once a setting of a key is due
 pub setting_seen : (a : Inside) {view : MonitorView} {opening : JudgedHistory} {judged_again : ℕ} (k : ℕ) (setting : Setting) → monitor_view a ≡ view → opening ≡ a.settings.opening
     → judged_again ≡ count_on a.judged_again (length (history_of_key (judged_by_parts a) k).events)
     → ◌≡◌ {A = MonitorView} (record { now = judged_of a.history opening; next = Some (with_setting k setting (judged_of a.history opening)); judged_again = judged_again })

@@ -1,4 +1,4 @@
--- what holds of the parts once a change is carried out
+-- the facts about the parts once a change is carried out
 use Rattle.std.proofs.Common.{◌≡◌, ℕ, Option, Some, None, IfSome, IsSome, List, [], ◌∷◌, ◌++◌, slice_get, sym, ap, ◌∙◌, subst}
 use Rattle.std.proofs.lemmas.Bool.{false≢true}
 use Rattle.std.proofs.lemmas.List.{map-append}
@@ -17,7 +17,7 @@ use Rattle.monitor.specs.declared.monitor.Change.{Change}
 use Rattle.monitor.specs.declared.monitor.Monitor.TheInside.{Inside}
 use Rattle.monitor.proofs.Places.{map_written}
 
--- the rows with one more, and with what one line had prepared
+-- the rows with one more, and with the prepared history of one line
 pub nows_push : (rows : List (ℕ × KeyLineView)) (key : ℕ) (line : KeyLineView) → nows (rows ++ (key, line) ∷ []) ≡ nows rows ++ (key, line.now) ∷ []
 nows_push rows key line = map-append (λ (row : ℕ × KeyLineView). (row.0, row.1.now)) rows ((key, line) ∷ [])
 
@@ -30,7 +30,7 @@ line_carried lines lines' place carried rows brings =
     ∙ map_written (λ (l : KeyLineView). l.now) lines.rows place (at_rest brings.1 (count_on brings.0.1.replayed brings.0.1.prepared_replays))
     ∙ sym brings.4
 
--- what was prepared
+-- the change that was prepared
 pub prepared_ready : {a : Inside} → IsSoundMonitor a → {p : Prepared} → a.prepared ≡ Some p → {change : Change} → p.change ≡ change → IsReady a change p.verdict
 prepared_ready {a = a} sound {p = p} is which =
     subst (λ (c : Change). IsReady a c p.verdict) which

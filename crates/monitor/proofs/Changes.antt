@@ -1,4 +1,4 @@
--- what is judged after a change
+-- the judged history after a change
 use Rattle.std.proofs.Common.{◌≡◌, ◌⊎◌, ℕ, zero, suc, nat_eq, Option, Some, None, List, [], ◌∷◌, ◌++◌, length, take, slice_get, refl, sym, ap, ◌∙◌, subst}
 use Rattle.std.specs.List.{filter, filter_map, position}
 use Rattle.std.specs.Map.{keys_of}

@@ -9,7 +9,7 @@ use Rattle.monitor.specs.Rows.{nows, change_at, each_line, without_next}
 use Rattle.monitor.proofs.Places.{read_written, same_written}
 
 module _ (change : KeyLineView → KeyLineView) where
-  -- the line at a place, by what is written there
+  -- the line at a place, after a line is written there
   pub written : (rows : List (ℕ × KeyLineView)) (place key : ℕ) (line : KeyLineView) → slice_get rows place ≡ Some (key, line) → set_value_at rows place (change line) ≡ change_at place change rows
   written [] place key line at = absurd (none-some (key, line) at)
   written (x ∷ rows) zero key line at = ap (λ (y : ℕ × KeyLineView). (x.0, change y.1) ∷ rows) (sym (same_Some x (key, line) at))
@@ -18,7 +18,7 @@ module _ (change : KeyLineView → KeyLineView) where
   pub changed_is : (rows : List (ℕ × KeyLineView)) (place key : ℕ) (line : KeyLineView) → slice_get rows place ≡ Some (key, line) → slice_get (change_at place change rows) place ≡ Some (key, change line)
   changed_is rows place key line at = ap (λ l. slice_get l place) (sym (written rows place key line at)) ∙ read_written rows place key line (change line) at
 
-  -- the first so many are changed, and the others are as they were
+  -- the first n are changed, and the others are as they were
   abbrev pub first_changed : ℕ → List (ℕ × KeyLineView) → List (ℕ × KeyLineView)
   first_changed place rows = each_line change (take place rows) ++ drop place rows
 
@@ -33,7 +33,7 @@ module _ (change : KeyLineView → KeyLineView) where
   one_more zero (x ∷ rows) = refl
   one_more (suc place) (x ∷ rows) = ap (λ (l : List (ℕ × KeyLineView)). (x.0, change x.1) ∷ l) (one_more place rows)
 
-  -- what each change leaves as it is, all have
+  -- a part that no change of a line changes stays in all of them
   pub first_have : ((line : KeyLineView) → (change line).now ≡ line.now) → (place : ℕ) (rows : List (ℕ × KeyLineView)) → nows (first_changed place rows) ≡ nows rows
   first_have same zero rows = refl
   first_have same (suc place) [] = refl
@@ -63,7 +63,7 @@ module _ (rows : List (ℕ × KeyLineView)) (place : ℕ) {key : ℕ} {line : Ke
   pub unchanged : (f : KeyLineView → KeyLineView) → f line ≡ line → change_at place f rows ≡ rows
   unchanged f same = sym (written f rows place key line at) ∙ ap (set_value_at rows place) same ∙ same_written rows place key line at
 
--- what nothing is prepared of has nothing prepared, and what it has
+-- lines without a prepared change have none, and keep their histories
 pub none_left : (rows : List (ℕ × KeyLineView)) → each_line without_next rows ≡ each_line without_next (each_line without_next rows)
 none_left [] = refl
 none_left (x ∷ rows) = ap (λ (l : List (ℕ × KeyLineView)). (x.0, without_next x.1) ∷ l) (none_left rows)

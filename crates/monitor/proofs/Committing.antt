@@ -12,20 +12,20 @@ use Rattle.monitor.proofs.Changing.{first_changed, next_unchanged, changed-more,
 use Rattle.monitor.proofs.Places.{row_within}
 use Rattle.monitor.proofs.Joins.{now_read}
 
--- what stands among the first ones stands there
+-- an element among the first ones is in the list
 among_first : {X : Type 0} (k : ℕ) (xs : List X) (place : ℕ) (x : X) → slice_get (take k xs) place ≡ Some x → slice_get xs place ≡ Some x
 among_first zero xs place x at = absurd (none-some x at)
 among_first (suc k) [] place x at = at
 among_first (suc k) (y ∷ xs) zero x at = at
 among_first (suc k) (y ∷ xs) (suc place) x at = among_first k xs place x at
 
--- what a filter keeps passes
+-- an element that a filter keeps passes it
 kept_passes : {X : Type 0} (p : X → Bool) (xs ys : List X) (place : ℕ) (x : X) → filter p xs ≡ ys → slice_get ys place ≡ Some x → p x ≡ true
 kept_passes p xs ys place x e at =
     let read : slice_get (filter p xs) place ≡ Some x = ap (λ l. slice_get l place) e ∙ at in
     subst (λ y. p y ≡ true) (get_or_from_slice_get (filter p xs) place x x read) (filter_passes p xs place x (slice_get_within (filter p xs) place x read))
 
--- what lines have whose cut is carried out
+-- the histories of lines whose cut is carried out
 done_rows : (n : ℕ) (rows : List (ℕ × KeyLineView)) → nows (each_line (cut_done n) rows) ≡ cut_rows n (nows rows)
 done_rows n [] = refl
 done_rows n (x ∷ rows) = ap (λ (l : List (ℕ × KeyHistory)). (x.0, cut_at n x.1.now) ∷ l) (done_rows n rows)

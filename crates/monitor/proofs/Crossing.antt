@@ -1,4 +1,4 @@
--- A monitor may go to another thread, and threads may share one.
+-- A monitor can be sent to another thread, and threads may share one.
 use denote.Param.Send.{IsSend, IsSync, sendable}
 use Rattle.std.proofs.Crossing.{crosses}
 use Rattle.history.proofs.history.History.TheSendSync as history

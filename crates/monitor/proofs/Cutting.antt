@@ -44,7 +44,7 @@ none_replayed n h none =
 abbrev begun : ℕ → List (ℕ × KeyHistory) → List (ℕ × KeyHistory)
 begun n rows = filter (λ row. begins_below n row.1) rows
 
--- the cut of the first so many lines is prepared
+-- the cut of the first n lines is prepared
 pub record AreCutSoFar (n : ℕ) (old rows : List (ℕ × KeyLineView)) (place kept : ℕ) (v : Verdict) (start judged_again : ℕ) : Type 0 where
   pub changed : rows ≡ first_changed (with_cut n) place old
   pub few : kept ≤ place

@@ -11,7 +11,7 @@ use Rattle.linspec.proofs.Lists.{Contains-nil, Contains-head, Contains-tail, Con
 use Rattle.linspec.proofs.Filters.{filter-yes, filter-no, filter-all, from_filter, to_filter, Pairwise-filter}
 use Rattle.linspec.specs.JudgedHistory.{each_once}
 
--- what passes both tests, in either order
+-- the elements that pass both tests, in either order
 pub filter-filter : {X : Type 0} (p q r : X → Bool) → ((x : X) → r x ≡ cond (p x) (q x) false) → (xs : List X) → filter p (filter q xs) ≡ filter r xs
 filter-filter p q r is [] = refl
 filter-filter p q r is (x ∷ xs) = grind (arith, is x, filter-filter p q r is xs)

@@ -1,4 +1,4 @@
--- each front of a history has a verdict, where it is known how each key stands at the end
+-- each prefix of a history has a verdict, if it is known how each key stands at the end
 use Rattle.std.proofs.Common.{◌≡◌, ◌≢◌, ◌⊎◌, inl, inr, ⊎_elim, ℕ, ◌+◌, ◌<◌, ◌≤◌, nat_eq, List, [], ◌∷◌, ◌++◌, map, length, take, drop, refl, sym, ap, ◌∙◌, subst, append_assoc, append-nil, length-append, All, arith}
 use Rattle.std.specs.List.{Contains}
 use Rattle.std.specs.Map.{keys_of}
@@ -35,7 +35,7 @@ use Rattle.monitor.proofs.Statuses.{keys_apart}
 use Rattle.history.proofs.Fronts.{history-take}
 use Rattle.monitor.proofs.Verdicts.{Laws, statuses_of_keys}
 
--- fronts of fronts
+-- prefixes of prefixes
 front_of_front : {X : Type 0} (xs ys zs : List X) → IsFront xs ys → IsFront ys zs → IsFront xs zs
 front_of_front xs ys zs f g = (f.0 ++ g.0, sym (append_assoc xs f.0 g.0) ∙ ap (λ l. l ++ g.0) f.1 ∙ g.1)
 
@@ -57,7 +57,7 @@ stops_or_passes (y ∷ front) rest (b ∷ before) after x h =
     (λ f. inr (f.0, ap (λ z. z ∷ ((before ++ x ∷ []) ++ f.0)) (sym head) ∙ ap (λ l. y ∷ l) f.1))
     (stops_or_passes front rest before after x tail)
 
--- how a key stands at a front of its history
+-- how a key stands at a prefix of its history
 module _ (more : Count) (o : Object) (budget : ℕ) (some_order : (before : List Mark) → more before budget → IsLinearizable o before) (front entries : List Entry) (is : IsFront front entries) where
   blown_later : (i : ℕ) → IsBlownAtBy more budget front i → IsBlownAtBy more budget entries i
   blown_later i b = record {
@@ -120,7 +120,7 @@ module _ (more : Count) (o : Object) (budget : ℕ) (some_order : (before : List
           Pairwise-across (λ e g. e.index < g.index) b.before (b.event ∷ b.after) (subst IsRising (sym b.cut) rising) x.event b.event x_in (Contains-head b.event b.after) in
           omega (arith, x.here, b.here)
 
--- how each of the keys stands at a front of the history
+-- how each of the keys stands at a prefix of the history
 module _ (kinds : ℕ → ModelKind) (budgets : ℕ → ℕ) (front entries : List Entry) (is : IsFront front entries) where
   abbrev StandsSo : ℕ × KeyStatus → Type 0
   StandsSo s = IsKeyStatus (kinds s.0) (budgets s.0) (of_key s.0 front) s.1
@@ -172,7 +172,7 @@ module _ (kinds : ℕ → ModelKind) (budgets : ℕ → ℕ) (front entries : Li
           let from = from_map (λ (p : ℕ × KeyStatus). p.0) new k (subst (λ l. Contains l k) (sym keys) (to_map (λ (p : ℕ × KeyStatus). p.0) statuses (k, s.0) s.1)) in
           (from.0.1, subst (λ j. Contains new (j, from.0.1)) from.2 from.1)
 
--- the entries of the first events are a front of all
+-- the entries of the first events are a prefix of all
 indexed_front : (i : ℕ) (xs ys : List Event) → IsFront (indexed_from i xs) (indexed_from i (xs ++ ys))
 indexed_front i [] ys = (indexed_from i ys, refl)
 indexed_front i (x ∷ xs) ys = let rest = indexed_front (i + 1) xs ys in (rest.0, ap (λ l. (i, x) ∷ l) rest.1)

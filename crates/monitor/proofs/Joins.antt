@@ -14,7 +14,7 @@ use Rattle.monitor.specs.Rows.{nows, JoinsRows}
 use Rattle.monitor.proofs.Places.{read_written, others_stay, one_more_taken}
 use Rattle.monitor.proofs.Statuses.{joins_push}
 
--- what a line has now, at its place
+-- the present history of a line, at its place
 pub now_read : (rows : List (ℕ × KeyLineView)) (place key : ℕ) (line : KeyLineView) → slice_get rows place ≡ Some (key, line) → slice_get (nows rows) place ≡ Some (key, line.now)
 now_read rows place key line at =
     slice_get-map (λ (row : ℕ × KeyLineView). (row.0, row.1.now)) rows place

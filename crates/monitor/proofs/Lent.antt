@@ -32,7 +32,7 @@ rows_lent h place =
     by_key None = tt
     by_key (Some key) = events_lent key h.events
 
--- what is judged lends its rows their events
+-- the rows borrow their events from the judged history
 pub judged_lent : {h : JudgedHistory} {rows : List (ℕ × KeyHistory)} {v : Verdict} → IsJudged h rows v → (lent : List Event) → lent ≡ h.events → AreRowsLentBy lent rows
 judged_lent {h = h} {rows = rows} judged lent same =
     subst (λ (l : List Event). AreRowsLentBy l rows) (sym same) (subst (AreRowsLentBy h.events) (sym judged.rows_are) (rows_lent h))

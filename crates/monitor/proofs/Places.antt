@@ -8,7 +8,7 @@ use Rattle.std.proofs.lemmas.Option.{none-some, same_Some, slice_get_within, get
 use Rattle.indexmap.specs.Layout.{set_value_at}
 use Rattle.indexmap.proofs.MapLemmas.{some_index}
 
--- what is written is read there, and the others stay
+-- the written element is read there, and the others stay
 module _ {K A : Type 0} where
   pub read_written : (rows : List (K × A)) (place : ℕ) (k : K) (v w : A) → slice_get rows place ≡ Some (k, v) → slice_get (set_value_at rows place w) place ≡ Some (k, w)
   read_written [] place k v w at = absurd (none-some _ at)

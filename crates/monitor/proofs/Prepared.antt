@@ -1,4 +1,4 @@
--- what holds of the parts once a change is prepared
+-- the facts about the parts once a change is prepared
 use Rattle.std.proofs.Common.{◌≡◌, ◌⊎◌, ℕ, ◌<◌, ◌≤◌, Option, Some, None, IfSome, IsSomeAnd, List, [], ◌∷◌, ◌++◌, length, nat_eq, take, slice_get, refl, sym, ap, ◌∙◌, subst, arith}
 use Rattle.std.specs.declared.boxed.Box.{Box}
 use Rattle.std.specs.Global.{Global}
@@ -43,7 +43,7 @@ abbrev pub SettledLaw : Type 0
 SettledLaw = (h : KeyHistory) (index : ℕ) (event : Event) (s t : KeyStatus) → IsHistory (h.events ++ (index, event) ∷ []) → IsStatusOf h s → IsStatusOf (with_pushed index event h) t
     → (s ≡ Alive) ⊎ (t ≡ s)
 
--- what a clause says of the element at a place
+-- the clause about the element at a place
 pub if_at : {X : Type 0} (o : Option X) (x : X) (P : X → Type 0) → o ≡ Some x → IfSome o P → P x
 if_at o x P at p = subst (λ q. IfSome q P) at p
 
@@ -59,7 +59,7 @@ ready_with a history lines change v = record a { history = history; lines = line
 grows : {X : Type 0} (xs : List X) (x : X) → length xs ≤ length (xs ++ x ∷ [])
 grows xs x = omega (arith, length_push xs x)
 
--- what is judged, by other lines that have the same
+-- the judged history, by other lines that have the same
 same_lines : {h : JudgedHistory} {rows rows' : List (ℕ × KeyHistory)} {v : Verdict} → IsJudged h rows v → rows' ≡ rows → IsJudged h rows' v
 same_lines {h = h} {v = v} judged same = subst (λ (l : List (ℕ × KeyHistory)). IsJudged h l v) (sym same) judged
 
@@ -73,7 +73,7 @@ fault_ready law {a = a} sound e is well none =
       ready = record { rows = nows a.lines.rows; taken = refl; long = grows a.history.events e; brings = refl; judged = fault_judged law sound.now e well none };
     })
 
--- an event of a key, as its line is told of it
+-- an event of a key, as its line gets it
 pub record IsToldOf (h : JudgedHistory) (e : Event) (k index : ℕ) (event : Event) : Type 0 where
   pub well : IsWellFormed h.concurrency h.events e
   pub key : key_of e ≡ Some k
@@ -94,7 +94,7 @@ module _ (next_law : NextEventLaw) (lines : List (ℕ × KeyLineView)) {h : Judg
       subst (λ (o : Option (ℕ × KeyLineView)). IsSomeAnd o (λ row. IsHistory (row.1.now.events ++ (index, event) ∷ []))) (sym its_line.at)
       (subst IsHistory (λ i. (sym its_line.is i).events ++ (sym told.index_is i, sym told.event_is i) ∷ []) may_follow)
 
-  -- what the line then has
+  -- the history of the line then
   pushed_is : with_pushed index event its_line.line.now ≡ with_pushed (length h.events) e (history_of_key h k)
   pushed_is = λ i. with_pushed (told.index_is i) (told.event_is i) (its_line.is i)
 
@@ -198,7 +198,7 @@ rewind_ready law {a = a} {lines = lines} {judged_again = judged_again} sound n k
     count : kept ≡ length (filter (λ row. begins_below n row.1) (nows lines.rows))
     count = kept_is ∙ ap (λ (l : List (ℕ × KeyHistory)). length (filter (λ row. begins_below n row.1) l)) (sym same)
 
--- what is judged, once a key has another kind or another budget
+-- the judged history, once a key has another kind or another budget
 pub rebuilt_judged : JudgingLaw → {h : JudgedHistory} (lines : LinesView) {lines' : LinesView} {v : Verdict} → IsJudged h (nows lines.rows) v → (k : ℕ) (setting : Setting)
     {kind : ModelKind} {budget : ℕ} {place : Option ℕ} {w : Verdict} → place ≡ position (nat_eq k) (keys_of lines.rows)
     → kind ≡ kind_of (with_setting k setting h) k → budget ≡ budget_of (with_setting k setting h) k → (rebuilt : IsRebuilt kind budget place lines lines' w)

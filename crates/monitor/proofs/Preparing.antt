@@ -1,4 +1,4 @@
--- what is prepared, or dropped, at the line at a place
+-- a change that is prepared, or dropped, at the line at a place
 use Rattle.std.proofs.Common.{◌≡◌, ℕ, zero, suc, ◌≤◌, Option, Some, IfSome, Result, Ok, Err, IfOk, OnOk, OnErr, List, [], ◌∷◌, slice_get, sym, ap, subst, ◌∙◌}
 use Rattle.std.specs.Map.{values_of}
 use Rattle.std.proofs.lemmas.Option.{none-some, same_Some}
@@ -14,7 +14,7 @@ use Rattle.monitor.proofs.Changing.{written}
 use Rattle.monitor.proofs.Places.{same_written, map_written}
 use Rattle.monitor.proofs.Joins.{now_read}
 
--- what is true of the row that is read
+-- a fact about the row that is read
 pub at_row : (rows : List (ℕ × KeyLineView)) (place key : ℕ) (line : KeyLineView) (P : ℕ × KeyLineView → Type 0) → slice_get rows place ≡ Some (key, line) → P (key, line) → IfSome (slice_get rows place) P
 at_row rows place key line P at p = subst (λ (o : Option (ℕ × KeyLineView)). IfSome o P) (sym at) p
 
@@ -37,7 +37,7 @@ module _ {es : List (ℕ × KeyLineView)} (old : LinesView) (seen : es ≡ old.r
   changed : (f : KeyLineView → KeyLineView) → set_value_at es place (f line) ≡ change_at place f old.rows
   changed f = ap (λ l. set_value_at l place (f line)) seen ∙ written f old.rows place row_at.0 line row_at.1
 
-  -- it is lent its events where all are
+  -- it borrows its events if all are there
   pub line_lent : (lent : List Event) → AreRowsLentBy lent (nows old.rows) → AreLentBy lent line.now.events
   line_lent lent are = subst (λ (o : Option (ℕ × KeyHistory)). IfSome o (λ row. AreLentBy lent row.1.events)) (now_read old.rows place row_at.0 line row_at.1) (are place)
 
@@ -54,6 +54,6 @@ module _ {es : List (ℕ × KeyLineView)} (old : LinesView) (seen : es ≡ old.r
     room = room;
   }
 
-  -- what was prepared is dropped
+  -- the prepared change is dropped
   pub dropped : (after : KeyLineView) → after ≡ without_next line → set_value_at es place after ≡ change_at place without_next old.rows
   dropped after is = ap (set_value_at es place) is ∙ changed without_next

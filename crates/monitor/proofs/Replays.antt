@@ -24,7 +24,7 @@ use Rattle.monitor.proofs.KeyedEvents.{events-none, events-take}
 use Rattle.monitor.proofs.KeyPlaces.{position_none}
 use Rattle.monitor.proofs.Preparing.{at_row}
 
--- what the line at a place counts
+-- the count of the line at a place
 module _ (n : ℕ) (rows : List (ℕ × KeyLineView)) (place : ℕ) {key : ℕ} {line : KeyLineView} (at : slice_get rows place ≡ Some (key, line)) where
   pub due_counted : AreCutAt n rows → begins_below n line.now ≡ true → {due : ℕ} → due ≡ line.prepared_replays → IfSome (slice_get rows place) (λ row. due ≡ replays_at n row.1.now)
   due_counted cut begins {due = due} is =
@@ -34,7 +34,7 @@ module _ (n : ℕ) (rows : List (ℕ × KeyLineView)) (place : ℕ) {key : ℕ} 
   pub none_counted : begins_below n line.now ≡ false → IfSome (slice_get rows place) (λ row. 0 ≡ replays_at n row.1.now)
   none_counted none = at_row rows place key line (λ row. 0 ≡ replays_at n row.1.now) at (none_replayed n line.now none)
 
--- what it counts is the count of its key
+-- its count is that of its key
 pub replays_seen : (rows : List (ℕ × KeyLineView)) {h : JudgedHistory} {v : Verdict} → IsJudged h (nows rows) v → (k place n : ℕ) {r : ℕ} → position (nat_eq k) (keys_in_order h.events) ≡ Some place
     → IfSome (slice_get rows place) (λ row. r ≡ replays_at n row.1.now) → r ≡ replays_at n (history_of_key h k)
 replays_seen rows {h = h} judged k place n {r = r} at is =
@@ -54,7 +54,7 @@ none_again h k n le =
     let kept : loses_at n (history_of_key h k) ≡ false = ap (λ (l : List (ℕ × Event)). nat_lt (length l) (length events)) whole ∙ le-ltb (length events) (length events) (omega arith) in
     sym (no_replay n (history_of_key h k) kept)
 
--- what a change that is no rewind brings has no fewer events
+-- a change other than a rewind brings no fewer events
 with_length : (h : JudgedHistory) (o : Option (List Event)) → IfSome o (λ events. length h.events ≤ length events) → length h.events ≤ length (with_events_of o h).events
 with_length h None is = omega arith
 with_length h (Some events) is = is
@@ -67,7 +67,7 @@ no_shorter a (Begin key line) long none = with_length (judged_by_parts a) a.hist
 no_shorter a (Rewind n kept) long none = absurd (none n kept refl)
 no_shorter a (Set key setting place) long none = omega arith
 
--- what is prepared, as a caller sees it
+-- the prepared change, as a caller sees it
 module _ {a : Inside} (sound : IsSoundMonitor a) {p : Prepared} (is : a.prepared ≡ Some p) (key : ℕ) {r : ℕ} where
   pub rewind_counted : {n kept : ℕ} → p.change ≡ Rewind n kept → r ≡ replays_at n (history_of_key (judged_by_parts a) key) → r ≡ replays_by (judged_by_parts a) (brought a p) key
   rewind_counted {n = n} {kept = kept} which e =

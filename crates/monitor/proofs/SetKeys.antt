@@ -1,4 +1,4 @@
--- what keys have, once something is set for one
+-- the settings of keys, once one is set for a key
 use Rattle.std.proofs.Common.{◌≡◌, ◌≢◌, ℕ, nat_eq, Option, Some, unwrap_or, List, [], ◌∷◌, sym, ap, arith}
 use Rattle.std.specs.Map.{lookup}
 use Rattle.std.proofs.lemmas.Bool.Decides.{nat_tests}

@@ -49,7 +49,7 @@ status_among (x ∷ before) k h after (s ∷ statuses) a =
       of_after = rest.of_after;
     }
 
--- a pair takes the place of another, or is put after all: the same elements, but for the other
+-- a pair replaces another, or is put after all: the other elements are the same
 module _ {X : Type 0} (first last : List X) (s t : X) where
   pub to_replaced : (x : X) → (s ≡ x → t ≡ x) → Contains ((first ++ s ∷ last) ++ t ∷ []) x → Contains (first ++ t ∷ last) x
   to_replaced x same h =
@@ -88,7 +88,7 @@ same_bad_keys first last k s t was = record {
         (λ same. ap (λ (x : KeyStatus). (k, x)) same ∙ e)
         was
 
--- what joins a status to a verdict
+-- the join of a status and a verdict
 abbrev pub JoinsWith : Verdict → ℕ → KeyStatus → Verdict → Type 0
 JoinsWith v key status w = (statuses : List (ℕ × KeyStatus)) → IsJoin statuses v → IsJoin (statuses ++ (key, status) ∷ []) w
 
@@ -113,7 +113,7 @@ joins_set decide before after k h next status v w joined is settled with_it =
           (subst (λ (l : List (ℕ × KeyStatus)). IsJoin (l ++ (k, status) ∷ []) w) among.cut (with_it joined.0 joined.2)),
     )
 
--- what the statuses say of the rows
+-- the facts about the rows from the statuses
 pub status_row : (rows : List (ℕ × KeyHistory)) (statuses : List (ℕ × KeyStatus)) (k : ℕ) (s : KeyStatus) → AreStatusesOf rows statuses → Contains statuses (k, s)
     → (h : KeyHistory) × Contains rows (k, h) × IsStatusOf h s
 status_row [] [] k s a has = absurd (Contains-nil (k, s) has)

@@ -1,4 +1,4 @@
--- what joins how the keys stand is the verdict
+-- the joined status of the keys is the verdict
 use Rattle.std.proofs.Common.{◌≡◌, ◌≢◌, ℕ, Some, List, [], ◌∷◌, ◌++◌, length, sym, ap, ◌∙◌, subst}
 use Rattle.std.specs.List.{Contains, filter_map}
 use Rattle.models.specs.declared.model_kind.ModelKind.{ModelKind}

@@ -1,4 +1,4 @@
--- Promise and invariant: how the rows of the lines, which public clauses cite, and the verdict stand to what is judged
+-- Promise and invariant: how the rows of the lines, which public clauses cite, and the verdict follow from the judged history
 use Rattle.std.specs.Prelude.{◌≡◌, ℕ, Option, Some, None, List, map, slice_get}
 use Rattle.indexmap.specs.Layout.{set_value_at}
 use Rattle.models.specs.declared.model_kind.ModelKind.{ModelKind}
@@ -20,19 +20,19 @@ pub record IsJudged (h : JudgedHistory) (rows : List (ℕ × KeyHistory)) (verdi
   pub joined : JoinsRows rows verdict
   pub is_verdict : IsVerdictOn h verdict
 
--- the rows, once what the line at the place has prepared is carried out, where there is one
+-- the rows, once what the line at the place has prepared is carried out, if there is one
 abbrev pub AreRowsWith : LinesView → Option ℕ → List (ℕ × KeyHistory) → Type 0
 AreRowsWith lines None rows = rows ≡ nows lines.rows
 AreRowsWith lines (Some place) rows = (row : ℕ × KeyLineView) × (next : KeyHistory)
     × (slice_get lines.rows place ≡ Some row) × (row.1.next ≡ Some next) × (rows ≡ set_value_at (nows lines.rows) place next)
 
--- the rows, once the key at the place, where there is one, is judged by this kind and budget
+-- the rows, once the key at the place, if there is one, is judged by this kind and budget
 abbrev pub AreRowsJudgedBy : ModelKind → ℕ → Option ℕ → List (ℕ × KeyHistory) → List (ℕ × KeyHistory) → Type 0
 AreRowsJudgedBy kind budget None old rows = rows ≡ old
 AreRowsJudgedBy kind budget (Some place) old rows = (row : ℕ × KeyHistory)
     × (slice_get old place ≡ Some row) × (rows ≡ set_value_at old place (judged_by kind budget row.1))
 
--- the line at the place, where there is one, has prepared that its key is judged by this kind and budget, and the verdict joins
+-- the line at the place, if there is one, has prepared that its key is judged by this kind and budget, and the verdict joins
 -- how the keys then stand
 pub record IsRebuilt (kind : ModelKind) (budget : ℕ) (place : Option ℕ) (old new : LinesView) (verdict : Verdict) : Type 0 where
   pub rows : List (ℕ × KeyHistory)

@@ -9,7 +9,7 @@ use Rattle.parallel_recheck.specs.Pieces.{PieceView, piece_of}
 use Rattle.linspec.specs.JudgedHistory.{JudgedHistory, opening_of, with_event, IsBudget}
 use Rattle.monitor.specs.Judged.{rows_of}
 
--- what is judged once these events came, one after the other
+-- the judged history once these events came, one after the other
 abbrev pub with_events : List Event → JudgedHistory → JudgedHistory
 with_events [] h = h
 with_events (e ∷ events) h = with_events events (with_event e h)
@@ -18,7 +18,7 @@ with_events (e ∷ events) h = with_events events (with_event e h)
 abbrev pub with_all : ℕ → ModelKind → ℕ → List Event → JudgedHistory
 with_all concurrency kind budget events = record (opening_of concurrency kind budget) { events = events }
 
--- the same, of how many threads is told by no piece
+-- the same; the number of threads is not in a piece
 abbrev pub alone : ModelKind → ℕ → List Event → JudgedHistory
 alone kind budget events = with_all 1 kind budget events
 

@@ -11,8 +11,8 @@ use Rattle.linspec.specs.JudgedHistory.{JudgedHistory, history_of_key, IsBudget,
 use Rattle.monitor.specs.Judged.{rows_of}
 use Rattle.monitor.specs.Rows.{losing, replays_in}
 
--- what it judges, what commit will bring, where a change is prepared, and how many events were judged again so far, for changes
--- that were prepared, whatever became of them
+-- the judged history, the one that commit will bring if a change is prepared, and how many events were judged again so far, for prepared
+-- changes, carried out or not
 pub record MonitorView : Type 0 where
   pub now : JudgedHistory
   pub next : Option JudgedHistory
@@ -24,7 +24,7 @@ at_rest h judged_again = record { now = h; next = None; judged_again = judged_ag
 abbrev pub with_next : JudgedHistory → MonitorView → MonitorView
 with_next next monitor = record { now = monitor.now; next = Some next; judged_again = monitor.judged_again }
 
--- so many events more were judged again
+-- n events more were judged again
 abbrev pub with_again : ℕ → MonitorView → MonitorView
 with_again more monitor =
     record { now = monitor.now; next = monitor.next; judged_again = count_on monitor.judged_again more }
@@ -36,7 +36,7 @@ again_by n h = replays_in n (rows_of h)
 abbrev pub FewAgain : ℕ → MonitorView → MonitorView → Type 0
 FewAgain n old new = new.judged_again ≤ old.judged_again + 63 * length (losing n (rows_of old.now))
 
--- the key loses events where the first history is cut to the second
+-- the key loses events if the first history is cut to the second
 abbrev pub loses_by : JudgedHistory → JudgedHistory → ℕ → Bool
 loses_by now next key = loses_at (length next.events) (history_of_key now key)
 

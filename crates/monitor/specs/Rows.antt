@@ -1,4 +1,4 @@
--- Promise and invariant: the lines of the keys, of which public clauses cite what they have now and what a cut makes of them
+-- Promise and invariant: the lines of the keys; public clauses cite their present histories and the effect of a cut
 use Rattle.std.specs.Prelude.{◌≡◌, ℕ, zero, suc, ◌≤◌, true, if◌then◌else◌, Option, Some, None, IfSome, Result, IfOk, OnOk, List, [], ◌∷◌, length, map, slice_get}
 use Rattle.std.specs.List.{filter, sum_by}
 use Rattle.events.specs.declared.event.Event.{Event}
@@ -14,7 +14,7 @@ pub record LinesView : Type 0 where
   pub rows : List (ℕ × KeyLineView)
   pub room : ℕ
 
--- what the lines have now, whatever is prepared
+-- the present histories of the lines, whatever is prepared
 abbrev pub nows : List (ℕ × KeyLineView) → List (ℕ × KeyHistory)
 nows rows = map (λ row. (row.0, row.1.now)) rows
 
@@ -32,7 +32,7 @@ AreStatusesOf _ _ = ⊥
 abbrev pub JoinsRows : List (ℕ × KeyHistory) → Verdict → Type 0
 JoinsRows rows v = (statuses : List (ℕ × KeyStatus)) × AreStatusesOf rows statuses × IsJoin statuses v
 
--- what is lent has the events of each row
+-- the borrowed list has the events of each row
 abbrev pub AreRowsLentBy : List Event → List (ℕ × KeyHistory) → Type 0
 AreRowsLentBy lent rows = (place : ℕ) → IfSome (slice_get rows place) (λ row. AreLentBy lent row.1.events)
 
@@ -43,7 +43,7 @@ replays_in n rows = sum_by (λ row. replays_at n row.1) rows
 abbrev pub losing : ℕ → List (ℕ × KeyHistory) → List (ℕ × KeyHistory)
 losing n rows = filter (λ row. loses_at n row.1) rows
 
--- how many events the key at the place has, where there is one
+-- how many events the key at the place has, if there is one
 abbrev pub events_of_row : Option (ℕ × KeyHistory) → ℕ
 events_of_row None = 0
 events_of_row (Some row) = length row.1.events
@@ -62,7 +62,7 @@ change_at (suc place) change (row ∷ rows) = row ∷ change_at place change row
 abbrev pub each_line : (KeyLineView → KeyLineView) → List (ℕ × KeyLineView) → List (ℕ × KeyLineView)
 each_line change rows = map (λ row. (row.0, change row.1)) rows
 
--- the changes: the cut at n is prepared, if the key has an event before it; it is carried out; nothing is prepared
+-- the changes: prepare the cut at n if the key has an event before it; carry it out; prepare nothing
 abbrev pub with_cut : ℕ → KeyLineView → KeyLineView
 with_cut n line =
     if begins_below n line.now then with_next (cut_at n line.now) (replays_at n line.now) line else line
@@ -82,8 +82,8 @@ IsCutAt n line = begins_below n line.now ≡ true
 abbrev pub AreCutAt : ℕ → List (ℕ × KeyLineView) → Type 0
 AreCutAt n rows = (place : ℕ) → IfSome (slice_get rows place) (λ row. IsCutAt n row.1)
 
--- the line at the place has a change of its key prepared, which takes so many replays and brings this status, or memory was
--- refused. What the lines have now stays
+-- the line at the place has a change of its key prepared, which takes this number of replays and brings this status, or memory was refused.
+-- The present histories of the lines stay
 pub record PreparesAt {E : Type 0} (place : ℕ) (change : KeyHistory → KeyHistory) (due : KeyHistory → ℕ) (old new : LinesView) (result : Result KeyStatus E)
     : Type 0 where
   pub status : IfOk result (λ status. IfSome (slice_get old.rows place) (λ row. IsStatusOf (change row.1.now) status))

@@ -1,4 +1,4 @@
--- Invariant: what is set for keys
+-- Invariant: the settings of keys
 use Rattle.std.specs.Prelude.{ℕ, List, nat_eq}
 use Rattle.indexmap.specs.IndexMap.{insert_entry}
 use Rattle.models.specs.declared.model_kind.ModelKind.{ModelKind}
@@ -6,7 +6,7 @@ use Rattle.linspec.specs.JudgedHistory.{JudgedHistory}
 use Rattle.monitor.specs.declared.settings.Setting.{Setting}
 use Rattle.monitor.specs.declared.settings.Setting.TheVariants.{Kind, Budget}
 
--- what is judged of no events, of how many threads tells nothing; and the room to set a kind, or a budget, for one more key
+-- the judged history without events, where the number of threads means nothing; and the room to set a kind, or a budget, for one more key
 pub record SettingsView : Type 0 where
   pub opening : JudgedHistory
   pub room_for_kind : ℕ
@@ -25,7 +25,7 @@ abbrev pub budgets_with : ℕ → Setting → List (ℕ × ℕ) → List (ℕ ×
 budgets_with key (Kind kind) budgets = budgets
 budgets_with key (Budget n) budgets = insert_entry nat_eq budgets key n
 
--- what is then judged
+-- the history judged then
 abbrev pub with_setting : ℕ → Setting → JudgedHistory → JudgedHistory
 with_setting key setting h =
     record h { kinds = kinds_with key setting h.kinds; budgets = budgets_with key setting h.budgets }

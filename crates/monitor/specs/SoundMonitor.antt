@@ -1,4 +1,4 @@
--- Invariant: what a monitor keeps true of its parts
+-- Invariant: the facts that a monitor keeps true of its parts
 use Rattle.std.specs.Prelude.{◌≡◌, ℕ, ◌<◌, ◌≤◌, Option, Some, None, IfSome, IsSome, option_map, List, [], ◌∷◌, ◌++◌, length, take, position, nat_eq}
 use Rattle.std.specs.List.{filter}
 use Rattle.std.specs.Map.{keys_of}
@@ -16,7 +16,7 @@ use Rattle.monitor.specs.declared.monitor.Change.{Change}
 use Rattle.monitor.specs.declared.monitor.Change.TheVariants.{Fault, Append, Begin, Rewind, Set}
 use Rattle.monitor.specs.declared.monitor.Monitor.TheInside.{Inside}
 
--- what the parts stand for: the events of the history, by what is set
+-- the meaning of the parts: the events of the history, by the settings
 abbrev pub judged_of : HistoryView → JudgedHistory → JudgedHistory
 judged_of history opening =
     record opening { concurrency = history.concurrency; events = history.events }
@@ -24,7 +24,7 @@ judged_of history opening =
 abbrev pub judged_by_parts : Inside → JudgedHistory
 judged_by_parts a = judged_of a.history a.settings.opening
 
--- what a prepared change brings. The history has its part of it prepared
+-- the history after a prepared change. The history has its part of it prepared
 abbrev pub with_events_of : Option (List Event) → JudgedHistory → JudgedHistory
 with_events_of None h = h
 with_events_of (Some events) h = record h { events = events }
@@ -57,14 +57,14 @@ BringsRows lines (Rewind n kept) rows =
     × (rows ≡ cut_rows n (take kept (nows lines.rows)))
 BringsRows lines (Set key setting place) rows = AreRowsWith lines place rows
 
--- the length that the history will have: no less than it has, but for a rewind
+-- the length that the history will have: no less than now, except by a rewind
 abbrev pub HasLength : HistoryView → Change → Type 0
 HasLength history (Rewind n kept) =
     (n ≤ length history.events) × (history.next ≡ Some (take n history.events))
 HasLength history (Set key setting place) = Unit {0}
 HasLength history _ = IfSome history.next (λ events. length history.events ≤ length events)
 
--- what is prepared can be carried out, and this is then the verdict
+-- the prepared change can be carried out, and this is then the verdict
 pub record IsReady (a : Inside) (change : Change) (verdict : Verdict) : Type 0 where
   pub rows : List (ℕ × KeyHistory)
   pub taken : MayBeTaken a change

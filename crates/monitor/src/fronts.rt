@@ -14,9 +14,8 @@ use history::process_rule_law;
 use linspec::laws::history_law;
 use locality::laws::join_law;
 
-/// A history of which it is known how each key stands in the end has a verdict at each length. A key that is alive was so all
-/// along; one that is dead was alive until its index; and one that is over its budget had a legal order just before its index,
-/// and so before that.
+/// A history of which it is known how each key stands in the end has a verdict at each length. A key that is alive was so all along, and
+/// one that is dead was alive until its index. One that is over its budget had a legal order just before its index, and so before that.
 pub fn some_verdict_law()
     ensures { (h : JudgedHistory) (statuses : List (ℕ × KeyStatus)) (n : ℕ) →
         IsHistoryOf h.concurrency h.events

@@ -1,4 +1,4 @@
-//! What the verdict on a history is to how its keys stand.
+//! How the verdict on a history follows from the states of its keys.
 ghost use Rattle.std.specs.Prelude.{◌≡◌, ℕ, List, map};
 ghost use Rattle.std.specs.List.{All};
 ghost use Rattle.history.specs.WellFormed.{IsHistoryOf};

@@ -16,7 +16,7 @@ use history::process_rule_law;
 use linspec::laws::history_law;
 use locality::laws::join_law;
 
-/// What joins how the keys stand is the verdict.
+/// The joined status of the keys is the verdict.
 pub(crate) fn judging_law()
     ensures { (h : JudgedHistory) (rows : List (ℕ × KeyHistory)) (v : Verdict) →
         IsHistoryOf h.concurrency h.events → rows ≡ rows_of h → JoinsRows rows v

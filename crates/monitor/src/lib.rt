@@ -8,7 +8,7 @@
 //!
 //! A function whose name ends in `_law` does nothing when it runs: its call hands the prover what its clause says.
 //!
-//! A call takes memory only where its result can be `AllocError`, or a refusal for want of memory.
+//! A call allocates only if its result can be `AllocError`, or a refusal because memory ran out.
 #![tactic(auto)]
 
 pub mod fronts;

@@ -1,4 +1,4 @@
-//! A change of the history and of the lines: what is prepared in each, and carried out.
+//! A change of the history and of the lines: prepared in each, and carried out.
 ghost use Rattle.std.specs.Prelude.{◌≡◌, ℕ, Some, ◌<◌, List, ◌++◌, ◌∷◌, [], length, IfOk, OnOk, IfSome};
 ghost use Rattle.events.specs.declared.event.Event.{Event};
 ghost use Rattle.events.specs.ProcessRule.{IsHistory};
@@ -44,9 +44,8 @@ pub(crate) fn first_line(
     Ok(Box::new(alloc, line)?)
 }
 
-/// Prepares that the key with the line at this place, if there is one, is judged by this kind and budget. All events are lent.
-/// Gives the verdict that joins how the keys then stand, where this one joins how they stand now. Each event that is judged again
-/// is counted.
+/// Prepares that the key with the line at this place, if there is one, is judged by this kind and budget. `lent` has all events. Gives the
+/// verdict that joins how the keys then stand, where this one joins how they stand now. Each event that is judged again is counted.
 pub(crate) fn prepare_rebuild(
     lines: &mut Lines,
     verdict: Verdict,

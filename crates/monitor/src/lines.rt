@@ -73,9 +73,8 @@ impl Lines {
         }
     }
 
-    /// Prepares one more event of the key at a place, and gives the status that it brings. It takes the time of
-    /// [`KeyLine::prepare_push`]. `AllocError` where memory was refused: then the line has nothing prepared, and the rest is as
-    /// it was.
+    /// Prepares one more event of the key at a place, and gives the status that it brings. Costs what [`KeyLine::prepare_push`] costs.
+    /// `AllocError` if memory was refused: then the line has nothing prepared, and the rest is as it was.
     pub fn prepare_push(
         &mut self,
         place: usize,
@@ -92,9 +91,9 @@ impl Lines {
         }
     }
 
-    /// Prepares that the key at a place is judged by this kind and budget, and gives the status that this brings. All events
-    /// are lent. It takes the time of [`KeyLine::prepare_rebuild`]. `AllocError` where memory was refused: then the line has
-    /// nothing prepared, and the rest is as it was.
+    /// Prepares that the key at a place is judged by this kind and budget, and gives the status that this brings. `lent` has all events.
+    /// Costs what [`KeyLine::prepare_rebuild`] costs. `AllocError` if memory was refused: then the line has nothing prepared, and the rest
+    /// is as it was.
     pub fn prepare_rebuild(
         &mut self,
         place: usize,
@@ -113,9 +112,9 @@ impl Lines {
         }
     }
 
-    /// Prepares a cut at `n` of each line that has an event before `n`. All events are lent. Gives the number of these lines,
-    /// and the verdict that joins how they then stand. It takes the time of all lines, and of a cut of those that lose events.
-    /// Each event that is judged again is counted. `AllocError` where memory was refused: then no line has anything prepared.
+    /// Prepares a cut at `n` of each line that has an event before `n`. `lent` has all events. Gives the number of these lines, and the
+    /// verdict that joins how they then stand. It costs O(lines), and a cut of those that lose events. Each event that is judged again is
+    /// counted. `AllocError` if memory was refused: then no line has anything prepared.
     pub fn prepare_cut(
         &mut self,
         n: u32,
@@ -221,8 +220,8 @@ impl Lines {
         cut.prepared_replays()
     }
 
-    /// Makes room for one more line. `AllocError` where memory was refused: then the lines are as they were. Takes constant
-    /// time, but where their memory grows.
+    /// Makes room for one more line. `AllocError` if memory was refused: then the lines are as they were. Takes constant
+    /// time, unless their memory grows.
     pub fn reserve(&mut self) -> Result<(), AllocError>
         ensures same { self.new.rows ≡ self.old.rows }
         ensures room { OnOk result (0 < self.new.room) }

@@ -27,13 +27,12 @@ use std::thread::Threads;
 impl Monitor {
     /// The monitor of a whole history: the one that [`new`](Self::new) opens, after appends of the history's events in turn.
     ///
-    /// The keys are judged by as many workers as are asked for, 1 to 64, of which the calling thread is one (see
-    /// [`recheck`](parallel_recheck::recheck)); none is given an event before all events are grouped by their keys. The gate is
-    /// called as each key begins and as it ends, by its place in the order of first events. No event is copied. It takes the
-    /// time of all events, and of a push of each to the line of its key.
+    /// `workers` workers, 1 to 64, judge the keys, and the calling thread is one of them (see [`recheck`](parallel_recheck::recheck)). No
+    /// worker gets an event before all events are grouped by their keys. The gate is called as each key begins and as it ends, by its place
+    /// in the order of first events. No event is copied. It costs O(events), and a push of each to the line of its key.
     ///
     /// # Errors
-    /// [`Refusal::BadBudget`] where the budget is not 1 to 65,536, else [`Refusal::NoMemory`] where a growth was refused, in
+    /// [`Refusal::BadBudget`] if the budget is not 1 to 65,536, else [`Refusal::NoMemory`] if an allocation fails, in
     /// whichever thread. The history is then dropped.
     pub fn load<R: Threads + Sync, G: Gate + Sync>(
         rt: &R,

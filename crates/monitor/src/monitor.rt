@@ -31,7 +31,7 @@ use std::marker::Model;
 /// The greatest budget.
 pub const MOST_ENDS: u32 = 65_536;
 
-/// What is known of a key that has events.
+/// The status of a key that has events.
 #[derive(Clone, Copy)]
 pub struct KeyRow {
     pub key: Key,
@@ -42,7 +42,7 @@ pub struct KeyRow {
     pub status: KeyStatus,
 }
 
-/// What may be committed, and the verdict that it brings.
+/// A change that may be committed, and the verdict that it brings.
 #[derive(Drop)]
 struct Prepared {
     change: Change,
@@ -58,20 +58,20 @@ enum Change {
     Append(usize),
     /// The history has an event more, and the key its first one, in this line.
     Begin(Key, Box<KeyLine>),
-    /// The history and the lines are cut at this length, after which so many lines are left.
+    /// The history and the lines are cut at this length, after which this number of lines are left.
     Rewind(u32, usize),
     /// This is set for a key, and the line at this place, if it has events, is judged by it.
     Set(Key, Setting, Option<usize>),
 }
 
-/// The live monitor of a history of many keys, each an object by itself: the verdict on the history as it stands, by the
-/// kinds and budgets of the keys as they stand. Linearizability is that of Herlihy and Wing (1990).
+/// The live monitor of a history of many keys, each an object by itself. It has the verdict on the present history, by the present kinds
+/// and budgets of the keys. Linearizability is that of Herlihy and Wing (1990).
 ///
-/// A key has the default kind and budget until another is set for it. What is set for a key is kept where it has no events,
-/// and outlives a rewind.
+/// A key has the default kind and budget until another is set for it. The settings of a key without events are kept too, and outlive a
+/// rewind.
 ///
-/// Each change is prepared, which may fail and changes nothing but what is prepared, and then committed. What was prepared
-/// before is dropped.
+/// Each change is prepared, which may fail and changes nothing but what is prepared, and then committed. A change that was prepared before
+/// is dropped.
 pub struct Monitor {
     alloc: Global,
     history: History,
@@ -110,13 +110,12 @@ impl Drop for Monitor {
 }
 
 impl Monitor {
-    /// The monitor of no events, of threads 0 to `concurrency` - 1. Every key is an object of this kind, and an ok may find at
-    /// most `budget` ends of its key just before it, until another kind or budget is set for a key. It takes the time of the
-    /// threads.
+    /// The monitor of no events, of threads 0 to `concurrency` - 1. Every key is an object of this kind, until another kind is set for it.
+    /// An ok may find at most `budget` ends of its key just before it, until another budget is set for the key. It costs O(threads).
     ///
     /// # Errors
-    /// [`Refusal::BadBudget`] where the budget is not 1 to 65,536, else [`Refusal::BadConcurrency`] where the concurrency is
-    /// not 1 to 64, else [`Refusal::NoMemory`] where a growth was refused.
+    /// [`Refusal::BadBudget`] if the budget is not 1 to 65,536, else [`Refusal::BadConcurrency`] if the concurrency is
+    /// not 1 to 64, else [`Refusal::NoMemory`] if an allocation fails.
     pub fn new(
         alloc: Global,
         concurrency: u32,
@@ -183,13 +182,12 @@ impl Monitor {
         }
     }
 
-    /// Prepares to keep the first `n` events alone, and gives the verdict that [`commit`](Self::commit) will bring. Kinds
-    /// and budgets stay. It judges again fewer than 64 events of each key that loses events, and none of any other. It takes the
-    /// time of the first `n` events, of all keys with events, and of a cut of the line of each key that loses events (see
-    /// [`KeyLine::prepare_cut`]).
+    /// Prepares to keep the first `n` events alone, and gives the verdict that [`commit`](Self::commit) will bring. Kinds and budgets stay.
+    /// It judges again fewer than 64 events of each key that loses events, and none of any other. It costs O(n + keys with events), and a
+    /// cut of the line of each key that loses events (see [`KeyLine::prepare_cut`]).
     ///
     /// # Errors
-    /// [`Refusal::NoSuchIndex`] where there are fewer events; else [`Refusal::NoMemory`] where a growth was refused. Then
+    /// [`Refusal::NoSuchIndex`] if there are fewer events; else [`Refusal::NoMemory`] if an allocation fails. Then
     /// nothing is prepared.
     pub fn prepare_rewind(&mut self, n: u32) -> Result<Verdict, Refusal>
         ensures within { OnOk result (n ≤ length self.old.now.events) }
@@ -215,12 +213,11 @@ impl Monitor {
         Ok(verdict)
     }
 
-    /// Prepares that a key is an object of this kind, and gives the verdict that [`commit`](Self::commit) will bring. It
-    /// takes the time of all keys with events, and of a rebuild of the key's line (see [`KeyLine::prepare_rebuild`]); where
-    /// the key has no events, constant time.
+    /// Prepares that a key is an object of this kind, and gives the verdict that [`commit`](Self::commit) will bring. It costs O(keys with
+    /// events), and a rebuild of the key's line (see [`KeyLine::prepare_rebuild`]); constant time if the key has no events.
     ///
     /// # Errors
-    /// `AllocError` where a growth was refused. Then nothing is prepared.
+    /// `AllocError` if an allocation fails. Then nothing is prepared.
     pub fn prepare_model(&mut self, key: Key, kind: ModelKind) -> Result<Verdict, AllocError>
         ensures prepared { OnOk result (self.new ≡ with_next (with_kind key kind self.old.now)
             (with_again (length (history_of_key self.old.now key).events) self.old)) }
@@ -234,7 +231,7 @@ impl Monitor {
     /// [`prepare_model`](Self::prepare_model) does.
     ///
     /// # Errors
-    /// [`Refusal::BadBudget`] where the budget is not 1 to 65,536; else [`Refusal::NoMemory`] where a growth was refused.
+    /// [`Refusal::BadBudget`] if the budget is not 1 to 65,536; else [`Refusal::NoMemory`] if an allocation fails.
     /// Then nothing is prepared.
     pub fn prepare_budget(&mut self, key: Key, n: u32) -> Result<Verdict, Refusal>
         ensures within { OnOk result (IsBudget n) }
@@ -284,7 +281,7 @@ impl Monitor {
     /// Appends an event: [`prepare_append`](Self::prepare_append) and [`commit`](Self::commit) in one. Gives the verdict.
     ///
     /// # Errors
-    /// Those of [`prepare_append`](Self::prepare_append); what is judged is then as before, and nothing is prepared.
+    /// Those of [`prepare_append`](Self::prepare_append); the judged history is then as before, and nothing is prepared.
     pub fn append(&mut self, event: Event) -> Result<Verdict, Refusal>
         ensures well_formed { OnOk result (Admits self.old.now event) }
         ensures appended { OnOk result
@@ -303,7 +300,7 @@ impl Monitor {
     /// the verdict.
     ///
     /// # Errors
-    /// Those of [`prepare_rewind`](Self::prepare_rewind); what is judged is then as before, and nothing is prepared.
+    /// Those of [`prepare_rewind`](Self::prepare_rewind); the judged history is then as before, and nothing is prepared.
     pub fn rewind(&mut self, n: u32) -> Result<Verdict, Refusal>
         ensures within { OnOk result (n ≤ length self.old.now.events) }
         ensures rewound { OnOk result (self.new
@@ -324,7 +321,7 @@ impl Monitor {
     /// the verdict.
     ///
     /// # Errors
-    /// `AllocError` where a growth was refused; what is judged is then as before, and nothing is prepared.
+    /// `AllocError` if an allocation fails; the judged history is then as before, and nothing is prepared.
     pub fn set_model(&mut self, key: Key, kind: ModelKind) -> Result<Verdict, AllocError>
         ensures set { OnOk result (self.new ≡ with_again (length (history_of_key self.old.now key).events)
             (at_rest (with_kind key kind self.old.now) self.old.judged_again)) }
@@ -340,7 +337,7 @@ impl Monitor {
     /// verdict.
     ///
     /// # Errors
-    /// Those of [`prepare_budget`](Self::prepare_budget); what is judged is then as before, and nothing is prepared.
+    /// Those of [`prepare_budget`](Self::prepare_budget); the judged history is then as before, and nothing is prepared.
     pub fn set_budget(&mut self, key: Key, n: u32) -> Result<Verdict, Refusal>
         ensures within { OnOk result (IsBudget n) }
         ensures set { OnOk result (self.new ≡ with_again (length (history_of_key self.old.now key).events)
@@ -379,8 +376,8 @@ impl Monitor {
         &self.history
     }
 
-    /// The lines of the keys that have events, by first event. Each tells how many replays were made for it so far, of which each
-    /// event that was pushed is one ([`KeyLine::replayed`]).
+    /// The lines of the keys that have events, by first event. Each has the number of its replays so far, including each event that was
+    /// pushed ([`KeyLine::replayed`]).
     pub fn lines(&self) -> &Lines
         ensures { nows result.now.rows ≡ rows_of self.now.now }
     {
@@ -413,9 +410,9 @@ impl Monitor {
         }
     }
 
-    /// How many events of the key were judged again for the rewind that is prepared: fewer than 64 where the key loses events, and
-    /// none where it does not. Each was given to what judges the key, from the last state on that was saved before the cut. 0 where
-    /// another change is prepared, or none. [`commit`](Self::commit) judges nothing again.
+    /// How many events of the key were judged again for the rewind that is prepared: fewer than 64 if the key loses events, and none if
+    /// it does not. The judge of the key gets each of them, from the last state on that was saved before the cut. 0 if another change is
+    /// prepared, or none. [`commit`](Self::commit) judges nothing again.
     pub fn replays(&self, key: Key) -> u64
         ensures counted { IfSome self.now.next (λ next.
             result ≡ replays_by self.now.now next key) }
@@ -435,9 +432,9 @@ impl Monitor {
         }
     }
 
-    /// How many events were judged again so far, by changes that were prepared, whether they were carried out or dropped: by a
-    /// rewind fewer than 64 of each key that loses events, and none of others; by another kind or budget all of the key. A change
-    /// for which memory was refused is not counted. It stops at the greatest `u64`.
+    /// How many events were judged again so far, by prepared changes, whether these were carried out or dropped. A rewind judges fewer than
+    /// 64 events of each key that loses events, and none of others. Another kind or budget judges all of the key. A change for which memory
+    /// was refused is not counted. It stops at the greatest `u64`.
     pub fn judged_again(&self) -> u64
         ensures { result ≡ self.now.judged_again }
     {

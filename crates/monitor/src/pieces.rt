@@ -15,13 +15,13 @@ use models::{Key, ModelKind};
 use parallel_recheck::KeyEvents;
 use std::alloc::{AllocError, Global};
 
-/// The events of each key that has events, in the order of the keys' first events. They are lent by the history.
+/// The events of each key that has events, in the order of the keys' first events. They are borrowed from the history.
 #[derive(Drop)]
 pub(crate) struct Pieces<'a> {
     map: IndexMap<Key, KeyEvents<'a>>,
 }
 
-/// The pieces of these events, each to be judged by this kind and budget. It takes the time of the events.
+/// The pieces of these events, each to be judged by this kind and budget. It costs O(events).
 pub(crate) fn pieces_from<'a>(
     alloc: Global,
     kind: ModelKind,

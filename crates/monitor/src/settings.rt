@@ -1,4 +1,4 @@
-//! What is set for keys.
+//! Settings of keys.
 ghost use Rattle.std.specs.Prelude.{◌≡◌, ◌<◌, IfOk, OnOk};
 ghost use Rattle.linspec.specs.JudgedHistory.{opening_of, kind_of, budget_of};
 ghost use Rattle.monitor.specs.Settings.{room_for, with_setting};
@@ -8,16 +8,16 @@ use models::{Key, ModelKind};
 use std::alloc::{AllocError, Global};
 use std::marker::Model;
 
-/// What can be set for a key.
+/// A setting of a key.
 #[derive(Clone, Copy)]
 pub(crate) enum Setting {
     /// It is an object of this kind.
     Kind(ModelKind),
-    /// An ok may find at most so many ends of it.
+    /// An ok may find at most this number of ends of it.
     Budget(u32),
 }
 
-/// The kind and the budget of each key: what was set for it, else the default. A key is found in constant time.
+/// The kind and the budget of each key: its own setting, else the default. A key is found in constant time.
 #[derive(Drop)]
 pub(crate) struct Settings {
     kind: ModelKind,
@@ -81,7 +81,7 @@ impl Settings {
     }
 
     /// Makes room to set this for one more key, and gives the kind and the budget that the key then has. Nothing is set yet.
-    /// `AllocError` where memory was refused.
+    /// `AllocError` if memory was refused.
     pub(crate) fn prepare(
         &mut self,
         key: Key,

@@ -1,4 +1,4 @@
--- the shortest front that is not linearizable, of a history and of what is left of it
+-- the shortest prefix that is not linearizable, of a history and of the rest of it
 use Rattle.std.proofs.Common.{◌≡◌, ℕ, ◌≤◌, ◌⊎◌, ⊎_elim, Bool, false, not, List, [], ◌∷◌, ◌++◌, length, refl, sym, ap, ◌∙◌, subst, append_assoc, arith}
 use Rattle.std.specs.List.{Contains}
 use Rattle.std.proofs.lemmas.Bool.{cases_Bool, true≢false, not-true}

@@ -40,7 +40,7 @@ module _ (value : ℕ → Option ℤ) (ms : List Mark) (are : AreValues value ms
       of_step : IsEnqueue x.op.name x.op.part s x.found t ⊎ IsDequeue x.op.name x.op.part s x.found t
       of_step = unordered_view x.op.name x.op.part s t x.found step
 
-      -- what a dequeue leaves is no more
+      -- the queue after a dequeue has no more
       goes_dequeue : out x.id ≡ true → IsDequeue x.op.name x.op.part s x.found t → Next
       goes_dequeue e k =
           let fewer : times_in v (without_one k.0 s) ≤ times_in v s = no_more_than_before v k.0 s k.3 in

@@ -212,7 +212,7 @@ module _ (value : ℕ → Option ℤ) where
       invoked : Contains valued (Invoked y.id y.op)
       found : y.found ≡ x.found
 
-    -- one queue has, of each value, what the queue of this value has
+    -- one queue has, of each value, the items of the queue of this value
     abbrev HasAll : (ℕ → List ℤ) → List ℤ → Type 0
     HasAll s w = (v : ℤ) → times_in v (s (code v)) ≤ times_in v w
 

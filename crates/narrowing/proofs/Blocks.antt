@@ -108,7 +108,7 @@ module _ (ms : List Mark) (well : AreWellFormed ms) (order : List Taken) (end : 
   abbrev Apart : Taken → Taken → Type 0
   Apart x y = x.id ≢ y.id
 
-  -- a front of the order that has just these operations, and leaves the lock free
+  -- a prefix of the order that has just these operations, and leaves the lock free
   record FirstPart (ids : List ℕ) : Type 0 where
     front : List Taken
     rest : List Taken

@@ -33,7 +33,7 @@ use Rattle.narrowing.proofs.LeftOut.{step_of}
 use Rattle.narrowing.proofs.Multisets.{times_with, times_without, in_if_counted, unordered_view, by_enqueue, by_dequeue}
 use Rattle.narrowing.proofs.Counting.{puts, takes, ids_of, count, puts_is, takes_is, puts_none, takes_none, puts_it, takes_it, from_ids, to_ids, each_once, named_enqueue, named_dequeue}
 
--- what was put in and not taken out is in
+-- a value that was put in and not taken out is in
 one_step : (v : ℤ) (x : Taken) (s t : List ℤ) → unordered_queue.Steps s x.op x.found t → cond (puts v x) 1 0 + times_in v s ≡ cond (takes v x) 1 0 + times_in v t
 one_step v x s t step = ⊎_elim
     (λ k.

@@ -28,7 +28,7 @@ use Rattle.narrowing.specs.Counts.{AreQueueOperations, AreDequeues, IsLeftOver, 
 use Rattle.narrowing.specs.Bags.{AreValues}
 use Rattle.narrowing.specs.Locks.{IsCalled, IsPair, IsLast, StandFirst, IsBlock}
 
--- what holds of each element of a list that is written out
+-- a fact about each element of a list that is written out
 abbrev Each : {X : Type 0} → (X → Type 0) → List X → Type 0
 Each P [] = Unit {0}
 Each P (x ∷ xs) = P x × Each P xs

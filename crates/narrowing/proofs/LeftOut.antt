@@ -143,7 +143,7 @@ module _ (out : ℕ → Bool) where
             (λ x y answer i k f. k.fits answer (subst (λ n. Contains ms (Returned n answer)) k.id (from_without ms _ f).0)),
       )
 
-  -- reads may go, whatever they have answered
+  -- reads may be left out, whatever they have answered
   pub IsLinearizable-without_reads : (o : Object) (ms : List Mark) → ReadsLeave o → AreReads out ms → IsLinearizable o ms → IsLinearizable o (without out ms)
   IsLinearizable-without_reads o ms leave reads =
       IsLinearizable-rest o ms
@@ -166,7 +166,7 @@ module _ (out : ℕ → Bool) where
     IsLinearizable-stricter o ms (without out ms) (rest_asks_for_more ms none),
   )
 
-  -- what takes place in no state is in no order
+  -- an operation that takes place in no state is in no order
   pub IsLinearizable-without_foreign : (o : Object) (ms : List Mark) → ((id : ℕ) (op : Op) → IsTrue (out id) → Contains ms (Invoked id op) → (s t : o.State) (found : Found) → ¬ o.Steps s op found t)
       → IsLinearizable o ms → IsLinearizable o (without out ms)
   IsLinearizable-without_foreign o ms never h =

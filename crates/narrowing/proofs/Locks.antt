@@ -1,4 +1,4 @@
--- what may be left out of the history of a lock
+-- the operations that may be left out of the history of a lock
 use Rattle.std.proofs.Common.{◌≡◌, ◌≢◌, ℕ, inl, ⊎_elim, Bool, true, false, not, nat_eq, List, [], ◌∷◌, ◌++◌, refl, sym, ap, ◌∙◌, subst}
 use Rattle.std.specs.List.{Contains}
 use Rattle.std.proofs.lemmas.Bool.{cases_Bool, true≢false, eqb-true, eq-eqb, ne_eqb}
@@ -256,7 +256,7 @@ module _ (ms : List Mark) (well : AreWellFormed ms) (b : Bool) (first second : �
         (λ x y i j. Pairwise-across T xs (p ∷ (ys ++ q ∷ zs)) h x y i (Contains-tail p (ys ++ q ∷ zs) y
         (⊎_elim (λ k. between y (swaps.from y k)) (λ k. Contains-append_right ys (q ∷ zs) y (Contains-tail q zs y k)) (Contains-append_cases swaps.swaps zs y j))))
 
-    -- what is left is of the order, and neither of the two
+    -- the rest is of the order, and neither of the two
     from_left : (x : Taken) → Contains left x → Contains order x × (out x.id ≡ false)
     unfolding left
     from_left x h = ⊎_elim
@@ -328,7 +328,7 @@ module _ (ms : List Mark) (well : AreWellFormed ms) (b : Bool) (first second : �
       let whole : order ≡ c.0 ++ i.0 ∷ (d.0 ++ j.0 ∷ d.1) = joined order c.0 c.1 d.0 d.1 i.0 j.0 c.2 d.2 in
       (left order h.1 l c.0 d.0 d.1 i.0 j.0 whole i.2 j.2, h.1, left_is_legal order h.1 l c.0 d.0 d.1 i.0 j.0 whole i.2 j.2)
 
--- what each operation of the other name precedes is last, or takes no place
+-- an operation that each one of the other name precedes is last, or takes no place
 module _ (ms : List Mark) (well : AreWellFormed ms) (b : Bool) (id : ℕ) (is : IsLast ms (name_at (not b)) (name_at b) id) where
   abbrev only : ℕ → Bool
   only n = nat_eq n id

@@ -73,7 +73,7 @@ module _ (order : List Taken) (out : ℕ → Bool) (piece : Piece order out) whe
           in_rest [] ys zs z e h = subst (λ l. Contains l z) e h
           in_rest (x ∷ xs) ys zs z e h = (let tail : xs ++ ys ≡ xs ++ zs = cc in in_rest xs ys zs z tail h)
 
-  -- what is left of another piece
+  -- the rest of another piece
   piece_still : (other : ℕ → Bool) → Piece order other → Piece (left order) other
   piece_still other q = record {
     before = left q.before;

@@ -67,7 +67,7 @@ module _ (Skip : Taken → Type 0) (R : Taken → Taken → Type 0) where
     fits = λ y answer h k. (let r = from_match xs ys m y h in fits r.0 y answer r.1 r.2 k);
   }
 
-  -- the same, where an operation may have another name there
+  -- the same, if an operation may have another name there
   pub IsLegalOrder-similar : (whole other : List Mark) (o u : Object) (xs ys : List Taken) (s : o.State) (t : u.State) → IsLegalOrder o whole xs s → Matches xs ys → Run u u.start ys t
       → ((x z y w : Taken) → R x y → R z w → x.id ≢ z.id → y.id ≢ w.id)
       → ((x z y w : Taken) → R x y → R z w → Precedes other w.id y.id → Precedes whole z.id x.id)
@@ -91,7 +91,7 @@ module _ (Skip : Taken → Type 0) (R : Taken → Taken → Type 0) where
     fits = λ y answer h k. (let r = from_match xs ys m y h in fits r.0 y answer r.1 r.2 k);
   }
 
--- a run of one object makes one of another, where each step does: P tells how the states compare after each front of the order
+-- a run of one object makes one of another, if each step does: P says how the states compare after each prefix of the order
 module _ (o u : Object) (Skip : Taken → Type 0) (R : Taken → Taken → Type 0) (P : List Taken → o.State → u.State → Type 0) (order : List Taken)
     (step : (before after : List Taken) (x : Taken) (s t : o.State) (v : u.State) → before ++ x ∷ after ≡ order → P before s v → o.Steps s x.op x.found t
     → (Skip x × P (before ++ x ∷ []) t v) ⊎ ((y : Taken) × (w : u.State) × R x y × u.Steps v y.op y.found w × P (before ++ x ∷ []) t w)) where

@@ -85,7 +85,7 @@ no_more_than_before w v s h = let t = times_without w v s h in omega arith
 pub equal_or_not : (v w : ℤ) → (v ≡ w) ⊎ (v ≢ w)
 equal_or_not v w = ⊎_elim (λ e. inl ((Decides-int_eq v w).0 e)) (λ e. inr (λ q. let t = same_int v w q in cc)) (cases_Bool (int_eq v w))
 
--- what a step may be
+-- the possible steps
 abbrev pub IsEnqueue : Name → Part → List ℤ → Found → List ℤ → Type 0
 IsEnqueue name part s found t = (v : ℤ) × (name ≡ Enqueue) × (part ≡ Int v) × (t ≡ with_one v s) × (found ≡ Done)
 

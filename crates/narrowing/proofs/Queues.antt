@@ -35,7 +35,7 @@ use Rattle.narrowing.proofs.Once.{one_op}
 use Rattle.narrowing.proofs.LeftOut.{step_of, MayGo, Stays, IsLinearizable-rest}
 use Rattle.narrowing.proofs.Counting.{puts, takes, ids_of, count, puts_is, takes_is, puts_none, takes_none, from_ids, to_ids, each_once, named_enqueue}
 
--- what a step may be
+-- the possible steps
 abbrev IsEnqueue : Name → Part → List ℤ → Found → List ℤ → Type 0
 IsEnqueue name part s found t = (v : ℤ) × (name ≡ Enqueue) × (part ≡ Int v) × (t ≡ s ++ v ∷ []) × (found ≡ Done)
 
@@ -71,7 +71,7 @@ times_push : (w v : ℤ) (s : List ℤ) → times_in w (s ++ v ∷ []) ≡ cond 
 times_push w v [] = times_cons w v []
 times_push w v (x ∷ s) = let rest = times_push w v s in let a = times_cons w x (s ++ v ∷ []) in let b = times_cons w x s in omega arith
 
--- what was put in and not taken out is in
+-- a value that was put in and not taken out is in
 one_step : (v : ℤ) (x : Taken) (s t : List ℤ) → fifo_queue.Steps s x.op x.found t → cond (puts v x) 1 0 + times_in v s ≡ cond (takes v x) 1 0 + times_in v t
 one_step v x s t step = ⊎_elim
     (λ k.
@@ -132,7 +132,7 @@ module _ (values : ℤ → Bool) (ms : List Mark) (well : AreWellFormed ms) (out
         to_ids (takes v) order z i.1 (takes_is v k.0 z k.1 k.4 ∙ same_int k.0 v is))
         (queue_view z.op.name z.op.part step.0 step.1 z.found step.2))
 
-    -- what an unanswered dequeue has found is spare
+    -- a value that an unanswered dequeue has found is spare
     spare : (v : ℤ) (x : Taken) → Contains order x → takes v x ≡ true → (¬ HasReturned ms x.id) → IsSpare ms v
     spare v x there found unanswered =
         let whole = counted v order [] end l.run in

@@ -1,4 +1,4 @@
--- what may be left out of the history of a queue without an order
+-- the operations that may be left out of the history of a queue without an order
 use Rattle.std.proofs.Common.{◌≡◌, ◌≢◌, ℕ, suc, ◌≤◌, ℤ, inl, inr, ⊎_elim, Bool, true, false, not, ◌||◌, nat_eq, List, [], ◌∷◌, ◌++◌, length, refl, sym, ap, ◌∙◌, subst, arith}
 use Rattle.std.specs.List.{filter, Contains}
 use Rattle.std.proofs.lemmas.Bool.{cases_Bool, cases_eq, true≢false, eq-eqb, ne_eqb}
@@ -49,7 +49,7 @@ pub in_longer : (front whole : List Mark) (m : Mark) → IsFront front whole →
 in_longer front whole m f h = subst (λ k. Contains k m) f.1 (Contains-append_left front f.0 m h)
 
 module _ (ms : List Mark) (well : AreWellFormed ms) (out : ℕ → Bool) where
-  -- in each front of the whole what is left has enough
+  -- in each prefix of the whole the rest has enough
   abbrev LeavesEnough : Type 0
   LeavesEnough =
       (front : List Mark) (v : ℤ) → IsFront front ms → (dequeues : List ℕ) → AreDequeuesOf front v dequeues → ((id : ℕ) → Contains dequeues id → out id ≡ false)
@@ -94,7 +94,7 @@ module _ (ms : List Mark) (well : AreWellFormed ms) (out : ℕ → Bool) where
   pub no_dequeue : (id : ℕ) (a b : Op) → Contains ms (Invoked id a) → Contains ms (Invoked id b) → a.name ≡ Enqueue → b.name ≢ Dequeue
   no_dequeue id a b h k e f = (let same : a ≡ b = one_op ms well id a b h k in let clash : Enqueue ≡ Dequeue = sym e ∙ ap (λ (p : Op). p.name) same ∙ f in absurd (let none : ⊥ = cc in none))
 
-  -- dequeues may go
+  -- dequeues may be left out
   pub without_dequeues : AreQueueOperations ms → AreDequeues out ms → IsLinearizable unordered_queue ms → IsLinearizable unordered_queue (without out ms)
   without_dequeues are dequeues h = rest_linearizable are (λ front v is ids those stay.
       let r = never_runs_out ms well h front v is ids those in (
@@ -183,7 +183,7 @@ module _ (ms : List Mark) (well : AreWellFormed ms) (v : ℤ) (e d : ℕ) (rank 
           omega (arith, bound, fewer),
         )
 
-    -- the enqueue alone is there: what has answered has done so before the dequeue
+    -- the enqueue alone is there: each dequeue that has answered has done so before the dequeue
     one_alone : IsInvoked front e → ¬ HasReturned front d → Enough
     one_alone here pending =
         let op_is : here.0 ≡ rank.op = one_op ms well e here.0 rank.op (in_longer front ms _ is here.1) e_there in

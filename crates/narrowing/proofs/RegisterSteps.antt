@@ -10,7 +10,7 @@ use Rattle.models.specs.Objects.{IsOneOf, register_apply, cas_register_apply}
 use Rattle.models.proofs.Steps.{same_outcome}
 use Rattle.models.proofs.Tables.{cas_takes_place}
 
--- what a step may be: a write, a read, a compare-and-set
+-- the possible steps: a write, a read, a compare-and-set
 abbrev pub IsWrite : Name → Part → Option ℤ → Found → Option ℤ → Type 0
 IsWrite name part s found t = (v : ℤ) × (name ≡ Write) × (part ≡ Int v) × (t ≡ Some v) × (found ≡ Done)
 

@@ -1,4 +1,4 @@
--- what may be left out of the history of a register
+-- the operations that may be left out of the history of a register
 use Rattle.std.proofs.Common.{◌≡◌, ◌≢◌, ℕ, ℤ, ◌⊎◌, inl, inr, ⊎_elim, Bool, true, false, Option, Some, None, List, [], ◌∷◌, ◌++◌, refl, sym, ap, ◌∙◌, subst, append_assoc}
 use Rattle.std.specs.List.{Contains}
 use Rattle.std.proofs.lemmas.Bool.{cases_Bool, true≢false}
@@ -26,7 +26,7 @@ use Rattle.narrowing.proofs.Once.{one_op, not_before_itself}
 use Rattle.narrowing.proofs.LeftOut.{MayGo, Stays, IsLinearizable-rest}
 use Rattle.narrowing.proofs.RegisterSteps.{IsRead, IsCas, View, view_register, view_cas_register, by_cas_view, by_view, no_cas}
 
--- what is brought in and compared, by the sort of the operation
+-- the written and the compared value, by the sort of the operation
 brings_write : (name : Name) (part : Part) (v : ℤ) → name ≡ Write → part ≡ Int v → brought_by name part ≡ Some v
 brings_write name part v e f = λ i. brought_by (e i) (f i)
 

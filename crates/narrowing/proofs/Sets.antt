@@ -1,4 +1,4 @@
--- what may be left out of the history of a set
+-- the operations that may be left out of the history of a set
 use Rattle.std.proofs.Common.{◌≡◌, ℕ, ℤ, ◌⊎◌, inl, inr, ⊎_elim, Bool, true, false, List, [], ◌∷◌, ◌++◌, refl, sym, ap, ◌∙◌, subst}
 use Rattle.std.specs.List.{Contains}
 use Rattle.std.proofs.lemmas.Bool.{cases_Bool}
@@ -27,7 +27,7 @@ use Rattle.narrowing.proofs.Matching.{Matches, simulated}
 use Rattle.narrowing.proofs.Once.{one_op, not_before_itself}
 use Rattle.narrowing.proofs.LeftOut.{MayGo, Stays, IsLinearizable-rest}
 
--- what a step may be
+-- the possible steps
 abbrev pub IsAdd : Name → Part → List ℤ → Found → List ℤ → Type 0
 IsAdd name part s found t = (v : ℤ) × (name ≡ Add) × (part ≡ Int v) × (t ≡ put_in v s) × (found ≡ Done)
 
@@ -106,7 +106,7 @@ module _ (ms : List Mark) (well : AreWellFormed ms) (out : ℕ → Bool) (are : 
       kept : out x.id ≡ false → Stays out ms x x
       kept e = record { stays = e; id = refl; op = refl; fits = λ answer d. l.fits x answer there d }
 
-      -- what is added is in afterwards, and what was in stays
+      -- an added value is in afterwards, and the old ones stay
       has_after : (y : Taken) (v : ℤ) → Contains (before ++ x ∷ []) y → Adds y.op v → Contains t v
       has_after y v h adds =
           let k : Contains before y ⊎ (x ≡ y) = Contains-push_cases before x y h in

@@ -1,4 +1,4 @@
--- what the rules ask for holds still where others are left out
+-- the conditions of the rules still hold if others are left out
 use Rattle.std.proofs.Common.{◌≡◌, ◌≢◌, ℕ, suc, ◌≤◌, ℤ, ⊎_elim, Bool, true, false, not, nat_eq, List, [], ◌∷◌, ◌++◌, length, refl, sym, ap, ◌∙◌, subst, append_assoc, arith}
 use Rattle.std.specs.List.{filter, Contains}
 use Rattle.std.proofs.lemmas.Bool.{cases_eq, true≢false, eq-eqb, ne_eqb}
@@ -180,7 +180,7 @@ module _ (ms : List Mark) (well : AreWellFormed ms) (v : ℤ) (e d : ℕ) (rank 
             r.2,
           )
 
-      -- else it has the lower rank, and so has the dequeue: the other one answers before that one
+      -- else it has the lower rank, and so has the dequeue: the dequeue of the lower rank answers first
       invoked_before : IsInvoked invoked_front e → ¬ HasReturned answered_front d → Enough
       invoked_before here unanswered =
           let own : here.0 ≡ rank.op = one_op ms well e here.0 rank.op (in_longer invoked_front ms _ invoked_in here.1) e_there in
@@ -314,7 +314,7 @@ module _ (ms : List Mark) (well : AreWellFormed ms) (w : ℤ) (f : ℕ) (other :
           (r.0, left_enqueues ms well (is_one_of e d) other.before w r.0 r.1 r.2, r.3));
     }
 
--- what an enqueue of no dequeue's rank leaves, where it is left out
+-- the rest after an enqueue of no dequeue's rank is left out
 module _ (ms : List Mark) (well : AreWellFormed ms) (v : ℤ) (e : ℕ) (gone : IsLeftOver ms v e) where
   abbrev alone : ℕ → Bool
   alone id = nat_eq id e

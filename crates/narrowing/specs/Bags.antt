@@ -11,8 +11,8 @@ use Rattle.events.specs.Events.Mark.{Invoked, Returned}
 use Rattle.linspec.specs.Operations.{HasReturned}
 use Rattle.narrowing.specs.LeftOut.{without}
 
--- value tells of which value the operation is: an enqueue of the value that it puts in, a dequeue that has returned of the one
--- that it has answered; any other one has not returned, and is of none
+-- value gives the value of the operation. For an enqueue that is the value that it puts in, and for a dequeue that has returned its answer.
+-- Any other operation has not returned, and has none
 abbrev pub IsOfValue : (ℕ → Option ℤ) → List Mark → ℕ → Op → Type 0
 IsOfValue value marks id op =
     ((v : ℤ) × (op.name ≡ Enqueue) × (op.part ≡ Int v) × (value id ≡ Some v))

@@ -17,8 +17,8 @@ AreQueueOperations marks =
     → ((v : ℤ) × Enqueues op v)
     ⊎ ((v : ℤ) × (op.name ≡ Dequeue) × (op.part ≡ Nil) × Contains marks (Returned id (Number v)))
 
--- the dequeues that have answered v in one front of the history are no more than the enqueues of v that are invoked in another
--- one, and never fail
+-- the dequeues that have answered v in one prefix of the history are no more than the enqueues of v that are invoked in another one, and
+-- never fail
 abbrev pub HasEnough : List Mark → List Mark → List Mark → ℤ → Type 0
 HasEnough marks invoked answered v =
     (dequeues : List ℕ) → AreDequeuesOf answered v dequeues
@@ -43,8 +43,8 @@ pub record IsLeftOver (marks : List Mark) (v : ℤ) (enqueue : ℕ) : Type 0 whe
   pub invoked : before ++ Invoked enqueue op ∷ after ≡ marks
   pub enough : HasEnough marks before marks v
 
--- an enqueue of v, and a dequeue that has answered v, of the same rank or a lower one: no more dequeues have answered v before this one did than enqueues of v
--- were invoked before that one
+-- an enqueue of v, and a dequeue that has answered v, of the same rank or a lower one. No more dequeues have answered v before this one did
+-- than enqueues of v were invoked before that one
 pub record AreOfOneRank (marks : List Mark) (v : ℤ) (enqueue dequeue : ℕ) : Type 0 where
   pub op : Op
   pub enqueues : Enqueues op v

@@ -7,8 +7,8 @@ use Rattle.events.specs.Events.{Mark, Entry, marks}
 use Rattle.events.specs.Events.Mark.{Invoked, Returned, Failed}
 use Rattle.linspec.specs.Operations.{IsInvoked, Precedes}
 
--- stricter asks for more than the history: it has no other operations, what has returned in the history has so there, with
--- the same answer, what has failed has failed there, if it is there, and who precedes another precedes it there
+-- stricter asks for more than the history. It has no other operations. An operation that has returned in the history has so there, with the
+-- same answer, and one that has failed has failed there, if it is there. An operation that precedes another precedes it there
 pub record AsksForMore (history stricter : List Mark) : Type 0 where
   pub operations : (id : ℕ) (op : Op) → Contains stricter (Invoked id op)
       → Contains history (Invoked id op)
@@ -19,9 +19,9 @@ pub record AsksForMore (history stricter : List Mark) : Type 0 where
   pub precedence : (a b : ℕ) → IsInvoked stricter a → IsInvoked stricter b → Precedes history a b
       → Precedes stricter a b
 
--- the intervals of narrow are within those of wide: both have the same operations; what has returned in wide has so in
--- narrow, with the same answer, and what has failed has failed; each is invoked no earlier, and returns no later. The index of
--- an entry is its moment
+-- the intervals of narrow are within those of wide. Both have the same operations. An operation that has returned in wide has so in narrow,
+-- with the same answer, and one that has failed has failed. Each is invoked no earlier, and returns no later. The index of an entry is its
+-- moment
 pub record HasNarrowerIntervals (wide narrow : List Entry) : Type 0 where
   pub operations : (id : ℕ) (op : Op) → Contains (marks wide) (Invoked id op)
       ↔ Contains (marks narrow) (Invoked id op)

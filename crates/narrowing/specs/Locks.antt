@@ -1,4 +1,4 @@
--- Promise: what may be left out of the history of a lock (this project's own)
+-- Promise: the operations that may be left out of the history of a lock (this project's own)
 use Rattle.std.specs.Prelude.{◌≡◌, ◌≢◌, ◌↔◌, ◌⊎◌, ℕ, Bool, IsTrue, List, [], ◌∷◌, ◌++◌, length}
 use Rattle.std.specs.List.{Contains}
 use Rattle.models.specs.declared.operation.Name.{Name}
@@ -10,7 +10,7 @@ use Rattle.linspec.specs.Operations.{IsInvoked, HasReturned, Precedes}
 use Rattle.linspec.specs.Orders.{Pairwise}
 use Rattle.narrowing.specs.LeftOut.{without}
 
--- b is invoked after a: the history can be cut so that a is invoked before the cut, and b after it
+-- b is invoked after a: a cut of the history has the invocation of a before it, and that of b after it
 pub record IsInvokedAfter (marks : List Mark) (a b : ℕ) : Type 0 where
   pub before : List Mark
   pub after : List Mark
@@ -47,16 +47,16 @@ abbrev pub IsLast : List Mark → Name → Name → ℕ → Type 0
 IsLast marks name other id =
     IsCalled marks name id × ((x : ℕ) → MayTakePlace marks other x → Precedes marks x id)
 
--- each of these is of the one name and precedes the acquire; and those are all of the other name that may stand before it: that
--- have not failed, and that it does not precede
+-- each of these is of the one name and precedes the acquire. Those are all of the other name that may stand before it: they have not
+-- failed, and it does not precede them
 abbrev pub AreForced : List Mark → ℕ → Name → Name → List ℕ → List ℕ → Type 0
 AreForced marks acquire name other these those =
     ((id : ℕ) → Contains these id → IsCalled marks name id × Precedes marks id acquire)
     × ((id : ℕ) → id ≢ acquire → MayTakePlace marks other id → ¬ Precedes marks acquire id
     → Contains those id)
 
--- these acquires and releases, as many of the one as of the other, stand before an acquire that has returned, and no others can:
--- the acquires precede it, and no other release may stand before it; or the releases do, and no other acquire may
+-- these acquires and releases, as many of the one as of the other, stand before an acquire that has returned, and no others can. Either the
+-- acquires precede it, and no other release may stand before it; or the releases do, and no other acquire may
 pub record StandFirst (marks : List Mark) (acquires releases : List ℕ) : Type 0 where
   pub acquire : ℕ
   pub called : IsCalled marks Acquire acquire
@@ -72,7 +72,7 @@ IsFirstPart marks ids =
     (acquires : List ℕ) × (releases : List ℕ) × StandFirst marks acquires releases
     × (ids ≡ acquires ++ releases)
 
--- out names a block: what is in one such front, and not in another one that it contains, or that is empty
+-- out names a block: the operations of one such prefix without those of another that it contains, or that is empty
 pub record IsBlock (marks : List Mark) (out : ℕ → Bool) : Type 0 where
   pub smaller : List ℕ
   pub larger : List ℕ

@@ -1,4 +1,4 @@
--- Promise: what may be left out of the history of a queue with an order (this project's own)
+-- Promise: the operations that may be left out of the history of a queue with an order (this project's own)
 use Rattle.std.specs.Prelude.{◌≡◌, ◌≢◌, ◌↔◌, ℕ, ℤ, ◌<◌, Bool, IsTrue, List, length}
 use Rattle.std.specs.List.{Contains}
 use Rattle.models.specs.declared.operation.Name.TheVariants.{Enqueue, Dequeue}
@@ -32,8 +32,8 @@ IsSpare marks v =
     (enqueues : List ℕ) × AreEnqueuesIn marks marks v enqueues
     × ((dequeues : List ℕ) → AreDequeuesOf marks v dequeues → length dequeues < length enqueues)
 
--- out names the operations of these values: each enqueue of one, and each dequeue that has answered one. Of the dequeues that
--- have not returned it names any or none, and one only where each spare value is one of these
+-- out names the operations of these values: each enqueue of one, and each dequeue that has answered one. Among the dequeues that have not
+-- returned it names any or none, and one only if each spare value is one of these
 pub record AreOfValues (values : ℤ → Bool) (out : ℕ → Bool) (marks : List Mark) : Type 0 where
   pub enqueues : (id : ℕ) (op : Op) (v : ℤ) → Contains marks (Invoked id op) → Enqueues op v
       → IsTrue (out id) ↔ IsTrue (values v)

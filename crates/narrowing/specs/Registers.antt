@@ -1,4 +1,4 @@
--- Promise: what may be left out of the history of a register (this project's own)
+-- Promise: the operations that may be left out of the history of a register (this project's own)
 use Rattle.std.specs.Prelude.{◌≡◌, ℕ, ℤ, ◌⊎◌, Bool, IsTrue, Option, Some, None, List}
 use Rattle.std.specs.List.{Contains}
 use Rattle.models.specs.declared.operation.Name.{Name}
@@ -34,14 +34,14 @@ IsFinder marks id v =
     × (((op.name ≡ Read) × Contains marks (Returned id (Number v)))
     ⊎ (compared_by op.name op.part ≡ Some v))
 
--- the finder may have found what the bringer brought in: it does not precede the bringer, and no third operation that has
--- returned and brings a value in stands between them, preceded by the bringer and preceding the finder
+-- the finder may have found the bringer's value. It does not precede the bringer. No third operation that has returned and writes a value
+-- stands between them, preceded by the bringer and preceding the finder
 pub record MayHaveFound (marks : List Mark) (bringer finder : ℕ) : Type 0 where
   pub not_before : ¬ Precedes marks finder bringer
   pub none_between : (third : ℕ) (v : ℤ) → IsBringer marks third v → HasReturned marks third
       → Precedes marks bringer third → ¬ Precedes marks third finder
 
--- with each bringer of a value each finder of it is named by out, if it may have found what the bringer brought in
+-- with each bringer of a value out names each finder that may have found this value
 abbrev pub DragsFinders : (ℕ → Bool) → List Mark → Type 0
 DragsFinders out marks =
     (bringer finder : ℕ) (v : ℤ) → IsBringer marks bringer v → IsFinder marks finder v

@@ -1,4 +1,4 @@
--- Promise: what may be left out of the history of a set (this project's own)
+-- Promise: the operations that may be left out of the history of a set (this project's own)
 use Rattle.std.specs.Prelude.{◌≡◌, ◌↔◌, ℕ, ℤ, Bool, not, IsTrue, List}
 use Rattle.std.specs.List.{filter, Contains}
 use Rattle.models.specs.declared.operation.Name.TheVariants.{Add}

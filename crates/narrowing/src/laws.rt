@@ -42,7 +42,7 @@ pub fn narrower_intervals_law()
         → IsLinearizable (product kinds) (marks wide) }
 {}
 
-/// An operation that has not returned may be left out of an order: where the history without some of these is
+/// An operation that has not returned may be left out of an order: if the history without some of these is
 /// linearizable, so is the history.
 pub fn not_returned_law()
     ensures one { (kind : ModelKind) (out : ℕ → Bool) (marks : List Mark) →
@@ -53,7 +53,7 @@ pub fn not_returned_law()
         → IsLinearizable (product kinds) marks }
 {}
 
-/// An operation that failed decides nothing: a history is linearizable exactly where it is so without some of these. And
+/// An operation that failed decides nothing: a history is linearizable exactly if it is so without some of these. And
 /// where it becomes illegal at an event without them, it does so with them, if each that was invoked before that event had
 /// failed by then. One that was still open may have taken place.
 pub fn failed_law()
@@ -70,8 +70,8 @@ pub fn failed_law()
         → EndsShortestBadFront (object_of kind) entries last }
 {}
 
-/// A read leaves the state as it was, so any reads may be left out: the rest of a linearizable history is linearizable. Where
-/// none of them has returned they decide nothing: the history is linearizable exactly where the rest is; and where the rest
+/// A read leaves the state as it was, so any reads may be left out: the rest of a linearizable history is linearizable. If
+/// none of them has returned they decide nothing: the history is linearizable exactly if the rest is; and if the rest
 /// becomes illegal at an event, so does the history.
 pub fn reads_law()
     ensures any { (kind : ModelKind) (out : ℕ → Bool) (marks : List Mark) →
@@ -88,8 +88,8 @@ pub fn reads_law()
         → EndsShortestBadFront (object_of kind) entries last }
 {}
 
-/// An operation that takes place in no state of the object is in no order: the rest of a linearizable history is
-/// linearizable; and the history is where the rest is, if none of these has returned.
+/// An operation that takes place in no state of the object is in no order, so the rest of a linearizable history is linearizable. The
+/// history is linearizable if the rest is and none of these operations has returned.
 pub fn foreign_law()
     ensures any { (kind : ModelKind) (out : ℕ → Bool) (marks : List Mark) →
         AreForeign kind out marks → IsLinearizable (object_of kind) marks
@@ -100,9 +100,8 @@ pub fn foreign_law()
         ↔ IsLinearizable (object_of kind) (without out marks) }
 {}
 
-/// Of a register, with compare-and-set and without, any operations may be left out together, if with each that brings a value
-/// in each goes that may have found it: the rest of a linearizable history is linearizable. So all operations of some values
-/// may be left out.
+/// Operations of a register, with compare-and-set and without, may be left out together. With each that writes a value, those that may have
+/// found the value are left out too. The rest of a linearizable history is linearizable. So all operations of some values may be left out.
 pub fn register_law()
     ensures register { (out : ℕ → Bool) (marks : List Mark) →
         AreWellFormed marks → DragsFinders out marks → IsLinearizable register marks
@@ -118,8 +117,8 @@ pub fn register_law()
         → IsLinearizable cas_register (without out marks) }
 {}
 
-/// A read that has answered v takes place just where cas [v v] does: the history of a register is linearizable exactly where
-/// it is so with some of its reads as such. A register whose history has no cas is a register with compare-and-set.
+/// A read that has answered v takes place just where cas [v v] does. So the history of a register is linearizable exactly if it is so with
+/// some of its reads replaced by such a cas. A register whose history has no cas is a register with compare-and-set.
 pub fn reads_as_cas_law()
     ensures cas_register { (reads : ℕ → Option ℤ) (marks : List Mark) →
         AreWellFormed marks → AreAnsweredReads reads marks
@@ -131,10 +130,10 @@ pub fn reads_as_cas_law()
         → IsLinearizable register marks ↔ IsLinearizable cas_register marks }
 {}
 
-/// Of a lock an acquire and a release that it precedes may be left out together, if no other release and acquire may stand
-/// between them in turn, the acquire invoked after the first one; a release and an acquire that it precedes, if no other acquire
-/// and release may, likewise; an acquire that each release precedes; a release that each acquire precedes; and blocks: what
-/// stands in one piece in every order, with the lock free before and after. The rest of a linearizable history is linearizable.
+/// These operations of a lock may be left out. First, an acquire and a release that it precedes, together, if no other release and acquire
+/// may stand between them in turn, the acquire invoked after the first one. Likewise a release and an acquire that it precedes, if no other
+/// acquire and release may. Then an acquire that each release precedes, and a release that each acquire precedes. Last, blocks: the
+/// operations of one piece of every order, with the lock free before and after. The rest of a linearizable history is linearizable.
 pub fn mutex_law()
     ensures pair { (marks : List Mark) (acquire release : ℕ) →
         AreWellFormed marks → IsPair marks Acquire Release acquire release
@@ -155,8 +154,8 @@ pub fn mutex_law()
         → IsLinearizable mutex (without_each outs marks) }
 {}
 
-/// Of a set adds may be left out that another add of the same value precedes, which stays. And values may: all adds of them,
-/// and these values out of each answer. In both cases the rest of a linearizable history is linearizable.
+/// Adds of a set may be left out that another add of the same value precedes, which stays. And values may: all adds of them, and these
+/// values out of each answer. In both cases the rest of a linearizable history is linearizable.
 pub fn set_law()
     ensures repeated { (out : ℕ → Bool) (marks : List Mark) →
         AreWellFormed marks → AreRepeatedAdds out marks → IsLinearizable set_of_numbers marks
@@ -166,17 +165,17 @@ pub fn set_law()
         → IsLinearizable set_of_numbers (answers_without values (without out marks)) }
 {}
 
-/// Of a queue with an order values may be left out: all enqueues of them, and all dequeues that have answered one. Dequeues
-/// that have not returned may go too, if each value goes that is spare: of which more enqueues did not fail than dequeues have
-/// answered. The rest of a linearizable history is linearizable.
+/// Values of a queue with an order may be left out: all enqueues of them, and all dequeues that have answered one. Dequeues that have not
+/// returned may be left out too, if each spare value is. A value is spare if more enqueues of it did not fail than dequeues have answered
+/// it. The rest of a linearizable history is linearizable.
 pub fn fifo_queue_law()
     ensures { (values : ℤ → Bool) (out : ℕ → Bool) (marks : List Mark) →
         AreWellFormed marks → AreOfValues values out marks → IsLinearizable fifo_queue marks
         → IsLinearizable fifo_queue (without out marks) }
 {}
 
-/// A queue without an order is a bag for each value: its history is linearizable exactly where each value's part is, the
-/// enqueues of the value and the dequeues that have answered it. Dequeues that have not returned decide nothing.
+/// A queue without an order is a bag for each value. Its history is linearizable exactly if each value's part is: the enqueues of the value
+/// and the dequeues that have answered it. Dequeues that have not returned decide nothing.
 pub fn bags_law()
     ensures { (value : ℕ → Option ℤ) (marks : List Mark) →
         AreWellFormed marks → AreValues value marks
@@ -184,16 +183,16 @@ pub fn bags_law()
         ↔ ((v : ℤ) → IsLinearizable unordered_queue (bag value v marks)) }
 {}
 
-/// A queue without an order by counts: its history is linearizable exactly where at each moment, of each value, no more
-/// dequeues have answered it than enqueues of it were invoked that never fail.
+/// A queue without an order by counts. Its history is linearizable under exactly this condition: at each moment no more dequeues have
+/// answered a value than enqueues of it were invoked that never fail.
 pub fn counts_law()
     ensures { (marks : List Mark) → AreWellFormed marks → AreQueueOperations marks
         → IsLinearizable unordered_queue marks ↔ NeverRunsOut marks }
 {}
 
-/// Of a queue without an order dequeues may be left out; an enqueue and a dequeue of one value together, if no more dequeues
-/// have answered the value before that one did than enqueues of it were invoked before that one; and an enqueue alone, if no
-/// more dequeues have answered the value at all. The rest of a linearizable history is linearizable.
+/// These operations of a queue without an order may be left out. First, dequeues. Then an enqueue and a dequeue of one value together, if
+/// no more dequeues have answered the value before that one did than enqueues of it were invoked before that one. Last, an enqueue alone,
+/// if no more dequeues have answered the value at all. The rest of a linearizable history is linearizable.
 pub fn unordered_queue_law()
     ensures dequeues { (out : ℕ → Bool) (marks : List Mark) →
         AreWellFormed marks → AreQueueOperations marks → AreDequeues out marks
@@ -209,9 +208,9 @@ pub fn unordered_queue_law()
         → IsLinearizable unordered_queue (without (λ id. nat_eq id enqueue) marks) }
 {}
 
-/// Several may be left out one after another: what the rules ask for of a lock's pair and of what is last holds still where
-/// any others are left out; and of a pair of one rank, and of an enqueue of no dequeue's rank, in a queue without an order,
-/// where another such pair is, or another such enqueue.
+/// Several may be left out one after another. The conditions of the rules for a lock's pair and for last operations still hold after any
+/// others are left out. Those for a pair of one rank, and for an enqueue of no dequeue's rank, in a queue without an order still hold after
+/// another such pair or enqueue is left out.
 pub fn rules_stay_law()
     ensures pair { (out : ℕ → Bool) (marks : List Mark) (name other : Name) (first second : ℕ) →
         IsFalse (out first) → IsFalse (out second) → IsPair marks name other first second
@@ -237,7 +236,7 @@ pub fn rules_stay_law()
         → IsLeftOver (without (λ id. nat_eq id enqueue) marks) w other }
 {}
 
-/// How operations are numbered decides nothing: a history is linearizable exactly where it is so with other numbers, no two
+/// How operations are numbered decides nothing: a history is linearizable exactly if it is so with other numbers, no two
 /// the same.
 pub fn renaming_law()
     ensures one { (kind : ModelKind) (name : ℕ → ℕ) (marks : List Mark) → IsOneToOne name
@@ -247,8 +246,8 @@ pub fn renaming_law()
         → IsLinearizable (product kinds) marks ↔ IsLinearizable (product kinds) (renamed name marks) }
 {}
 
-/// How an illegal part and an order tell the event: where what comes before an event is linearizable, and a part of what comes
-/// up to it is not, which it would be if the whole were, then the history becomes illegal at this event.
+/// How an illegal part and an order determine the event. Let the events before an event be linearizable. Let a part of the events up to it
+/// not be, though it would be if the whole were. Then the history becomes illegal at this event.
 pub fn illegal_at_law()
     ensures one { (kind other : ModelKind) (entries before : List Entry) (last : Entry)
         (part : List Mark) →

@@ -1,4 +1,4 @@
-//! What is usually the cause of a refusal.
+//! The usual causes of refusals.
 ghost use Rattle.std.specs.Prelude.{IsSome};
 ghost use Rattle.onlookers.specs.Hints.{IsPrinted};
 
@@ -36,7 +36,7 @@ macro_rules! hint_at {
     };
 }
 
-// What `run` alone is refused for.
+// The refusals of `run` alone.
 const TAPE_FULL: &str =
     "A run has at most 4294967295 calls of its clients and the nemesis: let --ops be less.";
 
@@ -45,8 +45,8 @@ const REPLICAS: &str = "--replicas takes a number, 1 to 7.";
 const NO_SEAT: &str =
     "A client got no place on the board. Try again, or with a smaller --concurrency.";
 
-/// What is usually the cause of the refusal of this number, as a sentence or two; `None` for 14 to 17, which the program never
-/// prints, and for what is no refusal's number.
+/// The usual cause of the refusal of this number, as a sentence or two. `None` for 14 to 17, which the program never prints, and for other
+/// numbers without a refusal.
 pub fn hint_of(number: u8) -> Option<&'static str>
     ensures { IsPrinted number → IsSome result }
 {

@@ -1,8 +1,8 @@
-//! What is said beside standard output. Whoever looks on while the program runs is an [`Onlooker`], and is told how far a run has
-//! come and why something was refused; [`OnStandardError`] says it there. No contract speaks of it, but that each refusal that is
-//! printed has a hint, and nothing of it changes what a program reads, writes to standard output or ends with.
+//! The texts in addition to standard output. The observer of a running program is an [`Onlooker`], which gets the progress and the reasons
+//! of refusals; [`OnStandardError`] prints them there. No contract speaks of it, but that each refusal that is printed has a hint, and
+//! nothing of it changes what a program reads, writes to standard output or ends with.
 //!
-//! A call takes memory only where its result can be `AllocError`, or a refusal for want of memory.
+//! A call allocates only if its result can be `AllocError`, or a refusal because memory ran out.
 #![tactic(auto)]
 
 mod hints;

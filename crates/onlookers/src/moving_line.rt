@@ -13,8 +13,8 @@ const AT_FIRST: u64 = 1000;
 // Milliseconds between two times that it is shown.
 const BETWEEN: u64 = 250;
 
-/// A line on standard error that says how far something has come. It is written over four times a second, from the first second
-/// on; where standard error is no terminal it is never shown.
+/// A line on standard error that says how far something has come. It is written over four times a second, from the first second on; if
+/// standard error is not a terminal it is never shown.
 #[derive(Drop)]
 pub struct MovingLine<'a, X> {
     rt: &'a X,
@@ -25,7 +25,7 @@ pub struct MovingLine<'a, X> {
 }
 
 impl<'a, X: Clock + Eprint> MovingLine<'a, X> {
-    /// A line that is not shown yet. It reads the clock where there is a terminal, and takes no memory.
+    /// A line that is not shown yet. It reads the clock if there is a terminal, and takes no memory.
     pub fn new(rt: &'a X, is_terminal: bool) -> Self {
         let next = if is_terminal {
             time_in(rt, AT_FIRST)
@@ -39,7 +39,7 @@ impl<'a, X: Clock + Eprint> MovingLine<'a, X> {
         }
     }
 
-    /// Whether it is ever shown: not without a terminal, and not where the clock can't be read.
+    /// Whether it is ever shown: not without a terminal, and not if the clock can't be read.
     pub fn moves(&self) -> bool {
         self.next.get().is_some()
     }
@@ -65,7 +65,7 @@ impl<'a, X: Clock + Eprint> MovingLine<'a, X> {
         self.next.set(time_in(self.rt, BETWEEN));
     }
 
-    /// Shows how far a run of clients has come: so many events, and the verdict on them. It may wait as [`show`](MovingLine::show)
+    /// Shows the progress of a run of clients: the number of events, and the verdict on them. It may wait as [`show`](MovingLine::show)
     /// does.
     pub fn show_run(&self, events: u64, verdict: Verdict) {
         match verdict {
@@ -79,7 +79,7 @@ impl<'a, X: Clock + Eprint> MovingLine<'a, X> {
         }
     }
 
-    /// Ends the line, where it stands there. It may wait for standard error, whose errors are passed over.
+    /// Ends the line, if it stands there. It may wait for standard error, whose errors are passed over.
     pub fn leave(&self) {
         if self.is_open.replace(false) {
             let _ = self.rt.eprintln("");
@@ -87,7 +87,7 @@ impl<'a, X: Clock + Eprint> MovingLine<'a, X> {
     }
 }
 
-// The time in so many milliseconds from now, where the clock can be read.
+// The time in this number of milliseconds from now, if the clock can be read.
 fn time_in<X: Clock>(clock: &X, milliseconds: u64) -> Option<Instant> {
     Instant::now(clock)
         .ok()?

@@ -5,8 +5,8 @@ use linspec::Verdict;
 use monitor::Monitor;
 use std::io;
 
-/// Is told how far a run has come, and why something was refused. No call gives anything back or is refused; whoever tells
-/// waits for it, and tells of each line and each event, so it should cost little.
+/// Gets the progress of a run, and the reason of a refusal. No call gives anything back or is refused. The caller waits for it, and calls
+/// it for each line and each event, so it should cost little.
 pub trait Onlooker {
     /// So many further bytes of a recorded history were read; 0 at its end.
     fn read(&self, bytes: usize);
@@ -17,7 +17,7 @@ pub trait Onlooker {
     /// So many events of a recorded history were taken.
     fn taken(&self, events: usize);
 
-    /// All events of a recorded history were taken, and so many workers judge them now.
+    /// All events of a recorded history were taken, and `workers` workers judge them now.
     fn judges(&self, events: usize, workers: u32);
 
     /// A further line of a script came.

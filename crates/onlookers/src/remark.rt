@@ -1,4 +1,4 @@
-//! What may be said beside a verdict.
+//! Remarks in addition to a verdict.
 
 use events::{Body, Event};
 use linspec::Verdict;
@@ -6,7 +6,7 @@ use models::{Key, ModelKind, Name, each_kind};
 use monitor::Monitor;
 use std::fmt;
 
-/// What may be said beside a verdict.
+/// A remark in addition to a verdict.
 #[derive(Clone, Copy)]
 pub enum Remark {
     /// Nothing was judged.
@@ -48,7 +48,7 @@ fn has_operation(kind: ModelKind, name: Name) -> bool {
     }
 }
 
-/// What may be said beside this verdict of the monitor, if anything.
+/// The remark on this verdict of the monitor, if any.
 pub fn remark_on(monitor: &Monitor, verdict: &Verdict) -> Option<Remark> {
     match verdict {
         Verdict::Legal => None,
@@ -60,7 +60,7 @@ pub fn remark_on(monitor: &Monitor, verdict: &Verdict) -> Option<Remark> {
     }
 }
 
-// Says so where the event of this index is of an operation that the key's object does not have.
+// Says so if the event of this index is of an operation that the key's object does not have.
 fn none_of_the_kind(monitor: &Monitor, key: Key, index: u32) -> Option<Remark> {
     let events = monitor.history().events();
     let Body::Op(op) = &events.get(index as usize)?.body else {

@@ -1,4 +1,4 @@
-//! What is said on standard error, beside standard output.
+//! The texts on standard error, in addition to standard output.
 
 use crate::hints::hint_of;
 use crate::moving_line::MovingLine;
@@ -16,8 +16,8 @@ use std::rt::Clock;
 // Events that may take a second to judge: that they are judged is then shown at once.
 const MANY_EVENTS: usize = 1 << 12;
 
-// What is counted of a script or of a recorded history. Each count lies by itself, since one goes up with each line, and another
-// with each event.
+// The counts of a script or of a recorded history. Each count lies by itself, since one goes up with each line, and another with each
+// event.
 #[derive(Drop)]
 struct Tally {
     // Lines of a script that came.
@@ -50,11 +50,11 @@ fn count(counter: &Cell<u64>) {
     counter.set(counter.get().saturating_add(1));
 }
 
-/// Says on standard error what may be said beside standard output: at the end how many lines of a script were refused, what is
-/// usually the cause of the first refusal, and what may be said beside the verdict.
+/// Prints on standard error, in addition to standard output. At the end it prints how many lines of a script were refused, the usual cause
+/// of the first refusal, and a remark on the verdict.
 ///
-/// Where standard error is a terminal, one line says meanwhile how far a check has come, and is written over four times a second
-/// from the first second on; for a run of clients there is another such line.
+/// If standard error is a terminal, one line says meanwhile how far a check has come. It is written over four times a second from the first
+/// second on; a run of clients has another such line.
 #[derive(Drop)]
 pub struct OnStandardError<'a, X> {
     rt: &'a X,
@@ -67,7 +67,7 @@ pub struct OnStandardError<'a, X> {
 }
 
 impl<'a, X: Clock + Eprint> OnStandardError<'a, X> {
-    /// Says nothing yet. Whether standard error is a terminal stands for the whole run. It reads the clock where it is one,
+    /// Says nothing yet. Whether standard error is a terminal stands for the whole run. It reads the clock if it is one,
     /// and takes no memory.
     pub fn new(rt: &'a X, is_terminal: bool) -> Self {
         OnStandardError {
@@ -80,8 +80,8 @@ impl<'a, X: Clock + Eprint> OnStandardError<'a, X> {
         }
     }
 
-    /// A line for how far a run of clients has come. It may go to the thread that shows it. It reads the clock where there
-    /// is a terminal, and takes no memory.
+    /// A line for how far a run of clients has come. It can be sent to the thread that shows it. It reads the clock where there is a
+    /// terminal, and takes no memory.
     pub fn moving_line(&self) -> MovingLine<'a, X> {
         MovingLine::new(self.rt, self.is_terminal)
     }
@@ -97,7 +97,7 @@ impl<'a, X: Clock + Eprint> OnStandardError<'a, X> {
         }
     }
 
-    // How many lines of a script were refused; or which line of a recorded history is no text.
+    // How many lines of a script were refused; or which line of a recorded history is not text.
     fn say_refused(&self, line: u64) {
         let lines = self.tally.lines.get();
         let refused = self.tally.refused.get();
@@ -118,7 +118,7 @@ impl<'a, X: Clock + Eprint> OnStandardError<'a, X> {
         }
     }
 
-    // What is usually the cause of the refusal.
+    // The usual cause of the refusal.
     fn say_hint(&self, refusal: &Refusal) {
         if let Some(hint) = hint_of(refusal.number()) {
             self.say(hint);

@@ -1,4 +1,4 @@
--- events that are lent, the first of them
+-- borrowed events, the first of them
 use Rattle.std.proofs.Common.{◌≡◌, ℕ, ◌+◌, ◌<◌, List, [], ◌∷◌, ◌++◌, length, take, slice_index_or, Bor, sym, ap, ◌∙◌}
 use Rattle.std.proofs.lemmas.List.{take-map, map_more, length-map}
 use Rattle.events.specs.declared.event.Event.{Event}

@@ -1,4 +1,4 @@
--- what workers give, one line after the other and one worker after the other
+-- the lines of workers, one after the other and one worker after the other
 use Rattle.std.proofs.Common.{◌≡◌, ◌≢◌, ℕ, ◌+◌, ◌<◌, ◌≤◌, ◌%◌, ⊎_elim, List, [], ◌∷◌, ◌++◌, slice_get, Some, sym, ap, ◌∙◌, subst, arith}
 use Rattle.std.specs.List.{All}
 use Rattle.std.proofs.lemmas.Bool.{cases_eq}
@@ -41,7 +41,7 @@ module _ (lines : List KeyLineView) where
     apart = apart_more xs x (All-weaker (IsOfTheirs IsTheirs count) (λ (p : Placed). p.place < x.place) (λ p h. omega (arith, h.0, here)) xs share.own) share.apart;
   }
 
-  -- what is a worker's is its own or a later one's
+  -- the lines of a worker are its own or a later one's
   of_own : (worker workers count : ℕ) (xs : List Placed) → All (IsOfTheirs (IsOwn worker workers) count) xs → All (IsOfTheirs (IsOwnOrLater worker workers) count) xs
   of_own worker workers count xs own =
       All-weaker (IsOfTheirs (IsOwn worker workers) count) (IsOfTheirs (IsOwnOrLater worker workers) count) (λ p h. (h.0, omega (arith, h.1))) xs own

@@ -10,8 +10,8 @@ use models::{Key, ModelKind};
 use std::alloc::{AllocError, Global};
 use std::marker::Model;
 
-/// What is judged of one key: its kind of object, its budget, and its events with their indices, in the order in which they
-/// came. The events are lent, so a piece of a long history takes 16 bytes an event.
+/// The judged part of one key: its kind of object, its budget, and its events with their indices, in the order in which they came. The
+/// events are borrowed, so a piece of a long history takes 16 bytes an event.
 #[derive(Drop)]
 pub struct KeyEvents<'a> {
     key: Key,
@@ -48,10 +48,10 @@ impl<'a> KeyEvents<'a> {
     }
 
     /// Adds an event, which the process rule allows after those before it. Its index is its place in the whole history. It
-    /// takes constant time, but where memory grows.
+    /// takes constant time, but if memory grows.
     ///
     /// # Errors
-    /// `AllocError` where a growth was refused; the events are then as before.
+    /// `AllocError` if an allocation fails; the events are then as before.
     pub fn push(&mut self, index: u32, event: &'a Event) -> Result<(), AllocError>
         requires { IsHistory (self.old.judged.events ++ (index, event.now) ∷ []) }
         ensures pushed { OnOk result (self.new
@@ -69,10 +69,10 @@ impl<'a> KeyEvents<'a> {
         self.key
     }
 
-    /// The line of the key, which is lent each event in turn and keeps none. It takes the time of a push for each.
+    /// The line of the key, which borrows each event in turn and keeps none. It costs a push for each.
     ///
     /// # Errors
-    /// `AllocError` where a growth was refused.
+    /// `AllocError` if an allocation fails.
     pub fn line(&self, alloc: Global) -> Result<KeyLine, AllocError>
         ensures { IfOk result (λ line. line ≡ line_of self.now) }
     {

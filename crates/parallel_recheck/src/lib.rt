@@ -1,9 +1,9 @@
 //! The lines of many keys, judged by several threads at once.
 //!
-//! A piece is the events of one key, which are lent. Piece `i` goes to worker `i mod workers`; the calling thread is one of the
-//! workers, and joins the others. The lines are put in the order of their pieces, so nothing tells how many workers there were.
+//! A piece is the borrowed events of one key. Piece `i` goes to worker `i mod workers`; the calling thread is one of the workers, and joins
+//! the others. The lines are put in the order of their pieces, so nothing shows how many workers there were.
 //!
-//! A call takes memory only where its result can be `AllocError`, or a refusal for want of memory.
+//! A call allocates only if its result can be `AllocError`, or a refusal because memory ran out.
 #![tactic(auto)]
 
 mod key_events;

@@ -18,15 +18,15 @@ struct Placed {
     line: KeyLine,
 }
 
-/// The lines of these pieces, in their order, made by 1 to 64 workers. Piece `i` goes to worker `i mod workers`: the last
-/// worker is the calling thread, and each other one has a thread of its own. A worker whose thread can't be started leaves its
-/// pieces to the calling thread. The lines are the same whatever the number of workers. Each takes the time of
-/// [`KeyEvents::line`], and those of different threads are made at once.
+/// The lines of these pieces, in their order, made by 1 to 64 workers. Piece `i` goes to worker `i mod workers`: the last worker is the
+/// calling thread, and each other one has a thread of its own. A worker whose thread can't be started leaves its pieces to the calling
+/// thread. The lines are the same whatever the number of workers. Each costs what [`KeyEvents::line`] costs, and those of different threads
+/// are made at once.
 ///
 /// The gate is called as each piece begins and as it ends, by its place.
 ///
 /// # Errors
-/// `AllocError` where a growth was refused, in whichever thread.
+/// `AllocError` if an allocation fails, in whichever thread.
 pub fn recheck<R: Threads + Sync, G: Gate + Sync>(
     rt: &R,
     alloc: Global,
@@ -44,7 +44,7 @@ pub fn recheck<R: Threads + Sync, G: Gate + Sync>(
     in_order(alloc, slots)
 }
 
-// The lines of the workers from this one on. Each but the last one has a thread of its own where one can be started; where none
+// The lines of the workers from this one on. Each but the last one has a thread of its own if one can be started; where none
 // can, the calling thread judges its pieces, once it has judged its own.
 fn judged_from<R: Threads + Sync, G: Gate + Sync>(
     rt: &R,
@@ -97,7 +97,7 @@ fn judged_by<G: Gate>(
     Ok(placed)
 }
 
-// Judges the piece at a place where it is one of this worker's.
+// Judges the piece at a place if it is one of this worker's.
 fn judge_own<G: Gate>(
     placed: &mut Vec<Placed>,
     pieces: &[KeyEvents],

@@ -30,7 +30,7 @@ eight_more xs ys at d within len same so_far =
     let seven = one_more xs ys (at + 6) (at + 7) d (omega arith) (omega arith) len same.6 six in
     one_more xs ys (at + 7) (at + 8) d (omega arith) (omega arith) len same.7 seven
 
--- what was not compared yet
+-- the part that was not compared yet
 abbrev pub rest : {T : Type 0} → ℕ → List T → List T
 rest at l = take (length l - at) (drop at l)
 

@@ -1,4 +1,4 @@
--- two rows, one behind the other, of which the first one is changed
+-- two rows, one behind the other; the first one is changed
 use Rattle.std.proofs.Common.{◌≡◌, ℕ, suc, ◌+◌, ◌<◌, List, ◌∷◌, ◌++◌, length, take, drop, sym, ap, ◌∙◌, append_assoc, arith}
 use Rattle.std.specs.List.{insert, remove}
 use Rattle.std.proofs.lemmas.List.{take-append-le, drop-append-le}

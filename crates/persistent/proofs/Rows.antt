@@ -93,7 +93,7 @@ pub same_pieces : {T : Type 0} (s t p q : List T) (at many : ℕ) → at + lengt
 same_pieces s t p q at many s_within s_part s_few t_within t_part t_few e =
     piece_is s p at many s_within s_part s_few ∙ ap (λ l. drop at (take (at + many) l)) e ∙ sym (piece_is t q at many t_within t_part t_few)
 
--- of two rows, one behind the other, that are the same as two others, of which the first one is as long
+-- two rows, one behind the other, that are the same as two others; the first ones are equally long
 pub left_same : {T : Type 0} (l r m s : List T) → length l ≡ length m → l ++ r ≡ m ++ s → l ≡ m
 left_same l r m s long e =
     sym (take-append_seam l r) ∙ ap (take (length l)) e ∙ ap (λ n. take n (m ++ s)) long ∙ take-append_seam m s
@@ -129,7 +129,7 @@ behind_two first second third first_again both one two = ap (λ l. l ++ both) on
 pub before_two : {T : Type 0} (first second third both third_again : List T) → both ≡ first ++ second → third_again ≡ third → both ++ third_again ≡ (first ++ second) ++ third
 before_two first second third both third_again one two = ap (λ l. l ++ third_again) one ∙ ap (λ l. (first ++ second) ++ l) two
 
--- four of them by twos, of which the two in the middle are one
+-- four of them by twos; the two in the middle are one
 pub four_as_three : {T : Type 0} (left first first_again second second_again right middle : List T) → first_again ≡ first → second_again ≡ second → middle ≡ first ++ second
     → (left ++ first_again) ++ (second_again ++ right) ≡ (left ++ middle) ++ right
 four_as_three left first first_again second second_again right middle one two both =

@@ -1,4 +1,4 @@
--- what is said of the values as they are looked at, of the row that has them
+-- facts about the values as they are looked at, for the row that has them
 use Rattle.std.proofs.Common.{◌≡◌, ℕ, ◌+◌, ◌-◌, ◌<◌, ◌≤◌, ℤ, ◌<ℤ◌, ◌≤ℤ◌, List, ◌∷◌, ◌++◌, get_or, length, take, drop, sym, ap, subst, ◌∙◌, arith}
 use Rattle.std.proofs.lemmas.List.{take_rest, take_all, take-append-drop, length-drop}
 

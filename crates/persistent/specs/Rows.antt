@@ -11,7 +11,7 @@ lying (InPlace few) = few
 lying (Listed list) = list.items
 lying (Shared tree) = tree
 
--- a list has no more than so many, and a tree has more
+-- a list has at most the limit, and a tree has more
 abbrev pub IsFit : {T : Type 0} → Form T → Type 0
 IsFit Empty = Unit {0}
 IsFit (InPlace few) = length few ≤ FLAT

@@ -1,4 +1,4 @@
--- Invariant: what a node of a tree has
+-- Invariant: the parts of a node of a tree
 use Rattle.std.specs.Prelude.{◌≡◌, ◌<◌, ◌≤◌, ◌+◌, drop, List, [], ◌++◌, get_or, length}
 use Rattle.std.specs.Arc.{arc_value}
 use Rattle.persistent.specs.declared.tree.Node.{Node}

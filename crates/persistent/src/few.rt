@@ -6,7 +6,7 @@ use std::marker::Model;
 /// So many values at most lie in place.
 pub const IN_PLACE: usize = 6;
 
-/// Values that lie in place, so many from one place on. What lies in front of them and behind says nothing.
+/// Values in place, this number from one place on. The values before them and behind mean nothing.
 #[derive(Drop)]
 pub struct Few<T: Copy> {
     places: [T; IN_PLACE],

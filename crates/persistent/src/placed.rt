@@ -1,7 +1,7 @@
-//! What rows are made of.
+//! The elements of rows.
 ghost use Rattle.std.specs.Prelude.{◌≡◌, ◌↔◌, IsTrue, ℤ};
 
-/// Values that lie in rows: each has a place among the integers, by which a row is searched that has them in order.
+/// Values that lie in rows: each has a place among the integers, and a row that has them in order is searched by it.
 pub trait Placed: Copy {
     ghost place: { Self → ℤ };
 

@@ -15,9 +15,9 @@ use std::marker::Model;
 /// A row with more values than this is a tree.
 pub const FLAT: usize = 128;
 
-/// Values in a row, each by its place. A change gives another row. A few values lie in place, and are copied; so are some more,
-/// which lie in a list; of many the other row shares all but what is on the way to the place, which grows with the logarithm of how
-/// many there are, and a copy shares all.
+/// Values in a row, each by its place. A change gives another row. A few values lie in place, and are copied; so are some more, which lie
+/// in a list. If there are many, the other row shares all except the way to the place, which grows with the logarithm of their number, and
+/// a copy shares all.
 #[derive(Drop)]
 pub struct Row<T: Copy> {
     form: Form<T>,
@@ -159,7 +159,7 @@ impl<T: Copy> Row<T> {
     }
 
     /// The same values. Takes the time and the memory of the values in a list, and else constant time and no memory; `AllocError`
-    /// too where as many share them as can be counted.
+    /// too if as many share them as can be counted.
     pub fn copy(&self) -> Result<Row<T>, AllocError>
         ensures { IfOk result (λ row. row ≡ self.now) }
     {
@@ -233,7 +233,7 @@ impl<T: Copy> Row<T> {
         }
     }
 
-    /// The values from this place on, as far as they lie in one piece of memory. Takes the time of the way there.
+    /// The values from this place on, as far as they lie in one piece of memory. Costs O(log n).
     pub fn part_at(&self, at: usize) -> &[T]
         requires { at < length self.now }
         ensures some { 0 < length result.now }
@@ -246,7 +246,7 @@ impl<T: Copy> Row<T> {
         }
     }
 
-    /// The value at this place. Takes the time of the way there.
+    /// The value at this place. Costs O(log n).
     pub fn get(&self, at: usize) -> T
         requires { at < length self.now }
         ensures { (d : T) → result ≡ get_or self.now at d }
@@ -259,8 +259,8 @@ impl<T: Copy> Row<T> {
 }
 
 impl<T: Placed> Row<T> {
-    /// A place in front of which stands a value whose place is below this one, if any does, and at which stands none below it. In a
-    /// row that never falls there is one alone. Takes the time of the way there.
+    /// A place that splits the row: the value before it, if any, is below this one, and the value at it, if any, is not. In a row that
+    /// never falls there is one alone. Costs O(log n).
     pub fn place_of(&self, value: i64) -> usize
         ensures within { result ≤ length self.now }
         ensures before { (k : ℕ) (d : T) → result ≡ k + 1 → T.place (get_or self.now k d) <ℤ value }

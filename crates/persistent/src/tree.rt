@@ -59,7 +59,7 @@ impl<T: Copy> Model for Tree<T> {
     ghost size_decreases = { λ a h. depth_le-length _ a.node h };
 }
 
-/// A place in front of which stands a value whose place is below this one, if any does, and at which stands none below it.
+/// A place that splits the values: the value before it, if any, is below this one, and the value at it, if any, is not.
 pub fn place_in<T: Placed>(values: &[T], value: i64) -> usize
     ensures within { result ≤ length values.now }
     ensures before { (k : ℕ) (d : T) → result ≡ k + 1 → T.place (get_or values.now k d) <ℤ value }
@@ -219,7 +219,7 @@ fn parted_in_front<T: Copy>(
     fork(alloc, left, leaf(alloc, &values[half..], &[])?)
 }
 
-// The same, where the place is behind the half.
+// The same, if the place is behind the half.
 fn parted_behind<T: Copy>(
     alloc: Global,
     values: &[T],
@@ -267,7 +267,7 @@ fn fork_of_forks<T: Copy>(
     fork(alloc, left, right)
 }
 
-// The three rows, one behind the other. The one in the middle is divided, where it has two halves.
+// The three rows, one behind the other. The one in the middle is divided, if it has two halves.
 fn fork_around<T: Copy>(
     alloc: Global,
     left: Tree<T>,
@@ -306,7 +306,7 @@ fn lean_left_apart<T: Copy>(
     fork(alloc, outer, fork_with_left(alloc, inner, right)?)
 }
 
-// The two rows, of which the left one is too high for a fork of both.
+// The two rows, if the left one is too high for a fork of both.
 fn lean_left<T: Copy>(alloc: Global, left: &Tree<T>, right: Tree<T>) -> Result<Tree<T>, AllocError>
     requires left { 0 < length left.now }
     requires right { 0 < length right }
@@ -338,7 +338,7 @@ fn lean_right_apart<T: Copy>(
     fork(alloc, fork_with_right(alloc, left, inner)?, outer)
 }
 
-// The two rows, of which the right one is too high for a fork of both.
+// The two rows, if the right one is too high for a fork of both.
 fn lean_right<T: Copy>(alloc: Global, left: Tree<T>, right: &Tree<T>) -> Result<Tree<T>, AllocError>
     requires left { 0 < length left }
     requires right { 0 < length right.now }
@@ -350,7 +350,7 @@ fn lean_right<T: Copy>(alloc: Global, left: Tree<T>, right: &Tree<T>) -> Result<
     fork_with_right(alloc, left, right)
 }
 
-// The two rows, one behind the other, of which one may be too high for a fork of both.
+// The two rows, one behind the other, if one may be too high for a fork of both.
 fn balanced<T: Copy>(alloc: Global, left: Tree<T>, right: Tree<T>) -> Result<Tree<T>, AllocError>
     requires left { 0 < length left }
     requires right { 0 < length right }
@@ -393,7 +393,7 @@ fn balanced_with_right<T: Copy>(
     balanced(alloc, left, right.copy()?)
 }
 
-// The two rows, one behind the other, of which one may be too high for a fork of both, or empty.
+// The two rows, one behind the other, if one may be too high for a fork of both, or empty.
 fn joined<T: Copy>(alloc: Global, left: Tree<T>, right: Tree<T>) -> Result<Tree<T>, AllocError>
     ensures { IfOk result (λ tree. tree ≡ left ++ right) }
 {
@@ -490,7 +490,7 @@ impl<T: Copy> Tree<T> {
         }
     }
 
-    /// The same values, all of them shared. Takes constant time, and no memory; `AllocError` where as many share them as can be
+    /// The same values, all of them shared. Takes constant time, and no memory; `AllocError` if as many share them as can be
     /// counted.
     pub fn copy(&self) -> Result<Tree<T>, AllocError>
         ensures { IfOk result (λ tree. tree ≡ self.now) }
@@ -598,7 +598,7 @@ impl<T: Copy> Tree<T> {
         fewer.replaced(alloc, from, value)
     }
 
-    /// The values from this place on, as far as they lie in one piece of memory. Takes the time of the way there.
+    /// The values from this place on, as far as they lie in one piece of memory. Costs O(log n).
     pub fn part_at(&self, at: usize) -> &[T]
         requires { at < length self.now }
         ensures some { 0 < length result.now }
@@ -618,7 +618,7 @@ impl<T: Copy> Tree<T> {
         }
     }
 
-    /// The value at this place. Takes the time of the way there.
+    /// The value at this place. Costs O(log n).
     pub fn get(&self, at: usize) -> T
         requires { at < length self.now }
         ensures { (d : T) → result ≡ get_or self.now at d }
@@ -626,8 +626,7 @@ impl<T: Copy> Tree<T> {
         self.part_at(at)[0]
     }
 
-    /// Puts the values behind those in the list; `AllocError` where there is no memory for them, and then some may be put. Takes
-    /// the time of the values.
+    /// Puts the values behind those in the list; `AllocError` if there is no memory for them, and then some may be put. Costs O(values).
     pub fn append_to(&self, list: &mut Vec<T>) -> Result<(), AllocError>
         ensures { OnOk result (list.new.items ≡ list.old.items ++ self.now) }
     {
@@ -643,8 +642,8 @@ impl<T: Copy> Tree<T> {
 }
 
 impl<T: Placed> Tree<T> {
-    /// A place in front of which stands a value whose place is below this one, if any does, and at which stands none below it. In a
-    /// row that never falls there is one alone. Takes the time of the way there.
+    /// A place that splits the row: the value before it, if any, is below this one, and the value at it, if any, is not. In a row that
+    /// never falls there is one alone. Costs O(log n).
     pub fn place_of(&self, value: i64) -> usize
         ensures within { result ≤ length self.now }
         ensures before { (k : ℕ) (d : T) → result ≡ k + 1 → T.place (get_or self.now k d) <ℤ value }
@@ -677,7 +676,7 @@ impl<T: Placed> Tree<T> {
         self.same_by_parts(other)
     }
 
-    // The same, by what lies in one piece of memory, part by part.
+    // The same, compared part by part, each in one piece of memory.
     fn same_by_parts(&self, other: &Tree<T>) -> bool
         ensures { IsTrue result ↔ (self.now ≡ other.now) }
     {

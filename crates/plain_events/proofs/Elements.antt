@@ -29,7 +29,7 @@ pair_then h a = element_then h.key (element_then h.value a)
 pub atom_at : {text bytes rest : List ℕ} {v : Value} → IsAtom bytes v → IsWordAt text bytes rest → IsAtomAt text v rest
 atom_at a w d = record { behind = w.behind; element = atom a w.ends w.cut; gap = w.gap d }
 
--- a byte more in front of a word
+-- a byte more before a word
 pub word_behind : (b : ℕ) {text inner bytes rest : List ℕ} → text ≡ b ∷ inner → IsWordAt inner bytes rest → IsWordAt text (b ∷ bytes) rest
 word_behind b e w = record { behind = w.behind; cut = e ∙ ap (λ l. b ∷ l) w.cut; ends = w.ends; gap = w.gap }
 

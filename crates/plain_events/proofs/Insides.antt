@@ -26,7 +26,7 @@ element_shorter d front v rest h =
     let b = gap_shorter h.gap in
     omega (arith, a, b)
 
--- what elements rest has, the inside of a collection has behind what was passed over
+-- the inside of a collection has the elements of rest behind the part that was passed over
 abbrev pub InsideSoFar : ℕ → List ℕ → List ℕ → Type 0
 InsideSoFar d inner rest = (vs : Values) (end : List ℕ) → ReadsAll d rest vs end → (ws : Values) × ReadsAll d inner ws end
 

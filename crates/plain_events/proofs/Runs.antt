@@ -30,7 +30,7 @@ pub spelled_shorter : {t u : List ℕ} {b : ℕ} → SpellsByte t b u → length
 spelled_shorter (itself q k) = omega arith
 spelled_shorter (escaped i) = omega arith
 
--- what string is left to be read, the text has behind what was read
+-- the rest of the string is in the text behind the bytes that were read
 abbrev pub StringSoFar : List ℕ → List ℕ → Type 0
 StringSoFar text rest = (s r : List ℕ) → ReadsString rest s r → IsUtf8 s → (w : List ℕ) × ReadsString text w r × IsUtf8 w
 

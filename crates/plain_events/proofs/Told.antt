@@ -1,4 +1,4 @@
--- What the pairs of a map say, one after the other
+-- The content of the pairs of a map, one after the other
 use Rattle.std.proofs.Common.{◌≡◌, ℕ, ◌<◌, ◌^◌, false, cond, ap, Option, Some, None, Bor, IfSome, List, [], ◌∷◌, ◌++◌, codes, refl, sym, ◌∙◌, subst}
 use Rattle.std.specs.Prelude.{IsSomeAnd}
 use Rattle.std.specs.List.{Contains}

@@ -1,4 +1,4 @@
--- What calls of the functions below give, as what their callers give
+-- Results of the functions below, as their callers need them
 use Rattle.std.proofs.Common.{◌≡◌, ℕ, ◌+◌, ◌<◌, ◌≤◌, List, [], ◌∷◌, ◌++◌, length, take, get_or, Option, Some, None, Bor, IfSome, sym, ap, ◌∙◌, subst, append_assoc}
 use Rattle.std.proofs.lemmas.List.{take_more, take_all}
 use Rattle.edn.specs.Value.{Value, keyword}

@@ -1,4 +1,4 @@
--- Invariant: what was found at the keys of an event, in any order
+-- Invariant: the values at the keys of an event, in any order
 use Rattle.std.specs.Prelude.{◌≡◌, ℕ, ◌^◌, Option, Some, None, List, ◌∷◌, codes}
 use Rattle.std.specs.List.{Contains}
 use Rattle.edn.specs.Value.{Value, Pairs, in_text, keys, AreDistinct}
@@ -12,7 +12,7 @@ use Rattle.plain_events.specs.declared.found.Found.{Found}
 use Rattle.plain_events.specs.Fronts.{IsPairAt, IsEventBy}
 use Rattle.plain_events.specs.Keys.{mark_of, IsFurther, push}
 
--- what a map has at a key is what was found there, if anything is
+-- the map's value at a key is the one found there, if there is one
 abbrev pub Tells : {X : Type 0} → (Value → X → Type 0) → Option Value → Option X → Type 0
 Tells Is (Some v) (Some x) = Is v x
 Tells Is None None = Unit {0}
@@ -32,7 +32,7 @@ abbrev pub IsFoundOf : Option ℕ → EventKind → ℕ → Op → Found → Typ
 IsFoundOf index kind process op found =
     found ≡ record { index = index; kind = Some kind; process = Some process; name = Some op.name; value = Some (op.key, op.part); marks = found.marks }
 
--- the name is no key of pairs that say what was found before, and with this value at it they say what is found now
+-- the name is not among the keys with the values found before, and with this value at it the pairs have the values found now
 abbrev pub Adds : List ℕ → Value → Found → Found → Type 0
 Adds name v old new = (ps : Pairs) → Say ps old → (value_at name ps ≡ None) × Say (push ps name v) new
 

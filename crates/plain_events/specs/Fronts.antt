@@ -1,4 +1,4 @@
--- Invariant: what stands at the front of a text, with the gap behind it, for the functions behind `plain_event`
+-- Invariant: the beginning of a text, with the gap behind it, for the functions behind `plain_event`
 use Rattle.std.specs.Prelude.{◌≡◌, ℕ, ◌<◌, ◌≤◌, ◌^◌, ℤ, Option, Some, None, List, ◌∷◌, ◌++◌, map, codes}
 use Rattle.std.specs.Str.Parse.{digits_value}
 use Rattle.edn.specs.Value.{Value, int, keyword, pairs, members, Values, joined, Pairs, in_text, keys, AreDistinct}
@@ -17,14 +17,14 @@ use Rattle.events.specs.declared.event.Event.{Event}
 use Rattle.events.specs.Tables.{IsPartOf}
 use Rattle.events.specs.Spelling.{text_of_kind, SpellsPart, SpellsKeyed, Spells}
 
--- the text begins with these bytes, behind which an atom may end, and rest follows them and a gap
+-- the text begins with these bytes, an atom may end behind them, and rest follows them and a gap
 pub record IsWordAt (text bytes rest : List ℕ) : Type 0 where
   pub behind : List ℕ
   pub cut : text ≡ bytes ++ behind
   pub ends : MayFollowAtom behind
   pub gap : (d : ℕ) → SkipsGap d behind rest
 
--- the same of one byte, behind which anything may stand
+-- the same for one byte, with anything behind it
 pub record IsByteAt (text : List ℕ) (byte : ℕ) (rest : List ℕ) : Type 0 where
   pub behind : List ℕ
   pub cut : text ≡ byte ∷ behind
@@ -75,7 +75,7 @@ pub record AreTwoAt (text : List ℕ) (a b : ℤ) (rest : List ℕ) : Type 0 whe
   pub then : IsAtomAt second (int b) closing
   pub end : IsByteAt closing 93 rest
 
--- integers, each with the gap behind it: what elements rest has, the text has behind them
+-- integers, each with the gap behind it: the text has the elements of rest behind them
 abbrev pub AreIntegersAt : List ℕ → List ℤ → List ℕ → Type 0
 AreIntegersAt text xs rest =
     (d : ℕ) (vs : Values) (end : List ℕ) → ReadsAll d rest vs end → ReadsAll d text (joined (list_of (map int xs)) vs) end

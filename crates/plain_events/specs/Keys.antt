@@ -41,8 +41,8 @@ followed_by (pair k v ps) qs = pair k v (followed_by ps qs)
 abbrev pub push : Pairs → List ℕ → Value → Pairs
 push ps name v = followed_by ps (pair (keyword name) v no_pairs)
 
--- the text has these pairs at its front, whose keys are distinct, and rest follows them, while d collections are open: what
--- pairs rest has, the text has behind them
+-- the text begins with these pairs, whose keys are distinct, and rest follows them, while d collections are open: the text has the pairs of
+-- rest behind them
 pub record ArePairsAt (d : ℕ) (text : List ℕ) (ps : Pairs) (rest : List ℕ) : Type 0 where
   pub reads : (qs : Pairs) (end : List ℕ) → ReadsAll d rest (in_text qs) end → ReadsAll d text (in_text (followed_by ps qs)) end
   pub apart : AreDistinct (keys ps)

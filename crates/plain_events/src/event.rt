@@ -16,7 +16,7 @@ use events::{Body, Event, EventKind, Process, is_part_of};
 use models::Op;
 use std::alloc::Global;
 
-/// The pair of `:index` and a number, where it is there, and what follows it; or none, which says nothing.
+/// The pair of `:index` and a number, if it is there, and what follows it; or none, which says nothing.
 #[inline(always)]
 pub fn index_pair(text: &[u8]) -> Option<(Option<u32>, &[u8])>
     ensures { IfSome result (λ x. IsIndexAt text.now x.0 x.1.now) }
@@ -28,7 +28,7 @@ pub fn index_pair(text: &[u8]) -> Option<(Option<u32>, &[u8])>
     Some((Some(index), rest))
 }
 
-// What happens to the operation.
+// The type of the event.
 #[inline(always)]
 fn kind_at(text: &[u8]) -> Option<(EventKind, &[u8])>
     ensures { IfSome result (λ x. IsAtomAt text.now (keyword (text_of_kind x.0)) x.1.now) }
@@ -67,7 +67,7 @@ pub fn process_pair(text: &[u8]) -> Option<(u32, &[u8])>
     number(value)
 }
 
-// What is found behind this, up to the closing brace, and what follows that; or none, which says nothing.
+// The values found up to the closing brace, together with these, and the rest; or none, which says nothing.
 fn found_behind(alloc: Global, found: Found, text: &[u8]) -> Option<(Found, &[u8])>
     ensures { IfSome result (λ x. (inner : List ℕ) (ps : Pairs) → ArePairsAt 1 inner ps text.now
         → Say ps found → IsFoundBehind inner x.0 x.1.now) }
@@ -118,10 +118,10 @@ fn and_others(
     with_others(alloc, Found::of(index, kind, process, op), rest)
 }
 
-/// The event of a client that is spelled plainly at the front, behind any white space, and what follows it; or none, which
-/// says nothing. Memory is taken for the members of a set alone, and none is given where it was refused.
+/// The event of a client that is spelled plainly at the front, behind any white space, and what follows it; or none, which says nothing. It
+/// allocates for the members of a set alone, and returns none if an allocation fails.
 ///
-/// The time is that of one pass over the event, and of another one over what it has in the usual order, where not all is so.
+/// The time is that of one pass over the event, and of another one over what it has in the usual order, if not all is so.
 pub fn plain_event(alloc: Global, text: &[u8]) -> Option<(Event, &[u8])>
     ensures { IfSome result (λ x. BeginsWith text.now x.0 x.1.now) }
 {
@@ -157,8 +157,8 @@ pub fn plain_event(alloc: Global, text: &[u8]) -> Option<(Event, &[u8])>
     Some((event, behind))
 }
 
-/// The event of a client that a line spells plainly, with white space alone around it; or none, which says nothing. Memory
-/// is taken for the members of a set alone, and none is given where it was refused.
+/// The event of a client that a line spells plainly, with white space alone around it; or none, which says nothing. It allocates for the
+/// members of a set alone, and returns none if an allocation fails.
 ///
 /// The time is that of one pass over the line.
 pub fn plain_line(alloc: Global, line: &[u8]) -> Option<Event>

@@ -1,4 +1,4 @@
-//! What is found at the keys of an event, in any order.
+//! The values at the keys of an event, in any order.
 ghost use Rattle.std.specs.Prelude.{◌^◌, codes, IfSome};
 ghost use Rattle.edn.specs.Value.{Value, no_pairs};
 ghost use Rattle.events.specs.Spelling.{IsNumber, SpellsKind, SpellsName, SpellsKeyed};
@@ -13,7 +13,7 @@ use events::{Body, Event, EventKind, Process, is_part_of};
 use models::{Key, Name, Op, Part};
 use std::alloc::Global;
 
-// The event of this operation of a client, where the tables have it.
+// The event of this operation of a client, if the tables have it.
 fn event_of(index: Option<u32>, kind: EventKind, process: u32, op: Op) -> Option<Event>
     ensures { IfSome result (λ event. IsEventBy index kind process op event) }
 {
@@ -28,7 +28,7 @@ fn event_of(index: Option<u32>, kind: EventKind, process: u32, op: Op) -> Option
     })
 }
 
-/// What was found so far, and the marks of further keys.
+/// The values found so far, and the marks of further keys.
 #[derive(Drop)]
 pub struct Found {
     index: Option<u32>,
@@ -68,7 +68,7 @@ impl Found {
         }
     }
 
-    // Each of these finds what was read of a pair. None is found where there was such a pair before.
+    // Each of these finds what was read of a pair. None is found if there was such a pair before.
 
     fn put_index(&mut self, index: u32) -> Option<()>
         ensures { IfSome result (λ _. (v : Value) → IsNumber (2 ^ 32) v index → Adds (codes "index") v self.old self.new) }

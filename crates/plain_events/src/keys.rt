@@ -9,7 +9,7 @@ ghost use Rattle.plain_events.specs.Keys.{mark_of, AreNameBytes, IsFurther, IsNe
 use crate::word::past_end;
 use arrayvec::ArrayVec;
 
-// Of a map with more keys nothing is read here.
+// A map with more keys is not read here.
 const MOST: usize = 16;
 
 /// The marks of the keys of a map, so far as it was read.
@@ -18,7 +18,7 @@ pub type Marks = ArrayVec<u64, MOST>;
 // The low 56 bits are kept at each byte.
 const KEPT: u64 = 1 << 56;
 
-// A number that tells names apart. Names of at most 8 bytes have different ones, and hardly ever do longer ones share theirs.
+// A number that differs for different names. Names of at most 8 bytes have different ones, and hardly ever do longer ones share theirs.
 fn mark_of(name: &[u8]) -> u64
     ensures { result ≡ mark_of name.now }
 {
@@ -83,7 +83,7 @@ fn is_among(marks: &[u64], mark: u64) -> bool
     false
 }
 
-// Puts the mark behind the others, where it is none of them and there is room.
+// Puts the mark behind the others, if it is none of them and there is room.
 fn put_mark(marks: &mut Marks, mark: u64) -> Option<()>
     ensures new { IfSome result (λ x. ¬ Contains marks.old.items mark) }
     ensures put { IfSome result (λ x. marks.new.items ≡ marks.old.items ++ mark ∷ []) }
@@ -95,8 +95,8 @@ fn put_mark(marks: &mut Marks, mark: u64) -> Option<()>
     Some(())
 }
 
-/// What follows a key that is other than those of which these are the marks, and the white space behind it; or none, which says
-/// nothing. Its mark is put behind them.
+/// The rest after a key that differs from those with these marks, and the white space behind it; or none, which says nothing. Its mark is
+/// put behind them.
 pub fn past_new_key<'a>(marks: &mut Marks, text: &'a [u8]) -> Option<&'a [u8]>
     ensures { IfSome result (λ rest. (name : List ℕ)
         × IsNewKeyAt marks.old.items text.now name marks.new.items rest.now) }

@@ -1,14 +1,13 @@
 //! Events that are spelled plainly, read from their bytes without a tree of elements between.
 //!
-//! Plain is the map of a client's operation whose keys are keywords, in any order: `:type`, `:process`, `:f` and `:value`;
-//! `:index`, which may be left out; and at most 16 others, by which no event is read. The operation's part is nil, an integer,
-//! a vector of two or a set, its members in ascending order. What stands at other keys is passed over: an atom, a string, a
-//! vector, or a map whose keys are keywords, at most 16. White space alone stands between. Integers have no plus, and are
-//! below 9,223,372,036,854,775,800 in size. The order in which [`map_of_event`](events::map_of_event) writes is read
-//! fastest.
+//! Plain is the map of a client's operation whose keys are keywords, in any order. These are `:type`, `:process`, `:f` and `:value`;
+//! `:index`, which may be left out; and at most 16 others, which no event needs. The operation's part is nil, an integer, a vector of two
+//! or a set, its members in ascending order. The value at another key is passed over: an atom, a string, a vector, or a map whose keys are
+//! keywords, at most 16. There is only white space between. Integers have no plus, and are below 9,223,372,036,854,775,800 in size. The
+//! order in which [`map_of_event`](events::map_of_event) writes is read fastest.
 //!
 //! Whatever else a text has is read by `edn::read_all` and `events::from_edn`. The calls here say only what was read, and
-//! where they answer `None` they say nothing, also where there is no memory for the members of a set.
+//! if they answer `None` they say nothing, also if there is no memory for the members of a set.
 #![tactic(auto)]
 
 mod event;

@@ -1,4 +1,4 @@
-//! Integers of 64 bits, but for the last few of each sign.
+//! Integers of 64 bits, except for the last few of each sign.
 ghost use Rattle.std.specs.Prelude.{◌≡◌, ◌<◌, ◌≤◌, ◌^◌, pos, neg_ℤ, IfSome};
 ghost use Rattle.edn.specs.Value.{int};
 ghost use Rattle.edn.specs.Bytes.{is_digit};

@@ -1,4 +1,4 @@
-//! What is said of an operation.
+//! The name and the value of an operation.
 ghost use Rattle.std.specs.Prelude.{◌<◌, ◌^◌, codes, IfSome};
 ghost use Rattle.edn.specs.Value.{keyword};
 ghost use Rattle.models.specs.Names.{text_of};

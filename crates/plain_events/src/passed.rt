@@ -8,7 +8,7 @@ use crate::strings::past_string;
 use crate::word::{past_byte, past_bytes, past_white, past_word};
 use edn::MAX_OPEN;
 
-// What follows an atom or a string, and the white space behind it; or none, which says nothing.
+// The rest after an atom or a string, and the white space behind it; or none, which says nothing.
 fn past_scalar(text: &[u8]) -> Option<&[u8]>
     ensures { IfSome result (λ rest. IsScalarAt text.now rest.now) }
 {
@@ -41,8 +41,8 @@ fn past_word_or_integer(text: &[u8]) -> Option<&[u8]>
     Some(rest)
 }
 
-/// What follows a value, and the white space behind it, while so many collections are open; or none, which says nothing. It is an
-/// atom, a string, a vector, or a map whose keys are keywords. Takes the time of one pass over it.
+/// The rest after a value, and the white space behind it, while `depth` collections are open; or none, which says nothing. It is an atom, a
+/// string, a vector, or a map whose keys are keywords. Costs one pass over it.
 #[cycle(values)]
 pub fn past_value(depth: u8, text: &[u8]) -> Option<&[u8]>
     ensures { IfSome result (λ rest. IsPassedAt depth text.now rest.now) }

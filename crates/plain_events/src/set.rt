@@ -35,8 +35,8 @@ fn ascending(alloc: Global, text: &[u8]) -> Option<(Vec<i64>, &[u8])>
     Some((integers, rest))
 }
 
-/// A set of integers in ascending order, none of them twice, and what follows it and the white space behind it; or none,
-/// which says nothing, also where there is no memory for the members. Takes the time of one pass over them.
+/// A set of integers in ascending order, none of them twice, and the rest after it and the white space behind it. It returns none, which
+/// says nothing, also if there is no memory for the members. Costs one pass over them.
 pub fn set_at(alloc: Global, text: &[u8]) -> Option<(Members, &[u8])>
     ensures { IfSome result (λ x. IsSetAt text.now x.0 x.1.now) }
 {

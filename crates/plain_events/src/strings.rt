@@ -38,7 +38,7 @@ fn unescaped(letter: u8) -> Option<u8>
     }
 }
 
-// What follows a backslash at the front and the letter behind it; or none.
+// The rest after a backslash at the beginning and the letter behind it; or none.
 fn past_escape(text: &[u8]) -> Option<&[u8]>
     ensures { IfSome result (λ rest. (b : ℕ) × SpellsByte text.now b rest.now × (b < 128)) }
 {
@@ -48,8 +48,8 @@ fn past_escape(text: &[u8]) -> Option<&[u8]>
     Some(rest)
 }
 
-/// What follows the closing quote of a string, whose inside stands at the front; or none, which says nothing. Takes the time of one
-/// pass over the string.
+/// The rest after the closing quote of a string, whose inside is at the beginning; or none, which says nothing. Costs one pass over the
+/// string.
 pub fn past_string(text: &[u8]) -> Option<&[u8]>
     ensures { IfSome result (λ rest. IsStringAt text.now rest.now) }
 {

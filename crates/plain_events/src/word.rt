@@ -21,7 +21,7 @@ fn ends_atom(b: u8) -> bool
     )
 }
 
-/// What follows the white space at the front.
+/// The rest after the white space at the beginning.
 #[inline(always)]
 pub fn past_white(text: &[u8]) -> &[u8]
     ensures { (d : ℕ) → SkipsGap d text.now result.now }
@@ -47,7 +47,7 @@ fn past_all_white(text: &[u8]) -> &[u8]
     rest
 }
 
-// What follows a blank at the front, where there is one.
+// The rest after a blank at the beginning, if there is one.
 #[inline(always)]
 fn past_blank(text: &[u8]) -> &[u8]
     ensures { (d : ℕ) → SkipsGap d text.now result.now }
@@ -58,7 +58,7 @@ fn past_blank(text: &[u8]) -> &[u8]
     }
 }
 
-// What follows the white space at the front, where that is often one blank.
+// The rest after the white space at the beginning, which is often one blank.
 #[inline(always)]
 fn past_more(text: &[u8]) -> &[u8]
     ensures { (d : ℕ) → SkipsGap d text.now result.now }
@@ -66,7 +66,7 @@ fn past_more(text: &[u8]) -> &[u8]
     past_white(past_blank(text))
 }
 
-/// What follows the white space at the front, where an atom may end in front of it.
+/// The rest after the white space at the beginning, if an atom may end before it.
 #[inline(always)]
 pub fn past_end(text: &[u8]) -> Option<&[u8]>
     ensures ends { IfSome result (λ rest. MayFollowAtom text.now) }
@@ -88,7 +88,7 @@ pub fn past_end(text: &[u8]) -> Option<&[u8]>
     Some(past_white(text))
 }
 
-/// What follows these bytes at the front; or none.
+/// The rest after these bytes at the beginning; or none.
 #[inline(always)]
 pub fn past_bytes<'a>(text: &'a [u8], bytes: &[u8]) -> Option<&'a [u8]>
     ensures { IfSome result (λ rest. text.now ≡ bytes.now ++ rest.now) }
@@ -107,7 +107,7 @@ pub fn past_bytes<'a>(text: &'a [u8], bytes: &[u8]) -> Option<&'a [u8]>
     Some(rest)
 }
 
-/// What follows a whole word of these bytes, and the white space behind it; or none, which says nothing.
+/// The rest after a whole word of these bytes, and the white space behind it; or none, which says nothing.
 #[inline(always)]
 pub fn past_word<'a>(text: &'a [u8], word: &[u8]) -> Option<&'a [u8]>
     ensures { IfSome result (λ rest. IsWordAt text.now word.now rest.now) }
@@ -116,7 +116,7 @@ pub fn past_word<'a>(text: &'a [u8], word: &[u8]) -> Option<&'a [u8]>
     past_end(behind)
 }
 
-/// What follows this byte, and the white space behind it; or none, which says nothing.
+/// The rest after this byte, and the white space behind it; or none, which says nothing.
 #[inline(always)]
 pub fn past_byte(text: &[u8], byte: u8) -> Option<&[u8]>
     ensures { IfSome result (λ rest. IsByteAt text.now byte rest.now) }
@@ -128,7 +128,7 @@ pub fn past_byte(text: &[u8], byte: u8) -> Option<&[u8]>
     Some(past_white(behind))
 }
 
-/// What follows the keyword of this name, and the white space behind it; or none, which says nothing.
+/// The rest after the keyword of this name, and the white space behind it; or none, which says nothing.
 #[inline(always)]
 pub fn past_keyword<'a>(text: &'a [u8], name: &str) -> Option<&'a [u8]>
     requires { IsKeywordText name.now }

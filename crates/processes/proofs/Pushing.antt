@@ -1,4 +1,4 @@
--- What one more move changes: the last move of a process, whether it is busy, and the current process of a thread
+-- The effect of one more move: the last move of a process, whether it is busy, and the current process of a thread
 use Rattle.std.proofs.Common.{◌≡◌, ◌≢◌, ◌==◌, ℕ, ◌+◌, ◌*◌, ◌<◌, true, false, cond, Option, Some, None, List, [], ◌∷◌, ◌++◌, count_by, refl, sym, ap, ◌∙◌, arith}
 use Rattle.std.specs.Option.{option_or, option_map_or}
 use Rattle.std.proofs.lemmas.Bool.{eq-eqb, ne_eqb}

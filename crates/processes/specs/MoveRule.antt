@@ -44,11 +44,11 @@ abbrev pub last_move_of : List Move → ℕ → Option Move
 last_move_of [] p = None
 last_move_of (m ∷ moves) p = option_or (last_move_of moves p) (if p == process_of m then Some m else None)
 
--- a process is busy where its last move is an invocation
+-- a process is busy if its last move is an invocation
 abbrev pub is_busy : List Move → ℕ → Bool
 is_busy moves p = option_map_or is_invocation (last_move_of moves p) false
 
--- which move may come: the current process of a thread invokes where it is not busy, and what a process completes, or
+-- which move may come: the current process of a thread invokes if it is not busy, and what a process completes, or
 -- crashes in, is its open operation
 abbrev pub MayMove : ℕ → List Move → Move → Type 0
 MayMove c moves (Invokes p) = IsCurrent c moves p × (is_busy moves p ≡ false)

@@ -1,7 +1,7 @@
 //! Which process a thread goes on with, and which is busy: the process rule of the Jepsen documentation
 //! (<https://github.com/jepsen-io/jepsen>).
 //!
-//! A call takes memory only where its result can be `AllocError`, or a refusal for want of memory.
+//! A call allocates only if its result can be `AllocError`, or a refusal because memory ran out.
 #![tactic(auto)]
 
 mod laws;

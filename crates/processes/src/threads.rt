@@ -31,7 +31,7 @@ impl Thread {
 }
 
 /// The threads of a history, 1 to 64 of them, numbered from 0. The thread of process p is p modulo their number. The
-/// current process of a thread is at first its own number; where it crashes, the next is greater by their number.
+/// current process of a thread is at first its own number; if it crashes, the next is greater by their number.
 #[derive(Drop)]
 pub struct Threads {
     threads: Vec<Thread>,
@@ -50,10 +50,10 @@ impl Model for Threads {
 }
 
 impl Threads {
-    /// Threads 0 to `concurrency` - 1, before any move. It takes the time of the threads.
+    /// Threads 0 to `concurrency` - 1, before any move. It costs O(threads).
     ///
     /// # Errors
-    /// [`Refusal::BadConcurrency`] where the concurrency is not 1 to 64; else [`Refusal::NoMemory`] where a growth was refused.
+    /// [`Refusal::BadConcurrency`] if the concurrency is not 1 to 64; else [`Refusal::NoMemory`] if an allocation fails.
     pub fn new(alloc: Global, concurrency: u32) -> Result<Threads, Refusal>
         ensures limits { OnOk result (IsConcurrency concurrency) }
         ensures number { IfOk result (λ threads. length threads ≡ concurrency) }
@@ -80,7 +80,7 @@ impl Threads {
     /// Whether the process may invoke an operation. Takes no memory.
     ///
     /// # Errors
-    /// [`Refusal::WrongProcess`] where it is not its thread's current one; else [`Refusal::Busy`] where it has an open
+    /// [`Refusal::WrongProcess`] if it is not its thread's current one; else [`Refusal::Busy`] if it has an open
     /// operation.
     pub fn may_invoke(&self, process: u32) -> Result<(), Refusal>
         ensures ok { OnOk result (Allows self.now (Invokes process)) }
@@ -99,7 +99,7 @@ impl Threads {
     /// Whether the process may complete an operation, or crash in one. Takes no memory.
     ///
     /// # Errors
-    /// [`Refusal::NotOpen`] where the process has no open operation.
+    /// [`Refusal::NotOpen`] if the process has no open operation.
     pub fn may_complete(&self, process: u32) -> Result<(), Refusal>
         ensures completes { OnOk result (Allows self.now (Completes process)) }
         ensures crashes { OnOk result (Allows self.now (Crashes process)) }

@@ -48,7 +48,7 @@ module _ (o : Object) (t u : Table o.State) (calls : List PendingOp) (ends : Lis
       (λ other. leads_still o t u calls wide old new gains.kept c row (closed at i c row (omega (arith, lt, other)) there was))
       (cases_eq at from)
 
--- what is closed has all ends that are reached
+-- a closed list has all ends that are reached
 module _ (o : Object) (t : Table o.State) (calls : List PendingOp) (products : List Product) (n : ℕ) (enough : length products ≤ n) (closed : AreClosedTo o t calls products n) where
   abbrev IsSaid : End o.State → Type 0
   IsSaid e = (row : List ℕ) × IsInOne products row × Shows t calls row e

@@ -83,7 +83,7 @@ module _ {S : Type 0} {t u v : Table S} {a b c : ℕ} where
   pub tries_one_more : (n steps : ℕ) → OnlyTries t u a b → b ≤ a + n → OnlyTries u v b c → c ≤ b + 1 → n + 1 ≤ steps → TriesAtMost steps t v a c
   tries_one_more n steps one paid more cost fits = record { tries = tries_on one more; cost = omega (arith, paid, cost, fits) }
 
--- what one row more costs is within what all rows up to one more than the budget cost
+-- the cost of one row more is within that of all rows up to one more than the budget
 pub cost_within : (steps budget old rows a b c : ℕ) → b + steps * old ≤ a + steps * rows → old ≤ budget → rows ≤ budget → c ≤ b + steps → c ≤ a + steps * (budget + 1 - old)
 cost_within steps budget old rows a b c paid few within cost =
     let most : steps * rows ≤ steps * budget = mul-le-mul_left steps within in
@@ -92,7 +92,7 @@ cost_within steps budget old rows a b c paid few within cost =
     let one : steps * (budget + 1) ≡ steps * budget + steps = grind arith in
     omega (arith, paid, most, split, one, cost)
 
--- the same, where there were no rows
+-- the same, if there were no rows
 pub cost_first : (steps budget rows a b c : ℕ) → b ≤ a + steps * rows → rows ≤ budget → c ≤ b + steps → c ≤ a + steps * (budget + 1)
 cost_first steps budget rows a b c paid within cost =
     let most : steps * rows ≤ steps * budget = mul-le-mul_left steps within in

@@ -102,7 +102,7 @@ module _ {S : Type 0} {apply : Op → S → List (S × Found)} {t u v : Table S}
     cost = cost_within (length calls) budget (length (rows_in old)) (length (rows_in w.all.1)) a b c grown.paid few (grown.within refl) more.cost;
   }
 
-  -- the same, where there were no rows
+  -- the same, if there were no rows
   pub steps_first : AreGrown apply u calls 0 budget [] w a b true → OnlyTries t u a b → TriesAtMost (length calls) u v b c → TriesAtMost (length calls * (budget + 1)) t v a c
   steps_first grown one more = record {
     tries = tries_on one more.tries;

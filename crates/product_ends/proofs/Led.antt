@@ -1,4 +1,4 @@
--- what a call leads to from the rows of a product, as the rows of another one
+-- the ends that a call leads to from the rows of a product, as the rows of another one
 use Rattle.std.proofs.Common.{◌≡◌, ℕ, ◌+◌, ◌<◌, Some, List, [], ◌∷◌, length, slice_get, get_or, set, refl, sym, ap, ◌∙◌, subst, arith, add-one, length-set}
 use Rattle.std.proofs.lemmas.List.{get_or-set_same}
 use Rattle.models.specs.declared.operation.Op.{Op}

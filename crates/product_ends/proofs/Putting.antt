@@ -22,7 +22,7 @@ use Rattle.product_ends.specs.Widening.{AreWidened, TakesIn, TakesOne}
 use Rattle.product_ends.proofs.Stepping.{led_reached}
 use Rattle.product_ends.proofs.Widening.{widened_from}
 
--- ---- what is known of a state's deeds, and of what stays in it
+-- ---- the known deeds of a state, and the answers that stay in it
 
 get_dropped : {X : Type 0} (xs : List X) (n i : ℕ) (x : X) → slice_get (drop n xs) i ≡ Some x → slice_get xs (n + i) ≡ Some x
 get_dropped xs zero i x h = let same : i ≡ 0 + i = omega arith in subst (λ k. slice_get xs k ≡ Some x) same h
@@ -43,7 +43,7 @@ abbrev pub AreStaying : {S : Type 0} → Deeds S → ℕ → ℕ → List ℕ �
 AreStaying d number calls those = (order : ℕ) × (order_in d number ≡ order + 1)
     × (those ≡ slice_range d.stays.items order (order + calls)) × (length those ≡ calls)
 
--- what the call does in the state with this number it does in the state of an end that a row with this number says
+-- the deed of the call in the state with this number is its deed in the state of an end whose row has this number
 done_in : {S : Type 0} (t : Table S) (calls : List PendingOp) (outcomes : S → List (S × Found)) (number : ℕ) (c : PendingOp) (deed : Deed) → ((s : S) × (slice_get t.states number ≡ Some s) × IsDeed t c (outcomes s) deed)
     → (row : List ℕ) (e : End S) → Shows t calls row e → get_or row 0 0 ≡ number → IsDeed t c (outcomes e.state) deed
 done_in t calls outcomes number c deed x row e shows first =

@@ -16,7 +16,7 @@ use Rattle.products.specs.Products.{AreApart, IsInOne, Product, rows_in}
 use Rattle.product_ends.specs.Growing.{HoldReached}
 use Rattle.product_ends.proofs.Saying.{shown_by_products}
 
--- what an ok asks
+-- the question of an ok
 abbrev pub asked : List PendingOp → ℕ → ℕ → ℕ → Answer → Asked
 asked calls tried budget id answer = record { calls = calls; tried = tried; budget = budget; id = id; answer = answer }
 
@@ -42,7 +42,7 @@ module _ (o : Object) (t : Table o.State) (calls : List PendingOp) (ends : List 
     reached : ShownWith (with_rows t (rows_in products)) calls [] (IsReached o calls ends)
     reached = shown_by_products t calls hold.states_once hold.founds_once products apart (IsReached o calls ends) hold.each all
 
-    -- what an ok leaves of them
+    -- the ends that an ok leaves of them
     pub advanced : (tried budget id : ℕ) (answer : Answer) (rows : List (List ℕ)) → length (rows_in products) ≤ budget
         → ((list : List (End o.State)) → AreShown (with_rows t (rows_in products)) calls list → ShownWith (with_rows t rows) (filter (is_other id) calls) [] (Along (Settles id answer) list))
         → IsAdvanced o (with_rows t rows) (asked calls tried budget id answer) ends
@@ -69,7 +69,7 @@ module _ (o : Object) (t : Table o.State) (calls : List PendingOp) (ends : List 
     many = (let long = shown.long in omega (arith, long, over));
   }
 
-  -- what an ok leaves of them
+  -- the ends that an ok leaves of them
   pub kept_advanced : AreClosed o calls ends → (tried budget id : ℕ) (answer : Answer) (rows : List (List ℕ)) → length (rows_of t) ≤ budget
       → ShownWith (with_rows t rows) (filter (is_other id) calls) [] (Along (Settles id answer) ends)
       → IsAdvanced o (with_rows t rows) (asked calls tried budget id answer) ends

@@ -24,7 +24,7 @@ places_once (x ∷ xs) once = (
   places_once xs (λ i j y a b. let same : suc i ≡ suc j = once (suc i) (suc j) y a b in omega (arith, same)),
 )
 
--- an end of each row, of which P holds
+-- an end of each row for which P holds
 record Said {S : Type 0} (t : Table S) (calls : List PendingOp) (rows : List (List ℕ)) (P : End S → Type 0) : Type 0 where
   more : List (End S)
   long : length rows ≡ length more

@@ -1,4 +1,4 @@
--- what calls lead to from rows, by deeds
+-- the rows that calls lead to from rows, by deeds
 use Rattle.std.proofs.Common.{◌≡◌, inl, ⊎_elim, ℕ, ◌+◌, ◌<◌, Bool, false, not, nat_eq, Some, List, [], ◌∷◌, length, slice_get, get_or, set, refl, sym, ap, ◌∙◌, subst, arith, add-one, length-set}
 use Rattle.std.proofs.lemmas.Bool.{cases_eq, ne_eqb, true≢false}
 use Rattle.std.proofs.lemmas.List.{get_or-set_other, get_or-set_same, set-get_or, set-set}
@@ -64,7 +64,7 @@ pub in_same : (sets rest : List ℕ) (at n : ℕ) → at < length sets → AreIn
 in_same sets rest at n lt is has =
     subst (λ ss. AreIn ss (set rest at n)) (set-get_or sets at 0) (in_with sets rest at (get_or sets at 0) n lt is has)
 
--- what a test for different numbers says where it is false
+-- the meaning of a test for different numbers if it is false
 pub same_by : (x y : ℕ) (b : Bool) → b ≡ not (nat_eq x y) → b ≡ false → x ≡ y
 same_by x y b test is = ⊎_elim (λ q. q) (λ ne. absurd (true≢false (sym (ap not (ne_eqb x y ne)) ∙ sym test ∙ is))) (cases_eq x y)
 
@@ -100,7 +100,7 @@ module _ (S : Type 0) (start : S) (apply : Op → S → List (S × Found)) (t : 
     out_by : get_or row (at + 1) 0 ≡ 0 → is_in e c.id c.crashed ≡ false
     out_by none = not_in_by e c.id c.crashed (zero_none t.founds (get_or row (at + 1) 0) (found_by e c) none (shows.slots at c here))
 
-    -- what takes place last was not there
+    -- the operation that takes place last was not there
     pub zero_by : (f : End S) → TakesLast object e c f → get_or row (at + 1) 0 ≡ 0
     zero_by f last = subst (IsSlot t.founds (get_or row (at + 1) 0)) (not_told e c.id c.crashed last.not_in) (shows.slots at c here)
 

@@ -1,4 +1,4 @@
--- what calls do in the states that were tried
+-- the deeds of calls in the states that were tried
 use Rattle.std.proofs.Common.{◌≡◌, ℕ, ◌+◌, ◌<◌, inl, inr, ⊎_elim, Some, List, [], ◌∷◌, ◌++◌, length, slice_get, get_or, sym, ap, ◌∙◌, subst, arith}
 use Rattle.std.proofs.lemmas.Bool.{cases_eq}
 use Rattle.std.proofs.lemmas.List.{get_or_append_left}
@@ -93,7 +93,7 @@ module _ {S : Type 0} where
       (λ other. let bound = within n order (sym (with_order.others n other) ∙ is) in omega (arith, bound, long))
       (cases_eq n number)
 
-  -- what stays in each state that was tried is still told, and so is what stays in one more
+  -- the answers that stay in each state that was tried are still recorded, and so are those that stay in one more
   pub stays_with : (old new : Deeds S) (number calls : ℕ) → IsFront old.deeds.items new.deeds.items → IsFront old.stays.items new.stays.items
       → length new.stays.items ≡ length new.deeds.items → IsOrderWith old.order.items new.order.items number (length old.deeds.items)
       → AreStaysTo number new.deeds.items new.stays.items (length old.deeds.items) calls → AreWithin old calls → AreStays old calls → AreStays new calls

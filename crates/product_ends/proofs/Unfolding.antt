@@ -28,7 +28,7 @@ put_more row old new put P is other = (
       put),
 )
 
--- the same by what is the same
+-- the same for equal rows
 pub more_same : (P Q : List ℕ → Type 0) (old new : List (List ℕ)) → ((row : List ℕ) → P row ↔ Q row) → HasMore P old new → HasMore Q old new
 more_same P Q old new same has row =
     ((λ h. ⊎_elim inl (λ p. inr ((same row).0 p)) ((has row).0 h)), (λ h. (has row).1 (⊎_elim inl (λ q. inr ((same row).1 q)) h)))

@@ -1,10 +1,10 @@
--- the rows of a product with what calls find that stay in its state
+-- the rows of a product with the answers of calls that stay in its state
 use Rattle.std.proofs.Common.{◌≡◌, ℕ, ◌+◌, ◌⊎◌, inl, inr, ⊎_elim, zero, suc, List, [], ◌∷◌, set, get_or, refl, sym, ap, ◌∙◌, subst, arith}
 use Rattle.products.specs.Products.{AreIn, Has, IsIn}
 use Rattle.products.proofs.Sets.{inside_each}
 use Rattle.product_ends.specs.Widening.{AreWidened, IsWidened, TakesIn, TakesOne, TakesOneIn}
 
--- what is done so many times in lists is done so many times in lists that are made of them
+-- an operation on lists that is repeated n times is repeated n times on lists that are made of them
 taken_in : (A B : List ℕ → List ℕ → Type 0) (f : List ℕ → List ℕ) → ((old new : List ℕ) → A old new → B (f old) (f new)) → (n : ℕ) (old new : List ℕ) → TakesIn A n old new → TakesIn B n (f old) (f new)
 taken_in A B f lift zero old new h = ap f h
 taken_in A B f lift (suc n) old new h = (f h.0, taken_in A B f lift n old h.0 h.1, lift h.0 new h.2)
@@ -19,7 +19,7 @@ unfolding rest
 rest_at [] at = refl
 rest_at (stay ∷ stays) at = refl
 
--- what the set had it has, and what it has it had or the call finds
+-- the set keeps its numbers, and its numbers are the old ones or those that the call finds
 kept : (stay old new n : ℕ) → IsWidened stay old new → Has old n → Has new n
 kept stay old new n (inl is) h = subst (λ s. Has s n) (sym is) h
 kept stay old new n (inr is) h = (is.1 n).1 (inl h)
@@ -61,7 +61,7 @@ module _ (stays : List ℕ) where
         made = ap (λ l. number ∷ l) h.made ∙ ap (λ k. set (number ∷ old) k h.slot) (sym next);
       }
 
--- the same numbers, or zero where a call finds the number
+-- the same numbers, or zero if a call finds the number
 numbers_from : (stays sets next : List ℕ) → AreWidened stays sets next → (numbers : List ℕ) → AreIn next numbers
     → (from : List ℕ) × AreIn sets from × (n : ℕ) × TakesIn (TakesOneIn stays) n from numbers
 numbers_from stays [] [] are [] h = ([], tt, 0, refl)

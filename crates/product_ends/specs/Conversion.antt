@@ -23,7 +23,7 @@ pub record IsRenumbered (founds others : List Found) (set other : ℕ) : Type 0 
   pub each : (n : ℕ) → Has set n → (m : ℕ) × Has other m × IsSameFound founds others n m
   pub only : (m : ℕ) → Has other m → (n : ℕ) × Has set n × IsSameFound founds others n m
 
--- so do those of the first so many sets
+-- and the same for the first n sets
 pub record AreRenumbered (founds others : List Found) (sets new : List ℕ) (n : ℕ) : Type 0 where
   pub long : length new ≡ n
   pub each : (k : ℕ) → k < n → IsRenumbered founds others (get_or sets k 0) (get_or new k 0)

@@ -1,4 +1,4 @@
--- Invariant: what each call does in the states that were tried, by numbers
+-- Invariant: the deeds of each call in the states that were tried, by numbers
 use Rattle.std.specs.Prelude.{◌≡◌, ◌≢◌, ◌↔◌, ◌⊎◌, ◌<◌, ◌≤◌, ◌+◌, ℕ, Bool, true, false, Option, Some, List, [], ◌∷◌, length, slice_get, get_or}
 use Rattle.models.specs.declared.operation.Op.{Op}
 use Rattle.models.specs.declared.finding.Found.{Found}
@@ -15,14 +15,14 @@ use Rattle.product_ends.specs.declared.deeds.Deeds.{Deeds}
 abbrev pub IsAlone : ℕ → ℕ → Type 0
 IsAlone set number = (n : ℕ) → Has set n ↔ (n ≡ number)
 
--- the deed is what these outcomes are, of which there is at most one
+-- the deed is that of these outcomes, at most one
 abbrev pub IsDeed : {S : Type 0} → Table S → PendingOp → List (S × Found) → Deed → Type 0
 IsDeed t c outcomes Nowhere = outcomes ≡ []
 IsDeed {S} t c outcomes (To to set) =
     (outcome : S × Found) × (outcomes ≡ outcome ∷ []) × (slice_get t.states to ≡ Some outcome.0)
     × (slot : ℕ) × IsSlot t.founds slot (Some (told_by c.crashed outcome.1)) × IsAlone set slot
 
--- where the deeds in the state with this number stand, one more than that; zero where the calls were not tried there
+-- where the deeds in the state with this number stand, one more than that; zero if the calls were not tried there
 abbrev pub order_in : {S : Type 0} → Deeds S → ℕ → ℕ
 order_in d number = get_or d.order.items number 0
 
@@ -30,7 +30,7 @@ order_in d number = get_or d.order.items number 0
 abbrev pub IsTried : {S : Type 0} → Deeds S → ℕ → Type 0
 IsTried d number = 0 < order_in d number
 
--- what the call at this place does in the state with this number
+-- the deed of the call at this place in the state with this number
 abbrev pub deed_at : {S : Type 0} → Deeds S → ℕ → ℕ → Option Deed
 deed_at d order at = slice_get d.deeds.items (order + at)
 
@@ -49,18 +49,18 @@ AreDeeds {S} apply t calls d = (number order at : ℕ) (c : PendingOp) (deed : D
 abbrev pub IsStay : ℕ → ℕ → Deed → Type 0
 IsStay number stay deed = (slot : ℕ) → Has stay slot → deed ≡ To number stay
 
--- what the call at this place finds where it stays in the state
+-- the answer of the call at this place if it stays in the state
 abbrev pub stay_at : {S : Type 0} → Deeds S → ℕ → ℕ → ℕ
 stay_at d order at = get_or d.stays.items (order + at) 0
 
--- it is told for each deed
+-- there is one for each deed
 pub record AreStays {S : Type 0} (d : Deeds S) (calls : ℕ) : Type 0 where
   pub long : length d.stays.items ≡ length d.deeds.items
   pub each : (number order at slot : ℕ) → order_in d number ≡ order + 1 → at < calls
       → Has (stay_at d order at) slot → deed_at d order at ≡ Some (To number (stay_at d order at))
 
--- what is remembered of calls in states is so: the deeds of each state that was tried are there, each is what its call does, and
--- what stays in the state is told
+-- the memory of calls in states is right. The deeds of each state that was tried are there, each is that of its call, and the answers that
+-- stay in the state are recorded
 pub record AreSound {S : Type 0} (apply : Op → S → List (S × Found)) (t : Table S) (calls : List PendingOp) (d : Deeds S)
     : Type 0 where
   pub within : AreWithin d (length calls)
@@ -73,7 +73,7 @@ pub record AreTriedToo {S : Type 0} (number : ℕ) (old new : Deeds S) : Type 0 
   pub kept : (n : ℕ) → IsTried old n → IsTried new n
   pub others : (n : ℕ) → IsTried new n → (n ≡ number) ⊎ IsTried old n
 
--- the calls are tried in each state in which they were, and, if so it is told, in that of the product; else it has no row
+-- the calls are tried in each state in which they were, and in that of the product if the flag is true; else it has no row
 pub record AreTriedFor {S : Type 0} (product : Product) (old new : Deeds S) (some : Bool) : Type 0 where
   pub kept : (n : ℕ) → IsTried old n → IsTried new n
   pub tried : some ≡ true → IsTried new product.0
@@ -83,7 +83,7 @@ pub record AreTriedFor {S : Type 0} (product : Product) (old new : Deeds S) (som
 abbrev pub HasOneOutcome : {S : Type 0} → (Op → S → List (S × Found)) → Type 0
 HasOneOutcome {S} apply = (op : Op) (s : S) → length (apply op s) ≤ 1
 
--- calls are tried and no more, in at most so many steps
+-- calls are tried and no more, in at most n steps
 pub record TriesAtMost {S : Type 0} (steps : ℕ) (old new : Table S) (before after : ℕ) : Type 0 where
   pub tries : OnlyTries old new before after
   pub cost : after ≤ before + steps
@@ -99,7 +99,7 @@ AreTriedTo {S} apply t calls number deeds from n = (at : ℕ) (c : PendingOp) (d
     → at < n → slice_get calls at ≡ Some c → slice_get deeds (from + at) ≡ Some deed
     → (s : S) × (slice_get t.states number ≡ Some s) × IsDeed t c (apply c.op s) deed
 
--- the place of the deeds of one state is told, and those of all others stay
+-- the place of the deeds of one state is set, and those of all others stay
 pub record IsOrderWith (old new : List ℕ) (number order : ℕ) : Type 0 where
   pub told : get_or new number 0 ≡ order + 1
   pub others : (n : ℕ) → n ≢ number → get_or new n 0 ≡ get_or old n 0

@@ -16,14 +16,14 @@ use Rattle.product_ends.specs.Widening.{product_in}
 
 -- ---- the work while products grow
 
--- what the calls do in states is known, in the state of each row of the products, no two of which have a row in common
+-- the deeds of the calls are known in the state of each row of the products, no two of which have a row in common
 pub record AreKnown {S : Type 0} (apply : Op → S → List (S × Found)) (t : Table S) (calls : List PendingOp) (w : Work S)
     : Type 0 where
   pub sound : AreSound apply t calls w.deeds
   pub tried : (row : List ℕ) → IsInOne w.all.1 row → IsTried w.deeds (get_or row 0 0)
   pub apart : AreApart w.all.1
 
--- more may be put with the products: what calls do is known, an operation has at most one outcome in a state, and the rows are no
+-- more may be put with the products: the deeds of calls are known, an operation has at most one outcome in a state, and the rows are no
 -- more than the budget
 pub record MayGrow {S : Type 0} (apply : Op → S → List (S × Found)) (t : Table S) (calls : List PendingOp) (budget : ℕ) (w : Work S)
     : Type 0 where
@@ -35,7 +35,7 @@ pub record MayGrow {S : Type 0} (apply : Op → S → List (S × Found)) (t : Ta
 abbrev pub HasRows : Product → List Product → Type 0
 HasRows product products = (row : List ℕ) → IsIn product row → IsInOne products row
 
--- the source has so many sets as the products, and its rows are rows of them
+-- the source has as many sets as the products, and its rows are rows of them
 pub record HasSource {S : Type 0} (w : Work S) : Type 0 where
   pub long : length w.source.sets.items ≡ w.all.0
   pub there : HasRows (product_in w.source) w.all.1
@@ -55,11 +55,11 @@ pub record Gains (from : ℕ) (old new : List Product) : Type 0 where
   pub long : length old ≤ length new
   pub kept : LosesNoRow old new
 
--- the steps that were made are no more than so many for each row that was added
+-- the steps that were made are no more than n for each row that was added
 abbrev pub IsPaid : ℕ → ℕ → List Product → ℕ → List Product → Type 0
 IsPaid steps before old after new = after + steps * length (rows_in old) ≤ before + steps * length (rows_in new)
 
--- products were put with others: none of those is lost, what calls do is known for all, the steps are paid, and it is told whether
+-- products were put with others. None of those is lost, the deeds of calls are known for all, and the steps are paid. The flag says whether
 -- their rows are no more than the budget
 pub record AreGrown {S : Type 0} (apply : Op → S → List (S × Found)) (t : Table S) (calls : List PendingOp)
     (from budget : ℕ) (old : List Product) (new : Work S) (before after : ℕ) (all : Bool) : Type 0 where
@@ -123,7 +123,7 @@ abbrev pub SayAll : (o : Object) → Table o.State → List PendingOp → List (
 SayAll o t calls start products =
     (e : End o.State) → IsReached o calls start e → (row : List ℕ) × IsInOne products row × Shows t calls row e
 
--- what the calls lead to from the kept products was found: no two products have a row in common, and each row says an end that is
+-- the ends that the calls lead to from the kept products were found: no two products have a row in common, and each row says an end that is
 -- reached. Either they are all such ends, and no more than the budget, or the rows are more than it
 pub record AreFound (o : Object) (t u : Table o.State) (calls : List PendingOp) (budget : ℕ) (kept new : List Product) (told : Bool)
     : Type 0 where

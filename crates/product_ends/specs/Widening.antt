@@ -1,4 +1,4 @@
--- Invariant: sets of a product with what calls find that stay in its state
+-- Invariant: sets of a product with the answers of calls that stay in its state
 use Rattle.std.specs.Prelude.{◌≡◌, ◌↔◌, ◌<◌, ◌+◌, ◌⊎◌, ℕ, zero, suc, List, length, set, get_or}
 use Rattle.products.specs.Products.{Has, Product}
 use Rattle.product_ends.specs.declared.room.Source.{Source}
@@ -15,12 +15,12 @@ product_to source to = (to.number, set source.sets.items to.place to.set)
 abbrev pub IsWidened : ℕ → ℕ → ℕ → Type 0
 IsWidened stay old new = (new ≡ old) ⊎ (Has old 0 × ((n : ℕ) → Has new n ↔ (Has old n ⊎ Has stay n)))
 
--- each set is, by what the call at its place finds
+-- each set is widened by the answer of the call at its place
 pub record AreWidened (stays old new : List ℕ) : Type 0 where
   pub long : length new ≡ length old
   pub each : (at : ℕ) → at < length old → IsWidened (get_or stays at 0) (get_or old at 0) (get_or new at 0)
 
--- the new numbers are the old ones, but for one place: there was zero, and is a number that the call at that place finds
+-- the new numbers are the old ones, except for one place: there was zero, and is a number that the call at that place finds
 pub record TakesOneIn (stays old new : List ℕ) : Type 0 where
   pub at : ℕ
   pub slot : ℕ
@@ -39,7 +39,7 @@ pub record TakesOne (number : ℕ) (stays old new : List ℕ) : Type 0 where
   pub has : Has (get_or stays at 0) slot
   pub made : new ≡ set old (at + 1) slot
 
--- so many times, one after another
+-- n times, one after another
 abbrev pub TakesIn : (List ℕ → List ℕ → Type 0) → ℕ → List ℕ → List ℕ → Type 0
 TakesIn One zero old new = old ≡ new
 TakesIn One (suc n) old new = (mid : List ℕ) × TakesIn One n old mid × One mid new

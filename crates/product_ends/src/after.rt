@@ -11,8 +11,8 @@ use products::{Products, Scratch, take_marked};
 use std::alloc::AllocError;
 use std::hash::Hash;
 
-/// Puts what an ok leaves in place of the products that were there: of the ends that have the operation with a finding that fits the
-/// answer the products, without the operation's set. None where it is not open. Takes the time of the products.
+/// Replaces the products by those that an ok leaves: for the ends that have the operation with a fitting answer the products, without the
+/// operation's set. None if it is not open. Costs O(products).
 pub fn put_left_by_ok<S: Hash + Drop>(
     table: &Table<S>,
     all: &Products,
@@ -34,7 +34,7 @@ pub fn put_left_by_ok<S: Hash + Drop>(
             Ok(())
         }
         _ => {
-            // It says that each row has so many numbers.
+            // It says that each row has this number of numbers.
             let _rows = all.rows();
             left.restart(0);
             Ok(())
@@ -42,8 +42,8 @@ pub fn put_left_by_ok<S: Hash + Drop>(
     }
 }
 
-/// Puts what a fail of the open operation leaves in place of the products that were there: of the ends that do not have the
-/// operation the products, without the operation's set. None where it is not open. Takes the time of the products.
+/// Replaces the products by those that a fail of the open operation leaves: for the ends that do not have the operation the products,
+/// without the operation's set. None if it is not open. Costs O(products).
 pub fn failed<S: Hash + Drop>(
     table: &Table<S>,
     kept: &Products,
@@ -65,7 +65,7 @@ pub fn failed<S: Hash + Drop>(
             Ok(())
         }
         _ => {
-            // It says that each row has so many numbers.
+            // It says that each row has this number of numbers.
             let _rows = kept.rows();
             left.restart(0);
             Ok(())

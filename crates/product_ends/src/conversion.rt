@@ -34,8 +34,8 @@ fn set_alone(row: &[usize], sets: &mut Vec<u64>) -> Result<(), AllocError>
     Ok(())
 }
 
-/// The rows of the table, each as a product of its own, with so many sets. None where a row has another length. `AllocError` where
-/// there is no memory for them, or a number has more than 63 bits. Takes the square of how many rows there are.
+/// The rows of the table, each as a product of its own, with `places` sets. None if a row has another length. `AllocError` if there is no
+/// memory for them, or a number has more than 63 bits. Takes the square of how many rows there are.
 pub fn as_products<S: Hash + Drop>(
     table: &Table<S>,
     places: usize,
@@ -109,7 +109,7 @@ fn put_rows_with(
     Ok(())
 }
 
-/// The rows of the products. Takes the time of [`RowSet::put`] for each row.
+/// The rows of the products. Costs a [`RowSet::put`] for each row.
 pub fn as_rows(alloc: Global, products: &Products) -> Result<RowSet, AllocError>
     ensures rows { IfOk result (λ rows. (row : List ℕ) → Contains rows row ↔ IsInOne products.now.1 row) }
     ensures once { IfOk result (λ rows. Pairwise (λ one other. one ≢ other) rows) }
@@ -124,7 +124,7 @@ pub fn as_rows(alloc: Global, products: &Products) -> Result<RowSet, AllocError>
     Ok(rows)
 }
 
-// The set that has the new number of what stands at the old one.
+// The set that has the new number of the answer at the old one.
 fn renumbered_one(old: &Founds, new: &mut Founds, number: usize) -> Result<Option<u64>, AllocError>
     ensures set { IfOk result (λ found. IfSome found (λ set.
         (other : ℕ) × IsAlone set other × IsSameFound old.now new.new number other)) }
@@ -140,7 +140,7 @@ fn renumbered_one(old: &Founds, new: &mut Founds, number: usize) -> Result<Optio
     }
 }
 
-// The set with the new numbers of what stands at the old ones; none where one has no place among bits.
+// The set with the new numbers of the answers at the old ones; none if one has no place among bits.
 fn renumbered_set(old: &Founds, new: &mut Founds, set: u64) -> Result<Option<u64>, AllocError>
     ensures set { IfOk result (λ found. IfSome found (IsRenumbered old.now new.new set)) }
     ensures front { IsFront new.old new.new }
@@ -164,7 +164,7 @@ fn renumbered_set(old: &Founds, new: &mut Founds, set: u64) -> Result<Option<u64
     Ok(Some(other))
 }
 
-// Writes the sets with new numbers; false where one has none.
+// Writes the sets with new numbers; false if one has none.
 fn renumber_sets(
     old: &Founds,
     new: &mut Founds,
@@ -186,9 +186,9 @@ fn renumber_sets(
     Ok(true)
 }
 
-/// A table with the states of these products and with what was found in them alone, and without rows, and the products by its
-/// numbers. None where a state, or what was found, is not in the table, or where a set of several numbers would get one above 62.
-/// Takes the time of a copy of each product's state, of its numbers, and of [`Products::put`] for each product.
+/// A table with the states and the answers of these products alone, and without rows, and the products by its numbers. None if a state or
+/// an answer is not in the table, or if a set of several numbers would get one above 62. Costs a copy of each product's state and of its
+/// numbers, and [`Products::put`] for each product.
 pub fn renumbered<M: SeqObject>(
     table: &Table<M::State>,
     kept: &Products,

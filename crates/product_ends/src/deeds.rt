@@ -1,4 +1,4 @@
-//! What each call does in the states that were tried.
+//! The deeds of each call in the states that were tried.
 ghost use Rattle.std.specs.Prelude.{◌≡◌, ◌<◌, ◌≤◌, ◌+◌, ◌^◌, ℕ, IfOk, IfSome, IsSome, OnOk, Some, length, get_or, slice_get, slice_range};
 ghost use Rattle.models.specs.declared.finding.Found.{Found};
 ghost use Rattle.ends.specs.Tables.{OnlyTries};
@@ -11,18 +11,18 @@ use models::{Found, SeqObject};
 use products::number_set::singleton;
 use std::alloc::{AllocError, Global};
 
-/// What a call does in a state.
+/// The deed of a call in a state.
 #[derive(Clone, Copy)]
 pub enum Deed {
     /// It cannot take place.
     Nowhere,
-    /// It leads to the state with this number, and the number of what is told of what it found is alone in this set.
+    /// It leads to the state with this number, and the number of its recorded answer is alone in this set.
     To(usize, u64),
 }
 
-/// What each call does in the states that were tried. The order of a state is one more than where its first deed stands, and zero
-/// where the calls were not tried in it. At the place of each deed stands, in a list of its own, what the call finds where it stays
-/// in the state, else no number.
+/// The deeds of each call in the states that were tried. The order of a state is one more than where its first deed stands, and zero if the
+/// calls were not tried in it. At the place of each deed there is, in a list of its own, the answer of the call if it stays in the state,
+/// else no number.
 #[derive(Drop)]
 pub struct Deeds<S> {
     order: Vec<usize>,
@@ -76,7 +76,7 @@ fn part_in<'a, T>(
     }
 }
 
-/// What each of the call_count does in the state with this number, if they were tried there. Takes constant time.
+/// The deed of each of the call_count calls in the state with this number, if they were tried there. Takes constant time.
 #[inline(always)]
 pub fn deeds_in<S>(deeds: &Deeds<S>, number: usize, call_count: usize) -> Option<&[Deed]>
     ensures some { IfSome result (λ those. (order : ℕ) × (order_in deeds.now number ≡ order + 1)
@@ -86,8 +86,8 @@ pub fn deeds_in<S>(deeds: &Deeds<S>, number: usize, call_count: usize) -> Option
     part_in(&deeds.order, &deeds.deeds, number, call_count)
 }
 
-/// What each of the call_count finds where it stays in the state with this number, as a set, if they were tried there: no number where
-/// the call cannot take place, or leads to another state. Takes constant time.
+/// The answer of each of the call_count calls that stays in the state with this number, as a set, if they were tried there. The set has no
+/// number if the call cannot take place, or leads to another state. Takes constant time.
 #[inline(always)]
 pub fn stays_in<S>(deeds: &Deeds<S>, number: usize, call_count: usize) -> Option<&[u64]>
     ensures some { IfSome result (λ those. (order : ℕ) × (order_in deeds.now number ≡ order + 1)
@@ -97,7 +97,7 @@ pub fn stays_in<S>(deeds: &Deeds<S>, number: usize, call_count: usize) -> Option
     part_in(&deeds.order, &deeds.stays, number, call_count)
 }
 
-// What the call does in the state with this number: one step.
+// The deed of the call in the state with this number: one step.
 fn try_call<M: SeqObject>(
     table: &mut Table<M::State>,
     outcomes: &mut Vec<(M::State, Found)>,
@@ -125,7 +125,7 @@ fn try_call<M: SeqObject>(
     }
 }
 
-// What the deed finds, if it stays in the state with this number, in which it is done; else no number.
+// The answer of the deed, if it stays in the state with this number, in which it is done; else no number.
 #[inline(always)]
 fn stay(deed: Deed, number: usize) -> u64
     ensures { IsStay number result deed }
@@ -151,7 +151,7 @@ fn note_order(order: &mut Vec<usize>, number: usize, first: usize) -> Result<(),
     Ok(())
 }
 
-/// Tries each call in the state with this number, and remembers what it does. `AllocError` where there is no memory for it, or no
+/// Tries each call in the state with this number, and remembers what it does. `AllocError` if there is no memory for it, or no
 /// such state. Takes one step for each call.
 #[inline(never)]
 pub fn try_each<M: SeqObject>(

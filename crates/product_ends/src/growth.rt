@@ -29,8 +29,8 @@ fn take_source(source: &mut Source, products: &Products, at: usize) -> Result<()
     Ok(())
 }
 
-// Adds what the call at this place leads to from the source, which stands before `growable_from`: products before that place were
-// gone through, and get no more rows. False where all rows are more than the budget.
+// Adds the ends that the call at this place leads to from the source, whose place is before `growable_from`: products before that place
+// were gone through, and get no more rows. False if all rows are more than the budget.
 fn grow_at<M: SeqObject>(
     table: &mut Table<M::State>,
     work: &mut Work<M::State>,
@@ -76,7 +76,7 @@ fn grow_at<M: SeqObject>(
     }
 }
 
-// Adds what the calls lead to from the product at this place. False where all rows are more than the budget, and then there may be
+// Adds what the calls lead to from the product at this place. False if all rows are more than the budget, and then there may be
 // more to add.
 fn grow_from<M: SeqObject>(
     table: &mut Table<M::State>,
@@ -142,7 +142,7 @@ fn begin<M: SeqObject>(
 }
 
 /// Adds what the calls lead to, one after another, to the kept products: goes through the products once while they grow. False
-/// where all rows are more than the budget, and then there may be more to add.
+/// if all rows are more than the budget, and then there may be more to add.
 pub fn grow<M: SeqObject>(
     table: &mut Table<M::State>,
     kept: &Products,

@@ -1,13 +1,13 @@
 //! Ends as products of sets of small numbers, and what operations and answers make of them.
 //!
-//! Where reads are open, most ends differ by what these found alone, so that few products stand for many ends: of one open read,
-//! while three writes in turn have returned, one product says that it may have found any of the values, or nothing yet. An ok
-//! ([`advance`]) goes through products as `ends` goes through rows, and tries all calls when it first meets a state. It widens each
-//! product before it is put: where a call would leave the state as it is, the call's set gets the number of what it would find.
-//! Where all calls were tried before, it makes no step, and takes what the answer leaves. Where there are many states or found
-//! things, products get new numbers, for those in use alone ([`renumbered`]).
+//! If reads are open, most ends differ by the reads' answers alone, so that few products stand for many ends. If three writes in turn have
+//! returned during one open read, one product says that the read may have found any of the values, or nothing yet. An ok ([`advance`]) goes
+//! through products as `ends` goes through rows, and tries all calls when it first meets a state. It widens each product before it is put:
+//! if a call would leave the state as it is, the call's set gets the number of its answer. If all calls were tried before, it makes no
+//! step, and takes what the answer leaves. If there are many states or found things, products get new numbers, for those in use alone
+//! ([`renumbered`]).
 //!
-//! A call takes memory only where its result can be `AllocError`, or a refusal for want of memory.
+//! A call allocates only if its result can be `AllocError`, or a refusal because memory ran out.
 #![tactic(auto)]
 
 mod after;

@@ -17,8 +17,8 @@ use products::Products;
 use std::alloc::AllocError;
 use std::hash::Hash;
 
-// Puts the products of what the answer leaves of the kept ends, from which the calls lead to no others, in place of those that were
-// there. False where the kept ends are more than the budget.
+// Replaces the products by those that the answer leaves of the kept ends; the calls lead from these ends to no others. False if the kept
+// ends are more than the budget.
 fn settle_kept<M: SeqObject>(
     table: &Table<M::State>,
     kept: &Products,
@@ -44,15 +44,14 @@ fn settle_kept<M: SeqObject>(
     Ok(true)
 }
 
-/// Puts the products of the ends that are left after the operation has returned into the room: of those where it is in and what it
-/// found fits the answer, each without it. False where all ends, these and what the calls lead to from them one after another, are
-/// more than the budget. This is so where each call is of another operation, and the calls that were tried already lead from the
-/// ends to no others. Each call has at most one outcome in a state. The rows of the table stay, and so do the kept products.
+/// Puts the products of the ends that are left after the operation has returned into the room. These are the ends that have it with a
+/// fitting answer, each without it. False if all ends, these and what the calls lead to from them one after another, are more than the
+/// budget. This is so if each call is of another operation, and the calls that were tried already lead from the ends to no others. Each
+/// call has at most one outcome in a state. The rows of the table stay, and so do the kept products.
 ///
-/// `AllocError` where there is no memory for them: the steps that were made stay counted, and the room may have some of what is
-/// left. It makes no step where all calls were tried, and then takes the time of the products. Else it makes at most one step for
-/// each call in each state, and compares each product that comes of one with all others: the square of the products at worst, and
-/// more where they are cut into pieces.
+/// `AllocError` if there is no memory for them: the steps that were made stay counted, and the room may have some of the products. It makes
+/// no step if all calls were tried, and then costs O(products). Else it makes at most one step for each call in each state, and compares
+/// each new product with all others. That is O(products squared) at worst, and more if they are cut into pieces.
 pub fn advance<M: SeqObject>(
     table: &mut Table<M::State>,
     kept: &Products,
@@ -97,8 +96,8 @@ pub fn advance<M: SeqObject>(
     Ok(true)
 }
 
-/// Puts the products after the operation, which is open, has failed into the room, of those ends that it is not in, each without
-/// its number. Leaves no products where the operation is not open. Takes the time of the products.
+/// Puts the products after the operation, which is open, has failed into the room, of those ends that it is not in, each without its
+/// number. Leaves no products if the operation is not open. Costs O(products).
 pub fn failed<S: Hash + Drop>(
     table: &Table<S>,
     kept: &Products,

@@ -15,8 +15,8 @@ pub struct Source {
     pub sets: Vec<u64>,
 }
 
-/// Memory that an ok works in, kept for the next one: what calls do in states, all ends as products, the one that calls lead from,
-/// the marks of what fits the answer, and sets that are worked on.
+/// Memory that an ok works in, kept for the next one. It has the deeds of calls in states, all ends as products, the one that calls lead
+/// from, the marks of fitting answers, and working sets.
 #[derive(Drop)]
 pub struct Work<S> {
     pub deeds: Deeds<S>,
@@ -53,7 +53,7 @@ impl<S> Room<S> {
     }
 }
 
-/// Makes the memory to work in, where there is none yet.
+/// Makes the memory to work in, if there is none yet.
 pub fn make<S: Drop>(alloc: Global, work: &mut Option<Box<Work<S>>>) -> Result<(), AllocError>
     ensures { OnOk result (IsSome work.new) }
 {

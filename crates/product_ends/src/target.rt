@@ -21,7 +21,7 @@ pub struct Target {
     pub set: u64,
 }
 
-// The set, and with it what its call would find where it leaves the state as it is (`stay`, zero where it does not). The set alone
+// The set, and with it what its call would find where it leaves the state as it is (`stay`, zero if it does not). The set alone
 // where the call is in each row, or no one word has both.
 #[inline(always)]
 fn widened(set: u64, stay: u64) -> u64
@@ -80,7 +80,7 @@ fn has_row(sets: &[u64], place: usize, set: u64) -> bool
     true
 }
 
-// Sees to it that the calls were tried in the target's state. False, with nothing tried, where they were not and the target has no
+// Sees to it that the calls were tried in the target's state. False, with nothing tried, if they were not and the target has no
 // row: then they need not be.
 #[inline(always)]
 fn ensure_tried<M: SeqObject>(
@@ -109,9 +109,9 @@ fn ensure_tried<M: SeqObject>(
     Ok(true)
 }
 
-/// Puts the target, widened, with the others. Where the calls were not tried in its state, they are now, and its rows are new; a
+/// Puts the target, widened, with the others. If the calls were not tried in its state, they are now, and its rows are new; a
 /// target of such a state that has no row is not put. Products before `growable_from` were gone through, and get no more rows. False
-/// where all rows are more than the budget.
+/// if all rows are more than the budget.
 pub fn put_widened<M: SeqObject>(
     table: &mut Table<M::State>,
     work: &mut Work<M::State>,

@@ -12,7 +12,7 @@ use Rattle.products.proofs.Sets.{length_rows_push}
 use Rattle.products.proofs.Numbers.{contains_numbers, has_zero_alone, numbers_once}
 use Rattle.products.specs.Products.{AreIn, numbers_of, IsIn, IsInAt, IsInOne, AreApart, Family, Product, laid_out, rows_in, rows_of_product, rows_of_sets}
 
--- what holds always
+-- a fact that always holds
 pub on_err : {T E P : Type 0} (r : Result T E) → P → OnErr r P
 on_err (Ok x) p = tt
 on_err (Err e) p = p
@@ -163,7 +163,7 @@ kept_same p p' r r' f f' w w' ps rs fs ws kept =
     (subst (λ l. IsKept p r l w') (sym fs)
     (subst (λ l. IsKept p r f l) (sym ws) kept)))
 
--- what is seen of them
+-- the view of them
 pub view_long : (places : ℕ) (firsts words : List ℕ) (family : Family) → (places, laid_out places firsts words) ≡ family
     → length family.1 ≡ length firsts
 view_long places firsts words family view = sym (ap (λ (f : Family). length f.1) view) ∙ length-laid_out places firsts words
@@ -180,7 +180,7 @@ pub view_product : (places : ℕ) (firsts words : List ℕ) (family : Family) �
 view_product places firsts words family view at within product there =
     same_Some product (get_or firsts at 0, take places (drop (at * places) words)) (sym there ∙ view_at places firsts words family view at within)
 
--- the words of so many products, each with the set of zero alone behind it
+-- the words of n products, each with the set of zero alone behind it
 abbrev pub longer : ℕ → ℕ → List ℕ → List ℕ
 longer places zero words = []
 longer places (suc n) words = take places words ++ (1 ∷ longer places n (drop places words))
@@ -404,12 +404,12 @@ found_at places firsts words family view at index first sets within read same sa
     there ∙ ap (λ n. Some (n, take places (drop (at * places) words))) number
     ∙ ap (λ l. Some (first, l)) (sym (said (get_or firsts at 0, take places (drop (at * places) words)) there))
 
--- what holds of the product at a place
+-- a fact about the product at a place
 pub at_place : (P : Product → Type 0) (products : List Product) (at : ℕ) (product : Product) → slice_get products at ≡ Some product → P product
     → (other : Product) → slice_get products at ≡ Some other → P other
 at_place P products at product there holds other here = subst P (same_Some product other (sym there ∙ here)) holds
 
--- each product has so many sets
+-- each product has the same number of sets
 pub view_sets : (places : ℕ) (firsts words : List ℕ) (family : Family) → (places, laid_out places firsts words) ≡ family
     → length words ≡ length firsts * places → (at : ℕ) → at < length firsts → (product : Product) → slice_get family.1 at ≡ Some product
     → length product.1 ≡ places

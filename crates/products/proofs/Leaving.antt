@@ -1,4 +1,4 @@
--- what is left of rows without their number at a place
+-- the rest of rows without their number at a place
 use Rattle.std.proofs.Common.{◌≡◌, ◌↔◌, ◌⊎◌, inl, inr, ⊎_elim, ℕ, zero, suc, ◌+◌, ◌-◌, ◌^◌, ◌<◌, ◌≤◌, Bool, true, false, Some, None, Option, IfSome, Result, Ok, Err, OnOk, List, [], ◌∷◌, length, slice_get, get_or, bit_or, refl, sym, ap, ◌∙◌, subst, arith}
 use Rattle.std.specs.List.{insert, remove}
 use Rattle.std.specs.Int.{bit_at}
@@ -31,7 +31,7 @@ with_one (set ∷ sets) [] (suc place) number lt has are = absurd are
 with_one (set ∷ sets) (n ∷ numbers) (suc place) number lt has are =
     let {- the same of the rest -} r = with_one sets numbers place number (omega (arith, lt)) has are.1 in ((are.0, r.0), r.1, ap (λ ns. n ∷ ns) r.2)
 
--- rows with the same number at a place are the same where they are the same without it
+-- rows with the same number at a place are the same if they are the same without it
 same_again : (row other : List ℕ) (place number : ℕ) → slice_get row place ≡ Some number → slice_get other place ≡ Some number → remove row place ≡ remove other place → row ≡ other
 same_again [] other place number has too same = absurd (none-some number has)
 same_again (n ∷ row) [] place number has too same = absurd (none-some number too)
@@ -47,12 +47,12 @@ same_again (n ∷ row) (m ∷ other) (suc place) number has too same =
     heads : n ∷ remove row place ≡ m ∷ remove other place → n ≡ m
     heads e = cc
 
--- what follows from what an Ok says
+-- the consequences of an Ok
 pub on_ok : {T E : Type 0} (r : Result T E) (P Q : Type 0) → (P → Q) → OnOk r P → OnOk r Q
 on_ok (Ok v) P Q f p = f p
 on_ok (Err e) P Q f p = tt
 
--- what is left of the product at a place, where P tells of the number of a row that is left out
+-- the rest of the product at a place, where P holds for the number of a row that is left out
 abbrev pub IsLeftAt : (ℕ → Type 0) → List Product → ℕ → ℕ → List ℕ → Type 0
 IsLeftAt P products place at left =
     (row : List ℕ) × IsInAt products at row × ((number : ℕ) × (slice_get row place ≡ Some number) × P number) × (remove row place ≡ left)
@@ -115,7 +115,7 @@ module _ (products : List Product) (at first : ℕ) (sets : List ℕ) (here : sl
     pub none_left : (((number : ℕ) × Has (get_or sets (place - 1) 0) number × P number) → ⊥) → (row : List ℕ) → ¬ IsLeftAt P products place at row
     none_left none row left = none (only row left).0
 
--- so far the products have just the rows that Q tells of the places before this one
+-- so far the products have just the rows for which Q holds at the places before this one
 abbrev pub AreSoFar : List Product → (ℕ → List ℕ → Type 0) → ℕ → Type 0
 AreSoFar products Q n = (row : List ℕ) → IsInOne products row ↔ ((at : ℕ) × (at < n) × Q at row)
 
@@ -151,7 +151,7 @@ module _ (Q : ℕ → List ℕ → Type 0) (n : ℕ) where
   )
 
 module _ (others : List Product) (apart : AreApart others) (old : List Product) (at : ℕ) where
-  -- what is left of one more is not there, where one number alone is left out
+  -- the rest of one more is not there, if one number alone is left out
   pub left_apart : (place number : ℕ) → AreSoFar old (IsLeftAt (λ n. n ≡ number) others place) at → (row : List ℕ) → IsLeftAt (λ n. n ≡ number) others place at row → ¬ IsInOne old row
   left_apart place number so row is has =
       let {- what is left of one before -} b = (so row).0 has in
@@ -199,7 +199,7 @@ IsFound all marks n None = (k : ℕ) → k < n → get_or marks k false ≡ true
 IsFound all marks n (Some number) =
     (get_or marks number false ≡ true) × ((k : ℕ) → k < n → get_or marks k false ≡ true → Has all k → k ≡ number)
 
--- a word below 2 ^ 63 has what the other one has
+-- a word below 2 ^ 63 has every number of the second word
 abbrev pub Covers : ℕ → ℕ → Type 0
 Covers all set = all < 2 ^ 63 → (n : ℕ) → Has set n → Has all n
 

@@ -1,4 +1,4 @@
--- sets of numbers in words: what a word has, and its numbers one after another
+-- sets of numbers in words: the numbers of a word, one after another
 use Rattle.std.proofs.Common.{◌≡◌, ◌≢◌, ◌⊎◌, ◌↔◌, Bool, cond, List, [], ◌∷◌, length, IsTrue, nat_eq, nat_lt, count_ones, w64, div-lt_iff_lt-mul, mod-lt, pow_pos, inl, inr, ⊎_elim, ℕ, zero, suc, ◌+◌, ◌-◌, ◌*◌, ◌/◌, ◌%◌, ◌^◌, ◌<◌, ◌≤◌, refl, sym, ap, ◌∙◌, subst, arith}
 use Rattle.std.proofs.Math.Nat.{pow-suc, div-add-mod'}
 use Rattle.std.specs.Int.{bit_at}
@@ -50,7 +50,7 @@ pub has_high : (number n : ℕ) → Has (2 ^ 63 + number) n ↔ (n ≡ number)
 has_high number n =
     let h = has_alone (2 ^ 63 + number) n (omega arith) in (λ g. let e = h.0 g in omega arith, λ e. h.1 (omega arith))
 
--- a part of a word told by bits
+-- a part of a word that is a set by bits
 pub has_and : (set mask n : ℕ) → set < 2 ^ 63 → Has (bit_and set mask) n ↔ (Has set n × (bit_at mask n ≡ 1))
 has_and set mask n lt =
     let less = and_le_l set mask in
@@ -98,7 +98,7 @@ has_without set other n lt less =
           both.1 (h.0, omega arith),
     )
 
--- the same where the other has a number below 63 alone
+-- the same if the other has a number below 63 alone
 pub has_cleared : (set other n : ℕ) → set < 2 ^ 63 → 2 ^ 63 ≤ other → other - 2 ^ 63 < 63
     → Has (bit_and set (2 ^ 64 - 1 - 1 * 2 ^ (other - 2 ^ 63) % 2 ^ 64)) n ↔ (Has set n × ¬ Has other n)
 has_cleared set other n lt le small =
@@ -113,14 +113,14 @@ has_cleared set other n lt le small =
       λ h. rest.1 (h.0, λ g. let e = power.0 g in h.1 (alone.1 (omega arith))),
     ))
 
--- and where that number is none of those told by bits
+-- and if that number is not below 63
 pub has_beyond : (set other n : ℕ) → set < 2 ^ 63 → 2 ^ 63 ≤ other → 63 ≤ other - 2 ^ 63 → Has set n ↔ (Has set n × ¬ Has other n)
 has_beyond set other n lt le far = (
   λ h. (h, λ g. let small = ((by_bits set n lt).0 h).0 in let e = (has_alone other n le).0 g in omega arith),
   λ h. h.0,
 )
 
--- ---- a word with one number alone, beside any other
+-- ---- a word with one number alone, and any other word
 
 only_one : (set other n : ℕ) → 2 ^ 63 ≤ set → Has set n → Has other n → Has other (set - 2 ^ 63)
 only_one set other n le h g =

@@ -75,7 +75,7 @@ puts_joined first from at place word sets others old beyond there inner joined b
       ];
     }
 
--- what is put, by all products
+-- the rows that are put, by all products
 pub puts_has : (product : Product) (from : ℕ) (old new : List Product) → Puts product from old new → HasWith (IsIn product) old new
 puts_has product from old new puts row = (
   (λ h. elim (puts.only h.0 row h.1) [ inl was ↦ inl (h.0, was) | inr more ↦ inr more ]),
@@ -283,7 +283,7 @@ left_nothing place first from at left sets others old middle brings alike says n
       | inr other ↦ (h.0, (h.1.0, (let upto = h.1.1 in omega (arith, upto, other)), h.1.2, h.1.3))
     ]
 
--- a piece of the product that has changed is one of what it was
+-- a piece of the changed product is a piece of the old one
 piece_alike : (place at : ℕ) (sets others piece : List ℕ) (middle : List Product) → IsAlike (place + 1) at others middle
     → IsPiece place sets (sets_at middle at) piece → IsPiece place sets others piece
 piece_alike place at sets others piece middle alike is = record {
@@ -299,7 +299,7 @@ piece_alike place at sets others piece middle alike is = record {
   behind = is.behind;
 }
 
--- what a piece has, the product has too
+-- the rows of a piece are rows of the product
 piece_within : (place : ℕ) (sets others piece : List ℕ) → IsPiece place sets others piece → (k number : ℕ)
     → Has (get_or piece k 0) number → Has (get_or sets k 0) number
 piece_within place sets others piece is k number h = elim (cases_order k place) [
@@ -436,7 +436,7 @@ passed at end first sets products before here i row upto lower h stands =
       | inr other ↦ before i row (omega (arith, upto, other)) lower h stands
     ]
 
--- what is left at the place, by the sets that were read
+-- the rest at the place, by the sets that were read
 pub left_says : (start place at left index : ℕ) (items old sets : List ℕ) (products : List Product) → items ≡ old
     → index ≡ get_or items (start + place) index → start + place < length items → sets ≡ sets_at products at
     → ((n : ℕ) → Has left n ↔ (Has index n × ¬ Has (get_or sets place 0) n))

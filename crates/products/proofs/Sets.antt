@@ -92,7 +92,7 @@ length_rows_push (t ∷ sets) s =
     length_rows t (sets ++ s ∷ []) ∙ ap (λ n. length (numbers_of t) * n) (length_rows_push sets s)
     ∙ sym (mul_assoc (length (numbers_of t)) (length (rows_of_sets sets)) (length (numbers_of s))) ∙ ap (λ n. n * length (numbers_of s)) (sym (length_rows t sets))
 
--- what has the rows of two that have none in common has so many
+-- the set of the rows of two sets without a common row has the sum of their sizes
 pub length_rows_joined : (sets others both : List ℕ) → ((row : List ℕ) → AreIn both row ↔ (AreIn others row ⊎ AreIn sets row)) → ((row : List ℕ) → AreIn sets row → ¬ AreIn others row) → length (rows_of_sets both) ≡ length (rows_of_sets others) + length (rows_of_sets sets)
 length_rows_joined sets others both joined apart =
     same_length (rows_of_sets both) (rows_of_sets others ++ rows_of_sets sets) (rows_once both)
@@ -124,7 +124,7 @@ inside_each sets others long each row h =
     let l = are_in_long sets row h in
     are_in_from others row (omega arith) (λ k lt. let lt2 : k < length sets = omega arith in each k (get_or row k 0) lt2 (are_in_at sets row k lt2 h))
 
--- one place with what either has there, and the same at all others
+-- one place with the numbers that either has there, and the same at all others
 pub joined_rows : (sets others : List ℕ) (at both : ℕ) → length sets ≡ length others → at < length others → ((k : ℕ) → k < length sets → k ≢ at → get_or sets k 0 ≡ get_or others k 0)
     → ((n : ℕ) → Has both n ↔ (Has (get_or sets at 0) n ⊎ Has (get_or others at 0) n))
     → (row : List ℕ) → AreIn (set others at both) row ↔ (AreIn others row ⊎ AreIn sets row)

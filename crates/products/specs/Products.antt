@@ -4,7 +4,7 @@ use Rattle.std.specs.List.{filter, flat_map, remove}
 use Rattle.std.specs.Int.{bit_at}
 use Rattle.rows.specs.RowSets.{is_marked}
 
--- the word tells this set by bits, or has one number alone in it
+-- the word is this set by bits, or has one number alone in it
 abbrev pub is_by_bits : ℕ → Bool
 is_by_bits set = nat_lt set (2 ^ 63)
 
@@ -13,7 +13,7 @@ unfoldable pub below : ℕ → List ℕ
 below zero = []
 below (suc n) = n ∷ below n
 
--- the numbers of the set: where it is told by bits, those below 63 whose bit is one
+-- the numbers of the set: if it is given by bits, those below 63 whose bit is one
 unfoldable pub numbers_of : ℕ → List ℕ
 numbers_of set =
     if is_by_bits set then filter (λ n. nat_eq (bit_at set n) 1) (below 63) else (set - 2 ^ 63) ∷ []
@@ -62,12 +62,12 @@ IsInOne products row = (at : ℕ) × IsInAt products at row
 abbrev pub AreApart : List Product → Type 0
 AreApart products = (i j : ℕ) (row : List ℕ) → IsInAt products i row → IsInAt products j row → i ≡ j
 
--- each of them has so many sets
+-- each of them has this number of sets
 abbrev pub HavePlaces : ℕ → List Product → Type 0
 HavePlaces places products =
     (at : ℕ) (product : Product) → slice_get products at ≡ Some product → length product.1 ≡ places
 
--- each set has what was there, and besides it no more than what is added at that place
+-- each set has its old numbers, and besides them no more than those that are added at that place
 abbrev pub Widens : List ℕ → List ℕ → List ℕ → Type 0
 Widens added old new = (place number : ℕ) → (Has (get_or old place 0) number → Has (get_or new place 0) number)
     × (Has (get_or new place 0) number → Has (get_or old place 0) number ⊎ Has (get_or added place 0) number)
@@ -102,7 +102,7 @@ IsLeft products place marks left =
 abbrev pub Family : Type 0
 Family = ℕ × List Product
 
--- each product with its sets, which are so many words each
+-- each product with its sets, each with n words
 abbrev pub laid_out : ℕ → List ℕ → List ℕ → List Product
 laid_out places [] words = []
 laid_out places (first ∷ firsts) words = (first, take places words) ∷ laid_out places firsts (drop places words)

@@ -1,4 +1,4 @@
--- Invariant: what is left of rows that have one number at a place
+-- Invariant: the rest of rows that have one number at a place
 use Rattle.std.specs.Prelude.{◌≡◌, ℕ, Bool, false, true, List, Some, get_or, slice_get}
 use Rattle.std.specs.List.{remove}
 use Rattle.products.specs.Products.{Has, IsInOne, Product}

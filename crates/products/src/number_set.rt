@@ -4,14 +4,13 @@ ghost use Rattle.products.specs.Products.{Has, numbers_of};
 
 use std::alloc::AllocError;
 
-/// The highest bit: a word below it tells its set by bits.
+/// The highest bit: a word below it is a set by bits.
 pub const HIGH: u64 = 1 << 63;
 
-// So many numbers are told by bits.
+// The numbers below this one are bits.
 const BITS: usize = 63;
 
-/// The set of this number alone. `AllocError` where it has more than 63 bits: there is no room for so many. Takes no memory, and
-/// constant time.
+/// The set of this number alone. `AllocError` if it has more than 63 bits. Takes no memory, and constant time.
 pub fn singleton(number: usize) -> Result<u64, AllocError>
     ensures { IfOk result (λ set. (n : ℕ) → Has set n ↔ (n ≡ number)) }
 {
@@ -48,7 +47,7 @@ pub fn intersection(set: u64, other: u64) -> u64
     }
 }
 
-// The same, where one of them has a number alone.
+// The same, if one of them has a number alone.
 #[inline(never)]
 fn intersection_with_singleton(set: u64, other: u64) -> u64
     ensures { (n : ℕ) → Has result n ↔ (Has set n × Has other n) }
@@ -68,7 +67,7 @@ fn intersection_with_singleton(set: u64, other: u64) -> u64
     }
 }
 
-/// What the first set has and the other one has not. Takes constant time.
+/// The numbers of the first set that the second does not have. Takes constant time.
 #[inline(always)]
 pub(crate) fn difference(set: u64, other: u64) -> u64
     ensures { (n : ℕ) → Has result n ↔ (Has set n × ¬ Has other n) }
@@ -80,7 +79,7 @@ pub(crate) fn difference(set: u64, other: u64) -> u64
     }
 }
 
-// The same, where one of them has a number alone.
+// The same, if one of them has a number alone.
 #[inline(never)]
 fn difference_with_singleton(set: u64, other: u64) -> u64
     ensures { (n : ℕ) → Has result n ↔ (Has set n × ¬ Has other n) }
@@ -103,7 +102,7 @@ fn difference_with_singleton(set: u64, other: u64) -> u64
     }
 }
 
-/// What one of the sets has or both have, if both are told by bits or they are the same. Takes constant time.
+/// The numbers of either set, if both are bits or they are the same. Takes constant time.
 #[inline(always)]
 pub fn union(set: u64, other: u64) -> Option<u64>
     ensures { IfSome result (λ both. (n : ℕ) → Has both n ↔ (Has set n ⊎ Has other n)) }

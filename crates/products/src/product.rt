@@ -10,9 +10,9 @@ use crate::number_set::{HIGH, intersection, size, union};
 pub enum Overlap {
     /// No row is in both.
     Apart,
-    /// Each of its rows is in the other one.
+    /// Each of its rows is in the second one.
     Inside,
-    /// Some are in the other one and some are not, or it is not known.
+    /// Some are in the second one and some are not, or it is not known.
     Across,
 }
 
@@ -39,7 +39,7 @@ pub fn overlap_of(sets: &[u64], others: &[u64]) -> Overlap
     Overlap::Inside
 }
 
-// The same, where a set of them has a number alone.
+// The same, if a set of them has a number alone.
 #[inline(never)]
 fn overlap_with_singleton(sets: &[u64], others: &[u64]) -> Overlap
     requires long { length sets.now ≡ length others.now }
@@ -92,7 +92,7 @@ pub fn joined_at(sets: &[u64], others: &[u64]) -> Option<(usize, u64)>
     }
 }
 
-/// How many rows the product has, or the greatest u64 where it has more.
+/// How many rows the product has, or the greatest u64 if it has more.
 #[inline(always)]
 pub fn rows_of(sets: &[u64]) -> u64
     ensures { result ≡ min (length (rows_of_sets sets.now)) (2 ^ 64 - 1) }

@@ -9,8 +9,8 @@ use std::alloc::{AllocError, Global};
 use std::marker::Model;
 use std::mem::swap;
 
-/// Products of sets of numbers: each has a first number, and a set of numbers for each place after it, and stands for each row
-/// with this first number and one of the set at each place. No row is in two of them.
+/// Products of sets of numbers. Each has a first number, and a set of numbers for each place after it. It stands for each row with this
+/// first number and one of the set at each place. No row is in two of them.
 pub struct Products {
     places: usize,
     rows: u64,
@@ -44,7 +44,7 @@ impl Drop for Products {
 }
 
 impl Products {
-    /// None, of rows with so many numbers after the first.
+    /// None, of rows with `places` numbers after the first.
     pub fn new(alloc: Global, places: usize) -> Products
         ensures { result ≡ (places, []) }
     {
@@ -56,7 +56,7 @@ impl Products {
         }
     }
 
-    /// Takes all out. Those to come are of rows with so many numbers after the first. Keeps all of the memory. Takes constant time.
+    /// Takes all out. Those to come are of rows with `places` numbers after the first. Keeps all of the memory. Takes constant time.
     pub fn restart(&mut self, places: usize)
         ensures { self.new ≡ (places, []) }
     {
@@ -80,7 +80,7 @@ impl Products {
         self.firsts.len()
     }
 
-    /// How many rows they stand for, no two of which are the same; the greatest u64 where they are more. It also says that no row
+    /// How many rows they stand for, no two of which are the same; the greatest u64 if they are more. It also says that no row
     /// is in two of the products, and that each has as many sets as there are places. Takes constant time.
     pub fn rows(&self) -> u64
         ensures rows { result ≡ min (length (rows_in self.now.1)) (2 ^ 64 - 1) }
@@ -124,8 +124,8 @@ impl Products {
         Ok(())
     }
 
-    // Puts the product, whose rows are not there, with the others: some product from this place on from which it differs at one
-    // place alone gets its rows, or else it is put behind all.
+    // Puts the product, whose rows are not there, with the others. A product from this place on gets its rows if it differs from it at one
+    // place alone; else the new one is put behind all.
     fn join_from(
         &mut self,
         growable_from: usize,
@@ -170,9 +170,8 @@ impl Products {
         self.rows = self.rows.saturating_add(rows_of(sets));
     }
 
-    /// Puts the product, whose rows are not there, with the others: a product from which it differs at one place alone gets its
-    /// rows, or else it is put behind all. `AllocError` where there is no memory for it: then who calls it drops them all. Takes
-    /// the time of the products.
+    /// Puts the product, whose rows are not there, with the others: a product from which it differs at one place alone gets its rows, or
+    /// else it is put behind all. `AllocError` if there is no memory for it: then the caller drops them all. Costs O(products).
     pub(crate) fn join(&mut self, first: usize, sets: &[u64]) -> Result<(), AllocError>
         requires long { length sets.now ≡ self.old.0 }
         requires apart { (row : List ℕ) → IsIn (first, sets.now) row → ¬ IsInOne self.old.1 row }
@@ -182,12 +181,11 @@ impl Products {
         self.join_from(0, first, sets)
     }
 
-    /// Puts the rows of the product with the others: products from this place on may get some of them, and more products may be
-    /// put behind all; those before the place stay as they are. The stack is memory to work in. `AllocError` where there is no
-    /// memory for it: then some of the rows may be there. Compares it with all products. Where it has rows of one of them and
-    /// others besides, it is cut into at most one piece for each set, and each piece is compared with those before and may be cut
-    /// again. Where a piece, or the product itself, differs from one of those that may get rows in one set alone, that one gets its
-    /// rows; else it is put behind all.
+    /// Puts the rows of the product with the others. Products from this place on may get some of them, and more products may be put behind
+    /// all; those before the place stay as they are. The stack is memory to work in. `AllocError` if there is no memory for it: then some
+    /// of the rows may be there. Compares it with all products. If it has rows of one of them and others besides, it is cut into at most
+    /// one piece for each set. Each piece is compared with those before and may be cut again. If a piece, or the product itself, differs
+    /// from one of those that may get rows in one set alone, that one gets its rows; else it is put behind all.
     pub fn put(
         &mut self,
         growable_from: usize,
@@ -205,8 +203,7 @@ impl Products {
         self.put_rest(len, growable_from, first, stack, 0)
     }
 
-    // The last product before this place that shares a row with the product, or may do so, and whether it is told to have all its
-    // rows.
+    // The last product before this place that shares a row with the product, or may do so, and whether it is known to have all its rows.
     #[inline(never)]
     fn last_overlapping(&self, end: usize, first: usize, sets: &[u64]) -> Option<(usize, bool)>
         requires within { end ≤ length self.now.1 }
@@ -262,9 +259,9 @@ impl Products {
         }
     }
 
-    // Puts what the product on top of the stack has besides the product at `at`, in pieces, one for each set: the piece has there
-    // the numbers that the other lacks, in the sets before it those that both have, and behind it all its own. It may share rows
-    // with products before `at` alone.
+    // Puts the rest of the product on top of the stack, without the product at `at`, in pieces, one for each set. At this set the piece has
+    // the numbers that the product at `at` lacks. In the sets before it the piece has the common numbers, and behind it all its own. It may
+    // share rows with products before `at` alone.
     #[cycle(putting)]
     fn put_pieces(
         &mut self,
@@ -296,8 +293,8 @@ impl Products {
         Ok(())
     }
 
-    /// Each row gets a zero behind it. `AllocError` where there is no memory for it, or where the rows would have more places than
-    /// a `usize` tells: then they are as they were. Takes the time of the products.
+    /// Each row gets a zero behind it. `AllocError` if there is no memory for it, or if the rows would have more places than a `usize` can
+    /// count: then they are as they were. Costs O(products).
     pub fn lengthen(&mut self, alloc: Global) -> Result<(), AllocError>
         ensures longer { OnOk result (self.new ≡ (self.old.0 + 1, map (λ product. (product.0, product.1 ++ 1 ∷ [])) self.old.1)) }
         ensures err { OnErr result (self.new ≡ self.old) }
@@ -366,7 +363,7 @@ fn push_piece(
     Ok(())
 }
 
-// What stands at this place of a piece.
+// The set at this place of a piece.
 #[inline(always)]
 fn set_of_piece(at: usize, place: usize, set: u64, other: u64, left: u64) -> u64
     ensures before { at < place → (number : ℕ) → Has result number ↔ (Has set number × Has other number) }

@@ -1,7 +1,7 @@
 //! Memory in which products are written before they are put.
 use std::alloc::Global;
 
-/// Sets of a product, and a stack of pieces of it. What stands in them is of no account.
+/// Sets of a product, and a stack of pieces of it. Their contents do not matter.
 #[derive(Drop)]
 pub struct Scratch {
     pub sets: Vec<u64>,

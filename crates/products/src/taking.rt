@@ -1,4 +1,4 @@
-//! What is left of rows whose number at a place is marked.
+//! The rest of rows whose number at a place is marked.
 ghost use Rattle.std.specs.Prelude.{◌≡◌, ◌↔◌, ◌<◌, ◌≤◌, ◌-◌, [], ℕ, List, IsTrue, true, false, IfSome, OnOk, length, get_or};
 ghost use Rattle.std.specs.List.{remove};
 ghost use Rattle.products.specs.Products.{Has, IsInOne, IsLeft};
@@ -12,7 +12,7 @@ use std::alloc::AllocError;
 
 /// Puts each row of the other products whose number at this place is marked, without that number, in place of the rows that were
 /// there. The place is that in the row, whose first number is at 0: so place 1 is that of the first set. The marks are those of the
-/// numbers, from 0 on; a number beyond them has none. The scratch is memory to work in. `AllocError` where there is no memory for
+/// numbers, from 0 on; a number beyond them has none. The scratch is memory to work in. `AllocError` if there is no memory for
 /// it: then some of the rows may be there. Compares each product that has a marked number with those that are left so far; where
 /// several numbers are marked, or one stands alone in its set, as [`Products::put`] does.
 pub fn take_marked(
@@ -34,7 +34,7 @@ pub fn take_marked(
     }
 }
 
-// The one marked number that the products have at this place, if it is the only one; none also where a set there has a number
+// The one marked number that the products have at this place, if it is the only one; none also if a set there has a number
 // alone.
 fn one_marked(other: &Products, place: usize, marks: &[bool]) -> Option<usize>
     requires after { 0 < place }
@@ -86,7 +86,7 @@ fn join_marked(
     Ok(())
 }
 
-// Puts each row whose number at the place is marked, without it, where it is not there.
+// Puts each row whose number at the place is marked, without it, if it is not there.
 fn put_marked(
     products: &mut Products,
     other: &Products,

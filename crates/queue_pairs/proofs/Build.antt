@@ -114,7 +114,7 @@ module _ (ms : List Mark) (well : AreWellFormed ms) (late : TwinsAreLate ms) (pa
     before_told : (a c : ℕ) (x : Passage) → IsTold x → Precedes ms a x.add.id → MayEnqueue ms c x.value → Precedes ms a c
     before_told a c x is p k = before_each ms well late a x.add.id c x.value is.may (told_not_late x is) p k
 
-    -- a value that is in and of which nobody was told: it stays, or goes out later
+    -- a value that is in and has no answered dequeue: it stays, or is dequeued later
     abbrev Stays : Passage → Type 0
     Stays x = (x.take ≡ None) × ((y : Passage) → Contains told y → in_from ms well y ≤ in_to ms well x)
 
@@ -229,7 +229,7 @@ module _ (ms : List Mark) (well : AreWellFormed ms) (late : TwinsAreLate ms) (pa
       passage_of : (x : Passage) → Kind x → IsPassage ms well x
       passage_of x k = ⊎_elim (λ t. t.1.passage) (λ h. h.passage) k
 
-      -- numbers of a value that goes out
+      -- numbers of a value that is dequeued
       from_some : (x : Passage) (t : Taken) → x.take ≡ Some t → out_from ms well x ≡ moment ms t.id
       from_some x t e = ap (moment_of ms) e
 
@@ -287,7 +287,7 @@ module _ (ms : List Mark) (well : AreWellFormed ms) (late : TwinsAreLate ms) (pa
           h.fate)
           k
 
-      -- of two values that one comes in first that does not go out last
+      -- the first of two values that is not dequeued last
       turn_told : (x y : Passage) → Kind x → Contains told y → IsTold y → in_to ms well x < in_from ms well y → out_to ms well y < out_from ms well x → ⊥
       turn_told x y k h is lt gt =
           let p : Precedes ms x.add.id y.add.id = precedes_if ms well x.add.id y.add.id (y.add.op, is.passage.invoked) lt in

@@ -27,7 +27,7 @@ first_of Q dec (x ∷ xs) = ⊎_elim
     (first_of Q dec xs))
     (dec x)
 
--- of two places in one list: what is before the second is before the first, or the first is before the second
+-- two places in one list: everything before the second is before the first, or the first is before the second
 pub compare : {X : Type 0} (b : List X) (y : X) (a c : List X) (x : X) (d : List X) → b ++ y ∷ a ≡ c ++ x ∷ d → ((z : X) → Contains c z → Contains b z) ⊎ Contains c y
 compare b y a [] x d e = inl (λ z h. absurd (Contains-nil z h))
 compare [] y a (w ∷ c) x d e = let h : y ≡ w = cc in inr (subst (Contains (w ∷ c)) (sym h) (Contains-head w c))
@@ -65,7 +65,7 @@ three (u ∷ b) y a (w ∷ c) x d e P same first second =
     (λ f. first (f.0, (λ i. sym h i ∷ f.1 i), f.2))
     (λ f. second (f.0, (λ i. h i ∷ f.1 i), f.2))
 
--- two lists as long as each other, each in front of an element in one list
+-- two lists as long as each other, each before an element in one list
 pub aligned : {X : Type 0} (xs ys : List X) (x y : X) (k l : List X) → length xs ≡ length ys → xs ++ x ∷ k ≡ ys ++ y ∷ l → x ≡ y
 aligned [] [] x y k l n e = cc
 aligned [] (z ∷ ys) x y k l n e = absurd (omega (arith, n))

@@ -26,7 +26,7 @@ module _ (ms : List Mark) (well : AreWellFormed ms) (late : TwinsAreLate ms) (or
   abbrev Differ : Taken → Taken → Type 0
   Differ x y = x.id ≢ y.id
 
-  -- what the order says of an operation before another
+  -- the facts about an operation before another in the order
   module _ (b m d : List Taken) (y x : Taken) (whole : b ++ y ∷ (m ++ x ∷ d) ≡ order) where
     behind : Contains (m ++ x ∷ d) x
     behind = Contains-append_right m (x ∷ d) x (Contains-head x d)

@@ -19,7 +19,7 @@ use Rattle.queue_pairs.proofs.Times.{moment, ended, ends_before, ended_within}
 use Rattle.queue_pairs.proofs.Turns.{MayLead}
 use Rattle.queue_pairs.proofs.Steps.{by_enqueue, by_dequeue, no_both}
 
--- a value that comes in, with its enqueue, and with its dequeue where it goes out
+-- a value that is enqueued, with its enqueue, and with its dequeue if it is dequeued
 pub record Passage : Type 0 where
   pub value : ℤ
   pub add : Taken
@@ -34,7 +34,7 @@ ended_of ms None = suc (length ms)
 ended_of ms (Some t) = ended ms t.id
 
 module _ (ms : List Mark) (well : AreWellFormed ms) where
-  -- when the value comes in, from and to, and when it goes out; behind all else where it stays
+  -- when the value is enqueued, from and to, and when it is dequeued; behind all else if it stays
   abbrev pub in_from : Passage → ℕ
   in_from x = moment ms x.add.id
 
@@ -85,7 +85,7 @@ module _ (ms : List Mark) (well : AreWellFormed ms) where
   out_to_some : (x : Passage) (t : Taken) → x.take ≡ Some t → out_to x ≡ ended ms t.id
   out_to_some x t e = ap (ended_of ms) e
 
-  -- an enqueue is no dequeue
+  -- an enqueue is not a dequeue
   add_no_take : (x y : Passage) (t : Taken) → IsPassage x → IsPassage y → y.take ≡ Some t → x.add.id ≢ t.id
   add_no_take x y t p q e s =
       let k = q.taken t e in
@@ -227,7 +227,7 @@ module _ (ms : List Mark) (well : AreWellFormed ms) where
   take_or_not None = inr refl
   take_or_not (Some t) = inl (t, refl)
 
-  -- behind a value that stays no other goes out
+  -- no value behind one that stays is dequeued
   none_after : (h : Passage) (q : List Passage) → h.take ≡ None → Pairwise Leads (h ∷ q) → (x : Passage) (z : Taken) → Contains (h ∷ q) x → x.take ≡ Some z → ⊥
   none_after h q none leads x z k e = ⊎_elim
       (λ (s : h ≡ x). (let f : None ≡ Some z = sym none ∙ ap (λ (w : Passage). w.take) s ∙ e in cc))

@@ -1,4 +1,4 @@
--- what an event that is no ok asks for
+-- the conditions of an event other than an ok
 use Rattle.std.proofs.Common.{◌≡◌, ◌≢◌, ◌↔◌, ℕ, ℤ, ◌⊎◌, inl, inr, ⊎_elim, List, [], ◌∷◌, ◌++◌, refl, sym, ap, ◌∙◌, subst, append_assoc}
 use Rattle.std.specs.List.{Contains}
 use Rattle.std.proofs.lemmas.Bool.{cases_eq}
@@ -92,7 +92,7 @@ module _ (ms : List Mark) (m : Mark) (well : AreWellFormed (ms ++ m ∷ [])) (no
   may_is : (n : ℕ) (v : ℤ) → m ≢ Failed n → MayEnqueue ms n v → MayEnqueue longer n v
   may_is n v nf a = (enqueue_is n v a.0, (λ f. ⊎_elim a.1 nf (Contains-push_cases ms m _ f)))
 
-  -- what was dequeued has its enqueue before
+  -- a dequeued value has its enqueue before
   added_was : IsPaired longer → (d : ℕ) (v : ℤ) → HasDequeued ms d v → (a : ℕ) × MayEnqueue longer a v × MayEnqueue ms a v × (¬ Precedes ms d a)
   added_was paired d v h =
       let a = paired.added d v (told_is d v h) in

@@ -1,4 +1,4 @@
--- values in turn: each comes in and goes out in an interval of its own, and of any two some order fits both
+-- values in turn: each is enqueued and dequeued in an interval of its own, and for any two some order fits both
 use Rattle.std.proofs.Common.{◌≡◌, ℕ, zero, suc, ◌≤◌, ◌<◌, min, ◌⊎◌, inl, inr, ⊎_elim, List, [], ◌∷◌, ◌++◌, length, sym, ap, ◌∙◌, subst, arith, length-append}
 use Rattle.std.specs.List.{Contains}
 use Rattle.std.proofs.lemmas.Bool.{cases_lt}
@@ -16,15 +16,15 @@ lowest f x (w ∷ xs) =
     (λ not_small. (r.0, Contains-tail x (w ∷ xs) r.0 r.1, λ z h. ⊎_elim (λ e. subst (λ q. f r.0 ≤ f q) e (omega arith)) (λ k. r.2 z k) (Contains-cons_cases x (w ∷ xs) z h)))
     (cases_lt (f x) (f r.0))
 
--- x comes in from a to b, and goes out from c to d
+-- x is enqueued from a to b, and dequeued from c to d
 module _ {X : Type 0} (a b c d : X → ℕ) where
-  -- x may come in before y does, and go out before y does
+  -- x may be enqueued before y, and dequeued before y
   pub record MayLead (x y : X) : Type 0 where
     pub in_first : a x ≤ b y
     pub in_first_out : a x ≤ d y
     pub out_first : c x ≤ d y
 
-  -- each may lead itself, and none that has to come in first has to go out last
+  -- each may lead itself, and no value that has to be enqueued first has to be dequeued last
   pub record AreFair (xs : List X) : Type 0 where
     pub own : (x : X) → Contains xs x → MayLead x x
     pub turn : (x y : X) → Contains xs x → Contains xs y → b x < a y → d y < c x → ⊥
@@ -101,7 +101,7 @@ module _ {X : Type 0} (a b c d : X → ℕ) where
       shorter : length (ys ++ y ∷ zs) ≡ suc (length (ys ++ zs))
       shorter = let e = length-append ys (y ∷ zs) in let f = length-append ys zs in omega (arith, e, f)
 
-    -- one that may lead all, and in front of the others in turn
+    -- one that may lead all, and comes before the others in turn
     module _ (xs ys zs : List X) (y : X) (whole : xs ≡ ys ++ y ∷ zs) where
       from_rest : (z : X) → Contains (ys ++ zs) z → Contains xs z
       from_rest z h = subst (λ l. Contains l z) (sym whole) (within ys zs y z h)

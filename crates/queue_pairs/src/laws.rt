@@ -13,9 +13,9 @@ ghost use Rattle.linspec.specs.Ends.{IsWithinBudgetBy};
 ghost use Rattle.linspec.specs.Verdicts.{EndsShortestBadFront};
 ghost use Rattle.queue_pairs.specs.Pairs.{Enqueues, IsEnqueueOf, Dequeues, IsPaired, HasTwins, TwinsAreLate, TwinsAreAlwaysLate, CountsTwins, MayTake, MayFail};
 
-/// A history of a queue whose values differ is linearizable exactly if it is paired: what was dequeued was enqueued in time, once and in
-/// turn, and what was passed over has a taker. So is the history of one key. An enqueue of a value that is there already may stand in it,
-/// as long as no ok came after it.
+/// A history of a queue whose values differ is linearizable exactly if it is paired. Then each dequeued value was enqueued in time, once
+/// and in turn, and each value that was passed over has a taker. So is the history of one key. An enqueue of a value that is there already
+/// may stand in it, as long as no ok came after it.
 pub fn pairs_law()
     ensures linearizable { (marks : List Mark) → AreWellFormed marks → TwinsAreLate marks
         → IsLinearizable fifo_queue marks → IsPaired marks }
@@ -63,7 +63,7 @@ pub fn other_events_law()
         → IsPaired (marks ++ Failed id ∷ []) ↔ (IsPaired marks × MayFail marks id) }
 {}
 
-/// Twins are late where there are none, and stay late at each event that is no ok. An ok makes no twins.
+/// Twins are late where there are none, and stay late at each event other than an ok. An ok makes no twins.
 pub fn twins_law()
     ensures none { (marks : List Mark) → (¬ HasTwins marks) → TwinsAreLate marks }
     ensures stay { (marks : List Mark) (m : Mark) → AreWellFormed (marks ++ m ∷ [])

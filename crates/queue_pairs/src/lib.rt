@@ -1,4 +1,4 @@
-//! Laws of queues whose values differ: what was answered, and when, decides whether a history of a queue is linearizable. No order has to
+//! Laws of queues whose values differ: the answers, and their moments, decide whether a history of a queue is linearizable. No order has to
 //! be tried. They say so of a whole history, of each event that it may get, and of the event at which it becomes illegal.
 #![tactic(auto)]
 

@@ -152,7 +152,7 @@ fn print_opened<R: Wait + Print>(rt: &R, alloc: Global) -> io::Result<Option<Ref
     }
 }
 
-/// Opens a board, at the second try where the first wanted memory, and makes its calls.
+/// Opens a board, at the second try if the first ran out of memory, and makes its calls.
 pub fn print_board_calls<R: Wait + Print>(rt: &R, alloc: Global) -> io::Result<()> {
     let refused = match print_opened(rt, alloc)? {
         Some(Refusal::NoMemory) => {

@@ -1,4 +1,4 @@
-//! Calls in turn, each once more where it wanted memory.
+//! Calls in turn, each once more if it ran out of memory.
 
 use crate::said::{Said, Seen};
 use edn::Refusal;
@@ -6,10 +6,10 @@ use std::io;
 
 /// What is called.
 pub trait Subject {
-    /// Makes the call of this number, from 0 on: what it answers, or none where there is no such call.
+    /// Makes the call of this number, from 0 on: its answer, or none if there is no such call.
     fn call(&mut self, number: u32) -> Option<Result<Said, Refusal>>;
 
-    /// What is seen of it.
+    /// Its visible state.
     fn seen(&mut self) -> Seen;
 }
 
@@ -42,7 +42,7 @@ pub fn print_each<S: Subject, R: Print>(rt: &R, subject: &mut S) -> io::Result<(
     Ok(())
 }
 
-// What the call of this number answers, at the second try where the first wanted memory.
+// The answer of the call of this number, at the second try if the first ran out of memory.
 fn answer_of<S: Subject, R: Print>(
     rt: &R,
     subject: &mut S,

@@ -45,7 +45,7 @@ pub const BUDGETS: &[Step] = &[
     Step::Report,
 ];
 
-/// A blown key beside an illegal one, of which a rewind takes the latter away.
+/// One key is over budget and another is illegal. A rewind removes the illegal one.
 pub const REWINDS: &[Step] = &[
     Step::Model(1, ModelKind::FifoQueue),
     Step::Budget(1, 5),
@@ -97,7 +97,7 @@ impl Judged {
         })
     }
 
-    // What a step comes to: a verdict, or for a report the length of the text.
+    // The result of a step: a verdict, or for a report the length of the text.
     fn take(&mut self, step: Step) -> Result<Said, Refusal> {
         let verdict = match step {
             Step::Invoke(process, key, name, value) => {

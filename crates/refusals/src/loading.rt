@@ -18,7 +18,7 @@ fn event(kind: EventKind, key: Key, name: Name, part: Part) -> Event {
     }
 }
 
-// Of key 0 the read is right, and of key 1 it is not.
+// The read of key 0 is right, and that of key 1 is not.
 fn history_of(alloc: Global) -> Result<History, Refusal> {
     let mut history = History::new(alloc, 2)?;
     for key in 0..2 {

@@ -1,6 +1,6 @@
-//! Calls that are made one by one, each once more where it wanted memory: for runs in which each allocation is refused in turn
-//! (`tests/refused.py`). A line for each call tells what was answered and what is seen then; a call that wanted memory has a line
-//! before that, `no memory` where all is seen as before and `changed` where it is not.
+//! Calls that are made one by one, each once more if it ran out of memory: for runs in which each allocation is refused in turn
+//! (`tests/refused.py`). A line for each call has the answer and the visible state then. A call that ran out of memory has a line before
+//! that, `no memory` if the visible state is as before and `changed` if it is not.
 #![tactic(auto)]
 
 mod board_calls;
@@ -36,7 +36,7 @@ refusals board: a board of one seat, with each command
 refusals load: a history that is loaded by two workers
 refusals trial: a run of two clients and the nemesis";
 
-// What a call answers, at the second try where the first wanted memory.
+// The answer of a call, at the second try if the first ran out of memory.
 macro_rules! twice {
     ($rt:ident, $call:expr) => {
         match $call {

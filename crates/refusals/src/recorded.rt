@@ -68,7 +68,7 @@ impl Recorded {
         Ok(Said::Number(events.len() as u64))
     }
 
-    // Keeps so many events.
+    // Keeps the first `kept` events.
     fn cut(&mut self, kept: u32) -> Result<Said, Refusal> {
         self.history.cut(kept)?;
         Ok(Said::Number(u64::from(self.history.len())))

@@ -1,4 +1,4 @@
-//! What is answered and seen, as plain data.
+//! Answers and visible states as plain data.
 
 use harness::Reply;
 use linspec::Verdict;
@@ -23,7 +23,7 @@ pub enum Said {
     Other,
 }
 
-/// What is seen of a subject.
+/// The visible state of a subject.
 #[derive(Clone, Copy, PartialEq, Eq)]
 pub struct Seen {
     pub verdict: Said,

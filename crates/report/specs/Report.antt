@@ -1,4 +1,4 @@
--- Promise: the text of what is known of a history of many keys (this project's own)
+-- Promise: the text of the statuses in a history of many keys (this project's own)
 use Rattle.std.specs.Prelude.{◌≡◌, ℕ, List, [], ◌∷◌, ◌++◌, length, map}
 use Rattle.std.specs.List.{All}
 use Rattle.linspec.specs.declared.verdict.KeyStatus.{KeyStatus}
@@ -13,7 +13,7 @@ use Rattle.report.specs.VerdictLine.{verdict_line}
 abbrev pub line_in : JudgedHistory → ℕ × KeyStatus → List ℕ
 line_in h row = key_line row.0 (kind_of h row.0) (budget_of h row.0) (length (history_of_key h row.0).events) row.1
 
--- the lines of these keys, each of which stands so
+-- the lines of these keys with these statuses
 abbrev pub lines_in : JudgedHistory → List (ℕ × KeyStatus) → List ℕ
 lines_in h [] = []
 lines_in h (row ∷ rows) = line_in h row ++ lines_in h rows
@@ -29,8 +29,8 @@ pub record IsRows (h : JudgedHistory) (keys : List ℕ) (text : List ℕ) : Type
   pub stand : Stand h rows
   pub text_is : text ≡ lines_in h rows
 
--- a line for each key that has events, in the order of their first events, and the line of the verdict from scratch, which
--- joins how the keys of the lines above it stand
+-- a line for each key that has events, in the order of their first events, and the line of the verdict from scratch, which joins the
+-- statuses of the lines above it
 pub record IsReport (h : JudgedHistory) (text : List ℕ) : Type 0 where
   pub lines : List ℕ
   pub rows : IsRows h (keys_in_order h.events) lines

@@ -1,8 +1,8 @@
-//! What a monitor knows, as text: a line for each key that has events, and the line of the verdict.
+//! The statuses of a monitor as text: a line for each key that has events, and the line of the verdict.
 //!
 //! `script` answers by the line of the verdict alone; a check and a run write a whole report, whose last line it is.
 //!
-//! A call takes memory only where its result can be `AllocError`, or a refusal for want of memory.
+//! A call allocates only if its result can be `AllocError`, or a refusal because memory ran out.
 #![tactic(auto)]
 
 mod key_line;

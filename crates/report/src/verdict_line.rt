@@ -20,7 +20,7 @@ pub fn verdict_text(alloc: Global, verdict: &Verdict) -> Result<String, AllocErr
 ///
 /// # Errors
 ///
-/// `AllocError` where memory is refused, and then the reply is as it was.
+/// `AllocError` if memory is refused, and then the reply is as it was.
 pub fn append_verdict(
     alloc: Global,
     reply: &mut Vec<u8>,

@@ -12,14 +12,14 @@ use monitor::Monitor;
 use monitor::joined::verdict_joins_law;
 use std::alloc::{AllocError, Global};
 
-/// Appends a line for each key that has events, in the order of their first events, and the line of the verdict, which is
-/// the one from scratch: that of the key that was dead first, else of the one that was first over its budget, else legal.
+/// Appends a line for each key that has events, in the order of their first events, and the line of the verdict. This verdict is the one
+/// from scratch: that of the key that was dead first, else of the one that was first over its budget, else legal.
 ///
-/// It takes the time of the keys, and at most the memory of the text twice.
+/// It costs O(keys), and at most the memory of the text twice.
 ///
 /// # Errors
 ///
-/// `AllocError` where memory is refused, and then the bytes are as they were.
+/// `AllocError` if memory is refused, and then the bytes are as they were.
 pub fn report(alloc: Global, monitor: &Monitor, bytes: &mut Vec<u8>) -> Result<(), AllocError>
     ensures ok { OnOk result ((text : List ℕ) × IsReport monitor.now.now text
         × (bytes.new.items ≡ bytes.old.items ++ text)) }

@@ -25,7 +25,7 @@ hash_at lists hashes at list is e =
     ∙ get_or-map list_hash lists at list 0 (slice_get_within lists at list e)
     ∙ ap list_hash (get_or_from_slice_get lists at list list e)
 
--- the first of what is indexed
+-- the first indexed things
 front : (buckets last before : List ℕ) (n : ℕ) → IsIndex buckets last before → length before ≤ n → IsIndex (take n buckets) last before
 front buckets last before n index le = grind (arith, common_steps)
 

@@ -72,7 +72,7 @@ listed_more bits long ws are apart i w here row is old new put so_far =
     p.1 ∙ (λ j. so_far j ++ is j ∷ []) ∙ sym (map_push (digits (2 ^ bits) long) (take i ws) w) ∙ ap (map (digits (2 ^ bits) long)) (sym (taken_more ws i w here)))
     put
 
--- what a set of rows shows, and its numbers below the base
+-- the rows that a set of rows shows, and its numbers below the base
 pub shows_words : (wide : Bool) (bits long : ℕ) (words : List ℕ) (lists : List (List ℕ)) → wide ≡ false → rows_in wide bits long words lists ≡ map (digits (2 ^ bits) long) words
 shows_words wide bits long words lists e = ap (λ b. rows_in b bits long words lists) e
 

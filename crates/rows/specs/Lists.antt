@@ -8,7 +8,7 @@ use Rattle.buckets.specs.Index.{Indexes, hash_bucket}
 abbrev pub items_of : Vec ℕ Global → List ℕ
 items_of row = row.items
 
--- the hash of a list, by what its numbers feed
+-- the hash of a list, from the numbers that it feeds
 abbrev pub list_hash : List ℕ → ℕ
 list_hash list = hash_by (fed.slice fed.usize) list
 
@@ -17,7 +17,7 @@ pub record AreLists (lists : List (List ℕ)) (hashes last before : List ℕ) : 
   pub hashed : hashes ≡ map list_hash lists
   pub index : Indexes hash_bucket hashes last before
 
--- the lists in the box, and none where there is no box
+-- the lists in the box, and none if there is no box
 abbrev pub lists_in : Option (Box (List (List ℕ))) → List (List ℕ)
 lists_in None = []
 lists_in (Some kept) = kept.value

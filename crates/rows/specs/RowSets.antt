@@ -1,4 +1,4 @@
--- Promise: what it is to put a thing with others, each of which is there once
+-- Promise: how a thing is put with others, each of which is there once
 use Rattle.std.specs.Prelude.{◌≡◌, ◌⊎◌, ℕ, zero, suc, Bool, true, false, Option, Some, None, List, [], ◌∷◌, ◌++◌, get_or, slice_get}
 use Rattle.std.specs.List.{Contains, remove}
 
@@ -15,7 +15,7 @@ mark_of marks (Some number) = get_or marks number false
 abbrev pub is_marked : ℕ → List Bool → List ℕ → Bool
 is_marked place marks row = mark_of marks (slice_get row place)
 
--- it is put with the others, if so it is told, and else they stay
+-- it is put with the others if the flag is true, and else they stay
 abbrev pub IsPutIf : {X : Type 0} → Bool → X → List X → List X → Type 0
 IsPutIf true thing old new = IsPut thing old new
 IsPutIf false thing old new = new ≡ old

@@ -2,7 +2,7 @@
 use Rattle.std.specs.Prelude.{◌≡◌, ℕ, zero, suc, ◌+◌, ◌*◌, ◌^◌, ◌/◌, ◌%◌, ◌≤◌, ◌<◌, ◌-◌, Bool, true, false, List, [], ◌∷◌, map, length, get_or}
 use Rattle.std.specs.List.{Contains}
 
--- so many digits of the word, the lowest first
+-- the first n digits of the word, the lowest first
 abbrev pub digits : ℕ → ℕ → ℕ → List ℕ
 digits base zero word = []
 digits base (suc n) word = (word % base) ∷ digits base n (word / base)
@@ -16,7 +16,7 @@ value base (d ∷ ds) = d + base * value base ds
 abbrev pub IsWordOf : ℕ → List ℕ → ℕ → Type 0
 IsWordOf base row word = (value base row ≡ word) × (digits base (length row) word ≡ row)
 
--- the rows, which are lists if so it is told, and else words
+-- the rows, which are lists if the flag is true, and else words
 abbrev pub rows_in : Bool → ℕ → ℕ → List ℕ → List (List ℕ) → List (List ℕ)
 rows_in true bits long words lists = lists
 rows_in false bits long words lists = map (digits (2 ^ bits) long) words
@@ -27,19 +27,19 @@ pub record ArePacked (bits long : ℕ) (words : List ℕ) : Type 0 where
   pub room : bits * long ≤ 128
   pub exact : (w : ℕ) → Contains words w → value (2 ^ bits) (digits (2 ^ bits) long w) ≡ w
 
--- the row, which is a word of so many numbers, and other numbers where that has none
+-- the row, which is a word of n numbers, and other numbers if that has none
 abbrev pub row_in : ℕ → ℕ → ℕ → List ℕ → List ℕ
 row_in zero bits word other = other
 row_in (suc n) bits word other = digits (2 ^ bits) (suc n) word
 
--- a row of so many numbers has room in half a word, of which this is the largest
+-- a row of `long` numbers has room in half a word, whose greatest number this is
 pub record IsHalf (bits long largest : ℕ) : Type 0 where
   pub few : bits ≤ 32
   pub some : 0 < bits
   pub room : bits * long ≤ 64
   pub most : largest ≡ 2 ^ bits - 1
 
--- a row of so many numbers has room in a whole word
+-- a row of `long` numbers has room in a whole word
 pub record IsWhole (bits long : ℕ) : Type 0 where
   pub few : bits ≤ 32
   pub room : bits * long ≤ 128

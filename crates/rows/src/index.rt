@@ -19,7 +19,7 @@ fn has_word(words: &[u128], index: &Index, bucket: usize, word: u128) -> bool
     find(words, index, bucket, |at| words[at] == word).is_some()
 }
 
-// Puts the word behind the others, which are all indexed, where there may be no room: it is in this bucket, and is not there.
+// Puts the word behind the others, which are all indexed, if there is room: it is in this bucket, and is not there yet.
 #[inline(never)]
 fn put_with_room(
     words: &mut Vec<u128>,
@@ -42,8 +42,8 @@ fn put_with_room(
     Ok(())
 }
 
-/// Puts the word with the others, which are all indexed, if it is not there. `AllocError` where memory was refused: then the
-/// words are as they were. Takes the time of the words of one bucket.
+/// Puts the word with the others, which are all indexed, if it is not there. `AllocError` if memory was refused: then the words are as
+/// they were. Costs O(words of one bucket).
 #[inline(never)]
 pub fn put_indexed(words: &mut Vec<u128>, index: &mut Index, word: u128) -> Result<(), AllocError>
     requires index { Indexes word_bucket words.old.items index.old.last.items index.old.before.items }

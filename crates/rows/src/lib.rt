@@ -1,11 +1,11 @@
 //! Rows of numbers, each once.
 //!
-//! While its numbers are small, a row is one word of 128 bits with as many bits for each number, at first so few that it fills half
-//! of the word. The first larger number gives all rows the whole word; rows that grow longer are made anew, with fewer bits for
-//! each number; where one row fits no word, all become lists, found by an index of their hashes. Words stand in a list, are put behind it and taken from its end, and
-//! are found by an index of `buckets`. A copied set leaves its index behind, and makes it at the next put.
+//! While its numbers are small, a row is one word of 128 bits with as many bits for each number, at first so few that it fills half of the
+//! word. The first larger number gives all rows the whole word. Rows that grow longer are written again, with fewer bits for each number.
+//! If one row fits no word, all become lists, found by an index of their hashes. Words stand in a list, are put behind it and taken from
+//! its end, and are found by an index of `buckets`. A copied set leaves its index behind, and makes it at the next put.
 //!
-//! A call takes memory only where its result can be `AllocError`, or a refusal for want of memory.
+//! A call allocates only if its result can be `AllocError`, or a refusal because memory ran out.
 #![tactic(auto)]
 
 mod index;

@@ -7,8 +7,8 @@ use crate::lists::Lists;
 use std::alloc::{AllocError, Global};
 use std::marker::Model;
 
-/// Lists of numbers, none twice, in the order in which they were put. They stand in a box, which is made when one is put: where
-/// there are none, as where rows are words, next to no room is taken.
+/// Lists of numbers, none twice, in the order in which they were put. They are in a box, which is made when one is put: without lists, as
+/// when rows are words, it takes next to no room.
 #[derive(Drop)]
 pub struct ListSet {
     kept: Option<Box<Lists>>,
@@ -64,7 +64,7 @@ impl ListSet {
         lists.get(at)
     }
 
-    /// The number at this place of the list that stands here, and zero where there is none. Takes constant time.
+    /// The number at this place of the list that stands here, and zero if there is none. Takes constant time.
     #[inline(never)]
     pub fn number(&self, at: usize, place: usize) -> usize
         ensures { result ≡ get_or (get_or self.now at []) place 0 }
@@ -78,7 +78,7 @@ impl ListSet {
         }
     }
 
-    /// How many numbers the list that stands here has, and zero where there is none. Takes constant time.
+    /// How many numbers the list that stands here has, and zero if there is none. Takes constant time.
     pub fn long_at(&self, at: usize) -> usize
         ensures { result ≡ length (get_or self.now at []) }
     {
@@ -88,8 +88,8 @@ impl ListSet {
         }
     }
 
-    /// Puts the list with the others, if it is not there. `AllocError` where memory was refused, or where there are too many lists
-    /// for places of 32 bits: then the lists are as they were. Takes the time of its numbers, and looks it up by its hash.
+    /// Puts the list with the others, if it is not there. `AllocError` if memory was refused, or if there are too many lists for
+    /// places of 32 bits: then the lists are as they were. Costs O(its numbers), and looks it up by its hash.
     #[inline(never)]
     pub fn put(&mut self, alloc: Global, list: Vec<usize>) -> Result<(), AllocError>
         ensures put { OnOk result (IsPut list.items self.old self.new) }
@@ -101,7 +101,7 @@ impl ListSet {
         outcome
     }
 
-    /// Leaves so many lists, the first ones. Takes at most the time of the lists.
+    /// Keeps the first `len` lists. Costs at most O(lists).
     #[inline(never)]
     pub fn truncate(&mut self, len: usize)
         ensures { self.new ≡ take len self.old }
@@ -113,7 +113,7 @@ impl ListSet {
         self.kept = Some(lists);
     }
 
-    /// The same lists, with memory of their own. Takes the time of all their numbers.
+    /// The same lists, with memory of their own. Costs O(all their numbers).
     #[inline(never)]
     pub fn copied(&self, alloc: Global) -> Result<ListSet, AllocError>
         ensures { IfOk result (λ lists. lists ≡ self.now) }

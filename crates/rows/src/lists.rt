@@ -127,9 +127,9 @@ impl Lists {
         }
     }
 
-    /// Puts the list with the others, if it is not there. `AllocError` where memory was refused, or where there are too many lists
-    /// for places of 32 bits: then the lists are as they were. Takes the time of its hash, and of comparing it with the lists of the
-    /// same hash; where there are as many lists as buckets, all are indexed anew.
+    /// Puts the list with the others, if it is not there. `AllocError` if memory was refused, or if there are too many lists for
+    /// places of 32 bits: then the lists are as they were. Costs its hash, and a comparison with the lists of the same hash. If there are
+    /// as many lists as buckets, all are indexed again.
     pub(crate) fn put(&mut self, list: Vec<usize>) -> Result<(), AllocError>
         ensures put { OnOk result (IsPut list.items self.old self.new) }
         ensures err { OnErr result (self.new ≡ self.old) }
@@ -149,7 +149,7 @@ impl Lists {
         )
     }
 
-    /// Leaves so many lists, the first ones. Where lists go that are indexed, all are indexed anew when one is put.
+    /// Keeps the first `len` lists. If it removes indexed lists, the next put indexes all again.
     pub(crate) fn truncate(&mut self, len: usize)
         ensures { self.new ≡ take len self.old }
     {
@@ -160,7 +160,7 @@ impl Lists {
         self.items.truncate(len);
     }
 
-    /// The same lists, with memory of their own. They are indexed when one is put. Takes the time of all their numbers.
+    /// The same lists, with memory of their own. They are indexed when one is put. Costs O(all their numbers).
     pub(crate) fn copied(&self, alloc: Global) -> Result<Lists, AllocError>
         ensures { IfOk result (λ lists. lists ≡ self.now) }
     {

@@ -6,8 +6,7 @@ use crate::words::{first_of, has_zero_in_whole};
 use std::alloc::{AllocError, Global};
 use std::marker::Model;
 
-/// A row of numbers that stand in a whole word; where none stand there, each has a place in a list,
-/// whose memory is kept for the next one.
+/// A row of numbers that stand in a whole word; where none stand there, each has a place in a list, whose memory is kept for the next one.
 #[derive(Drop)]
 pub struct LongRow {
     long: usize,
@@ -40,7 +39,7 @@ impl LongRow {
         }
     }
 
-    /// The numbers of the word, so many, each of so many bits, in place of those that were there. Takes constant time.
+    /// Sets the numbers to the `long` numbers of the word, each of `bits` bits. Takes constant time.
     #[inline(always)]
     pub fn set_word(&mut self, word: u128, bits: u32, long: usize)
         requires few { bits ≤ 32 }
@@ -53,7 +52,7 @@ impl LongRow {
         self.word = word;
     }
 
-    /// These numbers, in place of those that were there. Takes the time of the numbers.
+    /// These numbers, in place of those that were there. Costs O(numbers).
     #[inline(never)]
     pub fn set_list(&mut self, list: &[usize]) -> Result<(), AllocError>
         ensures { OnOk result (self.new ≡ list.now) }
@@ -64,7 +63,7 @@ impl LongRow {
         Ok(())
     }
 
-    /// Its first number, and zero where there is none. Takes constant time.
+    /// Its first number, and zero if there is none. Takes constant time.
     #[inline(always)]
     pub fn first(&self) -> usize
         ensures { result ≡ get_or self.now 0 0 }
@@ -90,7 +89,7 @@ impl LongRow {
     }
 }
 
-// The first number of the list, and zero where there is none.
+// The first number of the list, and zero if there is none.
 #[inline(never)]
 fn first_in_list(list: &[usize]) -> usize
     ensures { result ≡ get_or list.now 0 0 }

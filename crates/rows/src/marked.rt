@@ -18,7 +18,7 @@ pub(crate) fn has_mark(marks: &[bool], number: usize) -> bool
 }
 
 /// Puts the row of each of the other words whose number at this place is marked, without that number, if it is not there.
-/// `AllocError` where memory was refused: then some of them are put.
+/// `AllocError` if memory was refused: then some of them are put.
 pub(crate) fn put_marked_words(
     words: &mut WordSet,
     others: &WordSet,

@@ -7,9 +7,8 @@ use crate::words::{first_in_half, has_zero_in_half, largest_of};
 use std::alloc::{AllocError, Global};
 use std::marker::Model;
 
-/// A row of numbers that was read from where it stands. Where it was half a word or a whole one, it
-/// is looked at there; else each of its numbers has a place in a list, whose memory is kept for the
-/// next one.
+/// A row of numbers that was read from where it stands. If it was half a word or a whole one, it is read there. Else each of its numbers
+/// has a place in a list, whose memory is kept for the next one.
 pub struct Row {
     long: usize,
     bits: u32,
@@ -56,7 +55,7 @@ impl Row {
         }
     }
 
-    /// The numbers of the word, so many, each of so many bits, in place of those that were there. Takes constant time.
+    /// Sets the numbers to the `long` numbers of the word, each of `bits` bits. Takes constant time.
     #[inline(always)]
     pub fn set_word(&mut self, word: u128, bits: u32, long: usize)
         requires few { bits ≤ 32 }
@@ -77,7 +76,7 @@ impl Row {
         }
     }
 
-    /// These numbers, in place of those that were there. Takes the time of the numbers.
+    /// These numbers, in place of those that were there. Costs O(numbers).
     #[inline(never)]
     pub fn set_list(&mut self, list: &[usize]) -> Result<(), AllocError>
         ensures { OnOk result (self.new ≡ list.now) }
@@ -86,7 +85,7 @@ impl Row {
         self.longer.set_list(list)
     }
 
-    /// Its first number, and zero where there is none. Takes constant time.
+    /// Its first number, and zero if there is none. Takes constant time.
     #[inline(always)]
     pub fn first(&self) -> usize
         ensures { result ≡ get_or self.now 0 0 }

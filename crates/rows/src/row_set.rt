@@ -13,15 +13,15 @@ use std::alloc::{AllocError, Global};
 use std::marker::Model;
 use std::mem::swap;
 
-/// Rows of numbers, none twice, in the order in which they were put. As long as they are of the expected length and
-/// their numbers small, each is one word, of which at first half is used; else each is a list of its own.
+/// Rows of numbers, none twice, in the order in which they were put. As long as they have the expected length and small numbers, each is
+/// one word, at first half of it; else each is a list of its own.
 pub struct RowSet {
     alloc: Global,
     /// How many numbers a row has that is a word.
     long: usize,
-    /// How many bits each number of a word has; zero where a row has too many numbers for a word.
+    /// How many bits each number of a word has; zero if a row has too many numbers for a word.
     bits: u32,
-    /// Whether the words were made anew with as many bits as a whole word allows.
+    /// Whether the words were written again with as many bits as a whole word allows.
     whole: bool,
     /// Whether some row fits no word, so that all rows are lists.
     wide: bool,
@@ -55,9 +55,9 @@ impl Drop for RowSet {
     }
 }
 
-// How many bits each number of a row gets, where a row has so many numbers: the bits of a whole word, or of half a word, shared out
-// among them and two more, so that rows can grow. No number gets more than 32 bits of a whole word, or 10 of half a word. A row of
-// more than 30 numbers gets the whole word. One of more than 126 gets no bits, since it is a list.
+// The bits of each number of a row with `long` numbers. They are the bits of a whole word, or of half a word, shared out among the numbers
+// and two more, so that rows can grow. No number gets more than 32 bits of a whole word, or 10 of half a word. A row of more than 30
+// numbers gets the whole word. One of more than 126 gets no bits, since it is a list.
 fn bits_for(long: usize, whole: bool) -> u32
     ensures few { result ≤ 32 }
     ensures room { result * long ≤ 128 }
@@ -119,7 +119,7 @@ fn listed(alloc: Global, words: &WordSet, bits: u32, long: usize) -> Result<List
     Ok(lists)
 }
 
-// The words of the same rows, with so many bits for each number, or none where one has more.
+// The words of the same rows, with this many bits for each number, or none if a number has more.
 fn repacked(
     alloc: Global,
     words: &WordSet,
@@ -149,7 +149,7 @@ fn repacked(
     Ok(Some(other))
 }
 
-// The number at this place of the row of the word that stands here, and zero where there is none.
+// The number at this place of the row of the word that stands here, and zero if there is none.
 fn number_in_word(words: &WordSet, bits: u32, long: usize, at: usize, place: usize) -> usize
     requires { ArePacked bits long words.now }
     ensures { let rows = map (digits (2 ^ bits) long) words.now in
@@ -162,7 +162,7 @@ fn number_in_word(words: &WordSet, bits: u32, long: usize, at: usize, place: usi
 }
 
 impl RowSet {
-    /// No rows. They are expected to have so many numbers.
+    /// No rows. They are expected to have `long` numbers.
     pub fn new(alloc: Global, long: usize) -> RowSet
         ensures { result ≡ [] }
     {
@@ -177,8 +177,8 @@ impl RowSet {
         }
     }
 
-    /// Takes all rows out. Those to come are expected to have so many numbers. Keeps the memory, unless that was for far more rows
-    /// than there were last. Takes at most the time of the rows.
+    /// Takes all rows out. Those to come are expected to have `long` numbers. Keeps the memory, unless that was for far more rows than
+    /// there were last. Costs at most O(rows).
     pub fn restart(&mut self, long: usize)
         ensures { self.new ≡ [] }
     {
@@ -197,7 +197,7 @@ impl RowSet {
         }
     }
 
-    // The same, with so many bits for each number.
+    // The same, with `bits` bits for each number.
     fn restart_with(&mut self, long: usize, bits: u32, whole: bool)
         requires few { bits ≤ 32 }
         requires room { bits * long ≤ 128 }
@@ -227,9 +227,9 @@ impl RowSet {
         }
     }
 
-    /// Loads the row at this place into `row` as it is kept, a word as a word, in place of what `row` had. `AllocError` where there
-    /// is no memory for it: then nothing is said of what `row` has. Takes constant time where the row is a word, and else the time
-    /// of its numbers.
+    /// Loads the row at this place into `row` as it is kept, a word as a word, and replaces the old content of `row`. `AllocError` if there
+    /// is no memory for it: then the content of `row` is not promised. Takes constant time if the row is a word, and else the time of
+    /// its numbers.
     #[inline(always)]
     pub fn look(&self, at: usize, row: &mut Row) -> Result<(), AllocError>
         requires { at < length self.now }
@@ -246,8 +246,8 @@ impl RowSet {
         }
     }
 
-    /// Copies the numbers of the row at this place into the list `row`, in place of what it had. `AllocError` where there is no memory
-    /// for them: then nothing is said of what `row` has. Takes the time of the numbers.
+    /// Copies the numbers of the row at this place into the list `row`, and replaces its old content. `AllocError` if there is no memory
+    /// for them: then the content of `row` is not promised. Costs O(numbers).
     #[inline(never)]
     pub fn read(&self, at: usize, row: &mut Vec<usize>) -> Result<(), AllocError>
         requires { at < length self.now }
@@ -266,7 +266,7 @@ impl RowSet {
         }
     }
 
-    /// The number at a place of the row at `at`, and zero where there is none. Takes constant time.
+    /// The number at a place of the row at `at`, and zero if there is none. Takes constant time.
     pub fn number(&self, at: usize, place: usize) -> usize
         ensures { result ≡ get_or (get_or self.now at []) place 0 }
     {
@@ -288,9 +288,9 @@ impl RowSet {
         self.long
     }
 
-    /// Puts the row with the others, if it is not there. `AllocError` where memory was refused: then the rows are as they were.
-    /// Takes the time of its numbers, and looks it up by its hash where there are more than a few; where it fits no word as the
-    /// others are, all are written anew, which happens twice at most until a restart.
+    /// Puts the row with the others, if it is not there. `AllocError` if memory was refused: then the rows are as they were. Costs O(its
+    /// numbers), and looks it up by its hash if there are more than a few. If it does not fit a word as the others do, all are written
+    /// again, which happens twice at most until a restart.
     pub fn put(&mut self, row: &[usize]) -> Result<(), AllocError>
         ensures put { OnOk result (IsPut row.now self.old self.new) }
         ensures err { OnErr result (self.new ≡ self.old) }
@@ -307,7 +307,7 @@ impl RowSet {
         self.put_as_list(list)
     }
 
-    // Puts the row with the others, if it is not there, as a word; or tells that it is none.
+    // Puts the row with the others, if it is not there, as a word; or returns that it is not a word.
     fn put_packed(&mut self, row: &[usize]) -> Result<bool, AllocError>
         ensures put { IfOk result (λ is_put. is_put ≡ true → IsPut row.now self.old self.new) }
         ensures not_put { IfOk result (λ is_put. is_put ≡ false → self.new ≡ self.old) }
@@ -322,8 +322,8 @@ impl RowSet {
         Ok(false)
     }
 
-    // Makes all rows anew, with as many bits for a number as a whole word allows. False where this was done before, where rows are
-    // lists, and where a number would not fit: then nothing is done.
+    // Writes all rows again, with as many bits for a number as a whole word allows. False if this was done before, where rows are lists,
+    // and if a number would not fit: then nothing is done.
     fn repack_whole(&mut self) -> Result<bool, AllocError>
         ensures { self.new ≡ self.old }
     {
@@ -355,9 +355,8 @@ impl RowSet {
         self.lists.put(self.alloc, list)
     }
 
-    /// Adds a copy of the row at `from` that has `to` as its first number, and `slot` at the place `place`, where the row has zero;
-    /// unless that row is there. `AllocError` where memory was refused: then the rows are as they were. Takes the time of
-    /// [`put`](Self::put).
+    /// Adds a copy of the row at `from` that has `to` as its first number, and `slot` at the place `place`, if the row has zero; unless
+    /// that row is there. `AllocError` if memory was refused: then the rows are as they were. Costs what [`put`](Self::put) costs.
     #[inline(never)]
     pub fn put_next(
         &mut self,
@@ -407,9 +406,9 @@ impl RowSet {
         self.put(&next)
     }
 
-    /// Puts each row of the other set whose number at this place is marked, without that number, if it is not there. The marks
-    /// are those of the numbers, from 0 on; a number beyond them has none. `AllocError` where memory was refused: then some of
-    /// them are put. Takes the time of a [`put`](Self::put) for each of these rows, and a look at one number of each other.
+    /// Puts each row of the other set whose number at this place is marked, without that number, if it is not there. The marks are those of
+    /// the numbers, from 0 on; a number beyond them has none. `AllocError` if memory was refused: then some of them are put. Costs a
+    /// [`put`](Self::put) for each of these rows, and a look at one number of each other.
     pub fn put_marked(
         &mut self,
         other: &RowSet,
@@ -486,7 +485,7 @@ impl RowSet {
         self.put(&left)
     }
 
-    // How many bits of a word the numbers of a row may have in all: half of it, where that was enough until now.
+    // How many bits of a word the numbers of a row may have in all: half of it, if that was enough until now.
     fn usable_bits(&self) -> usize
         ensures { result ≤ 128 }
     {
@@ -497,7 +496,7 @@ impl RowSet {
         }
     }
 
-    /// Each row gets a zero behind it, if there is room for it without new memory, and it is told whether. Takes constant time.
+    /// Adds a zero to the end of each row, if there is room for it without new memory, and returns whether. Takes constant time.
     pub fn lengthen(&mut self) -> bool
         ensures longer { IsTrue result → self.new ≡ map (λ row. row ++ 0 ∷ []) self.old }
         ensures same { result ≡ false → self.new ≡ self.old }
@@ -528,7 +527,7 @@ impl RowSet {
         swap(&mut self.lists, &mut other.lists);
     }
 
-    /// Leaves so many rows, the first ones. Takes at most the time of the rows.
+    /// Keeps the first `len` rows. Costs at most O(rows).
     #[inline(never)]
     pub fn truncate(&mut self, len: usize)
         ensures { self.new ≡ take len self.old }
@@ -540,7 +539,7 @@ impl RowSet {
         }
     }
 
-    /// The same rows, with memory of their own. Takes the time of all their numbers.
+    /// The same rows, with memory of their own. Costs O(all their numbers).
     pub fn copied(&self) -> Result<RowSet, AllocError>
         ensures { IfOk result (λ rows. rows ≡ self.now) }
     {

@@ -14,7 +14,7 @@ const FEW: usize = 12;
 // So many are looked through one by one too: an index has places of 32 bits, and room for no more.
 const MANY: usize = 2147483584;
 
-/// Words, none twice, in the order in which they were put. Where there are more than a few, an index finds them; it is made
+/// Words, none twice, in the order in which they were put. If there are more than a few, an index finds them; it is made
 /// when a word is put.
 #[derive(Drop)]
 pub struct WordSet {
@@ -74,7 +74,7 @@ impl WordSet {
         self.index.clear();
     }
 
-    /// Leaves so many words, the first ones. Where words go that are indexed, all are indexed anew when one is put.
+    /// Keeps the first `len` words. If it removes indexed words, the next put indexes all again.
     pub fn truncate(&mut self, len: usize)
         ensures { self.new ≡ take len self.old }
     {
@@ -84,8 +84,8 @@ impl WordSet {
         self.words.truncate(len);
     }
 
-    /// Puts the word with the others, if it is not there. `AllocError` where memory was refused: then the words are as they
-    /// were. Looks it up by the index where there are more than a few; where not all are indexed, all are.
+    /// Puts the word with the others, if it is not there. `AllocError` if memory was refused: then the words are as they
+    /// were. Looks it up by the index if there are more than a few; if not all are indexed, all are.
     #[inline(always)]
     pub fn put(&mut self, word: u128) -> Result<(), AllocError>
         ensures put { OnOk result (IsPut word self.old self.new) }
@@ -98,7 +98,7 @@ impl WordSet {
         self.put_anew(word)
     }
 
-    // The same, where not all are indexed, or there are too many or too few for it.
+    // The same, if not all are indexed, or there are too many or too few for it.
     #[inline(never)]
     fn put_anew(&mut self, word: u128) -> Result<(), AllocError>
         ensures put { OnOk result (IsPut word self.old self.new) }
@@ -112,7 +112,7 @@ impl WordSet {
         put_indexed(&mut self.words, &mut self.index, word)
     }
 
-    // The same, where all are looked through.
+    // The same, if all are looked through.
     #[inline(always)]
     fn put_looked_through(&mut self, word: u128) -> Result<(), AllocError>
         ensures put { OnOk result (IsPut word self.old self.new) }
@@ -124,7 +124,7 @@ impl WordSet {
         Ok(())
     }
 
-    /// The same words, with memory of their own. They are indexed when one is put. Takes the time of the words.
+    /// The same words, with memory of their own. They are indexed when one is put. Costs O(words).
     pub fn copied(&self, alloc: Global) -> Result<WordSet, AllocError>
         ensures { IfOk result (λ words. words ≡ self.now) }
     {

@@ -5,7 +5,7 @@ ghost use Rattle.rows.specs.Words.{IsWordOf, digits, value};
 
 use std::alloc::AllocError;
 
-// How many numbers have so many bits at most.
+// The number of numbers with at most `bits` bits.
 fn base_of(bits: u32) -> u128
     requires { bits ≤ 32 }
     ensures is { result ≡ 2 ^ bits }
@@ -15,7 +15,7 @@ fn base_of(bits: u32) -> u128
     1 << bits
 }
 
-/// The largest number of so many bits. Takes constant time.
+/// The largest number of `bits` bits. Takes constant time.
 pub fn largest_of(bits: u32) -> u64
     requires { bits ≤ 32 }
     ensures { result ≡ 2 ^ bits - 1 }
@@ -119,7 +119,7 @@ fn unpack_whole(word: u128, bits: u32, row: &mut [usize])
     }
 }
 
-// Gives the row so many numbers; what they are is not said.
+// Gives the row `long` numbers of any values.
 #[inline(never)]
 fn lengthen(row: &mut Vec<usize>, long: usize) -> Result<(), AllocError>
     ensures { OnOk result (length row.new.items ≡ long) }
@@ -127,8 +127,7 @@ fn lengthen(row: &mut Vec<usize>, long: usize) -> Result<(), AllocError>
     row.resize(long, 0)
 }
 
-/// Writes the numbers of the word into `row`: so many, each of so many bits, the first from the lowest. Takes the time of the
-/// numbers.
+/// Writes the `long` numbers of the word into `row`, each of `bits` bits, the first from the lowest. Costs O(numbers).
 #[inline(always)]
 pub fn unpack(word: u128, bits: u32, long: usize, row: &mut Vec<usize>) -> Result<(), AllocError>
     requires { bits ≤ 32 }
@@ -185,7 +184,7 @@ pub fn without(word: u128, bits: u32, long: usize, place: usize) -> u128
     }
 }
 
-/// The word of the row, if none of its numbers has more bits. Takes the time of its numbers.
+/// The word of the row, if none of its numbers has more bits. Costs O(its numbers).
 pub fn packed(row: &[usize], bits: u32) -> Option<u128>
     requires bits { bits ≤ 32 }
     requires room { bits * length row.now ≤ 128 }

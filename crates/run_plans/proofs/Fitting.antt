@@ -1,4 +1,4 @@
--- What clients and faults do passes each test, for any kind and any keys.
+-- The actions of clients and faults pass each test, for any kind and any keys.
 use Rattle.std.proofs.Common.{refl, ℕ, zero, suc, ◌+◌, ◌≤◌, Bool, true, false, List, [], ◌∷◌, ◌++◌, arith}
 use Rattle.std.specs.Prelude.{nat_eq, if◌then◌else◌}
 use Rattle.std.proofs.lemmas.Bool.Decides.{nat_tests}

@@ -7,7 +7,7 @@ use Rattle.generators.specs.declared.form.Gen.{Gen, Mix, Limit}
 use Rattle.generators.specs.Generators.{Generator, generator_of, mix, limit, these}
 use Rattle.generators.proofs.Views.{view-Limit, view-Mix}
 
--- so many items of the mix of these children
+-- n items of the mix of these children
 pub limited : (n : ℕ) (b : Box Gen Global) (children : Vec Gen Global) (made : List Generator) → b.value ≡ Mix children
     → map generator_of children.items ≡ made → generator_of (Limit n b) ≡ limit n (mix (these made))
 limited n b children made is each =

@@ -41,7 +41,7 @@ not_after byte (first ∷ rest) other = go (first == byte) refl where
   go true is = let same : first ≡ byte = grind (arith, nat_tests) in absurd (other rest (ap (λ (x : ℕ). x ∷ rest) same))
   go false is = refl
 
--- what was cut to a u64 is cut to a u32
+-- a number that was cut to a u64 is cut to a u32
 cut_again : (o : Option ℕ) → option_map (λ n. min n (2 ^ 32 - 1)) (option_map (λ n. min n (2 ^ 64 - 1)) o) ≡ option_map (λ n. min n (2 ^ 32 - 1)) o
 cut_again None = refl
 cut_again (Some n) = ap Some (omega arith)

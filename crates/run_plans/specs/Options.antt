@@ -1,4 +1,4 @@
--- Promise: what the texts of options spell (this project's own)
+-- Promise: the meaning of the texts of options (this project's own)
 use Rattle.std.specs.Prelude.{ℕ, ◌-◌, ◌^◌, ◌==◌, ◌&&◌, nat_lt, nat_le, min, Bool, true, false, if◌then◌else◌, List, [], ◌∷◌, length, codes, Option, Some, None, option_map, option_and_then, unwrap_or, Result, Ok, Err}
 use Rattle.std.specs.List.{list_all}
 use Rattle.std.specs.Char.{is_ascii_digit}
@@ -32,7 +32,7 @@ are_digits text = nat_lt 0 (length text) && list_all is_ascii_digit text
 abbrev pub digits_spelled : List ℕ → Option ℕ
 digits_spelled text = if are_digits text then Some (digits_value 10 text) else None
 
--- what stands behind this byte, where the text begins with it
+-- the rest behind this byte, if the text begins with it
 abbrev pub after_byte : ℕ → List ℕ → Option (List ℕ)
 after_byte byte [] = None
 after_byte byte (first ∷ rest) = if first == byte then Some rest else None
@@ -49,7 +49,7 @@ abbrev pub number_within : ℕ → ℕ → List ℕ → Option ℕ
 number_within least most text =
     option_and_then (λ n. if is_from_to least most n then Some n else None) (number_spelled text)
 
--- a minus may stand before the digits too. What is below 0 counts as 0, and what is above 2^32 - 1 as that
+-- a minus may stand before the digits too. Numbers below 0 count as 0, and those above 2^32 - 1 as that
 abbrev pub count_behind : Option (List ℕ) → List ℕ → Option ℕ
 count_behind (Some digits) text = option_map (λ n. 0) (digits_spelled digits)
 count_behind None text = option_map (λ n. min n (2 ^ 32 - 1)) (number_spelled text)
@@ -110,7 +110,7 @@ judging_spelled texts =
     (allows BadConcurrency (is_from_to 1 64 concurrency)
     (Ok (judging concurrency kind budget))))))
 
--- what clients and faults do
+-- the plan of clients and faults
 abbrev pub plan_spelled : RunTexts → Result RunPlan Misspelled
 plan_spelled texts =
     needs Seed (number_within 0 (2 ^ 63 - 1) texts.seed.now) (λ seed.
@@ -128,7 +128,7 @@ plan_spelled texts =
       has_faults = has_faults;
     })))))))
 
--- how the object is opened for a run. Of 64 seats the nemesis takes one
+-- how the object is opened for a run. The nemesis takes one of 64 seats
 abbrev pub run_spelled : RunTexts → Result Setup Misspelled
 run_spelled texts =
     result_then (judging_spelled texts.judging) (λ judge.
@@ -137,7 +137,7 @@ run_spelled texts =
     (allows NoSuchReplica (is_from_to 1 7 plan.replicas)
     (Ok (run_setup plan judge)))))
 
--- where no option says otherwise
+-- if no option says otherwise
 abbrev pub default_setup : Setup
 default_setup = judging 2 Register 4096
 

@@ -1,4 +1,4 @@
--- Promise: what the clients and the nemesis of a run do (this project's own)
+-- Promise: the actions of the clients and the nemesis of a run (this project's own)
 use Rattle.std.specs.Prelude.{ℕ, zero, suc, Bool, true, false, List, [], ◌∷◌, ◌++◌, map, pos}
 use Rattle.models.specs.declared.operation.Name.{Name}
 use Rattle.models.specs.declared.operation.Name.TheVariants.{Read, Write, Cas, Acquire, Release, Enqueue, Dequeue, Add}
@@ -26,7 +26,7 @@ numbers = Int (pos 1) ∷ Int (pos 2) ∷ Int (pos 3) ∷ []
 abbrev pub pairs : List Part
 pairs = Pair (pos 1) (pos 2) ∷ Pair (pos 2) (pos 3) ∷ Pair (pos 3) (pos 1) ∷ []
 
--- what clients do on a key of this kind: one generator for each name
+-- the operations of clients on a key of this kind: one generator for each name
 abbrev pub on_key : ModelKind → ℕ → List Generator
 on_key Register key = in_turn Read key nothing ∷ in_turn Write key numbers ∷ []
 on_key CasRegister key =

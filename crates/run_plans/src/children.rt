@@ -1,4 +1,4 @@
-//! What clients do on each key.
+//! The operations of clients on each key.
 ghost use Rattle.std.specs.Prelude.{◌≡◌, ◌++◌, map, IfOk, OnOk};
 ghost use Rattle.generators.specs.declared.item.Item.{Item};
 ghost use Rattle.generators.specs.Generators.{generator_of};
@@ -8,7 +8,7 @@ use generators::{Cycle, Gen, Item};
 use models::{Key, ModelKind, Name, Op, Part};
 use std::alloc::{AllocError, Global};
 
-// What clients do on so many keys of this kind, from 0 on.
+// The operations of clients on `keys` keys of this kind, from 0 on.
 pub(crate) fn children_of(alloc: Global, kind: ModelKind, keys: u16) -> Result<Vec<Gen>, AllocError>
     ensures { IfOk result (λ children. map generator_of children.items ≡ on_keys kind keys) }
 {

@@ -1,7 +1,7 @@
-//! What the clients and the nemesis of a run do: which operations are drawn on which keys, and which faults strike; and what
-//! the texts of options spell.
+//! The actions of the clients and the nemesis of a run: which operations are drawn on which keys, and which faults strike; and the meaning
+//! of the texts of options.
 //!
-//! A call takes memory only where its result can be `AllocError`, or a refusal for want of memory.
+//! A call allocates only if its result can be `AllocError`, or a refusal because memory ran out.
 #![tactic(auto)]
 
 mod children;

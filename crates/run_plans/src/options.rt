@@ -1,4 +1,4 @@
-//! What the texts of options spell: how the one-thread object is opened.
+//! The configuration of the one-thread object in the texts of options.
 ghost use Rattle.std.specs.Prelude.{◌≡◌, ◌⊎◌, ◌≤◌, Ok, Err, IfOk, IfErr, IsOk, MatchResult};
 ghost use Rattle.edn.specs.declared.refusal.Refusal.TheVariants.{NoMemory};
 ghost use Rattle.harness.specs.Setups.{setup_of, IsSetup};
@@ -74,14 +74,13 @@ impl JudgingTexts<'_> {
         }
     }
 
-    /// How the one-thread object is opened where these texts are given, which only judges then. A number may have a plus
+    /// How the one-thread object is opened with these texts; it only judges then. A number may have a plus
     /// before it, and a minus. It takes no memory, and the time of the texts.
     ///
     /// # Errors
     ///
-    /// [`Misspelled::Unread`] of the first text, in the order budget, concurrency, model, that is no number or the name of no
-    /// kind. Else [`Refusal::BadBudget`] where the budget is not 1 to 65,536, else [`Refusal::BadConcurrency`] where the
-    /// concurrency is not 1 to 64.
+    /// [`Misspelled::Unread`] of the first text, in the order budget, concurrency, model, that is not a number or a name of a kind. Else
+    /// [`Refusal::BadBudget`] if the budget is not 1 to 65,536, else [`Refusal::BadConcurrency`] if the concurrency is not 1 to 64.
     pub fn config(&self, alloc: Global) -> Result<Config, Misspelled>
         ensures spelled { MatchResult result
             (λ config. judging_spelled self.now ≡ Ok (setup_of config))
@@ -136,15 +135,15 @@ impl RunTexts<'_> {
         }
     }
 
-    /// How the one-thread object is opened for a run where these texts are given. It takes the time of the texts, and the
-    /// time and memory of [`RunPlan::config`].
+    /// How the one-thread object is opened for a run with these texts. It costs O(bytes of the texts), and the time and memory of
+    /// [`RunPlan::config`].
     ///
     /// # Errors
     ///
-    /// Those of [`JudgingTexts::config`]. Else [`Misspelled::Unread`] of the first text, in the order seed, operations, keys,
-    /// replicas, mode, faults, that is no number or no name, and of a seed, operations or keys out of their limits. Else
-    /// [`Refusal::BadConcurrency`] where the concurrency is 64, else [`Refusal::NoSuchReplica`] where the replicas are not 1
-    /// to 7, else [`Refusal::NoMemory`] where memory is refused.
+    /// Those of [`JudgingTexts::config`]. Else [`Misspelled::Unread`] of the first text that is not a number or a name, or of a seed,
+    /// operations or keys out of their limits. The order is seed, operations, keys, replicas, mode, faults. Else
+    /// [`Refusal::BadConcurrency`] if the concurrency is 64, else [`Refusal::NoSuchReplica`] if the replicas are not 1 to 7, else
+    /// [`Refusal::NoMemory`] if memory is refused.
     pub fn config(&self, alloc: Global) -> Result<Config, Misspelled>
         ensures spelled { IfOk result (λ config. run_spelled self.now ≡ Ok (setup_of config)) }
         ensures within { IfOk result (λ config.
@@ -166,7 +165,7 @@ impl RunTexts<'_> {
         }
     }
 
-    // What clients and faults do. Whether there may be so many replicas is not tested yet.
+    // The plan of clients and faults. The number of replicas is not tested yet.
     fn plan(&self) -> Result<RunPlan, Misspelled>
         ensures { MatchResult result (λ plan. plan_spelled self.now ≡ Ok plan)
             (λ why. plan_spelled self.now ≡ Err why) }

@@ -11,7 +11,7 @@ use harness::Config;
 use std::alloc::{AllocError, Global};
 use test_store::Mode;
 
-/// What a run has beside its threads, its kind of object and its budget.
+/// The parts of a run in addition to its threads, its kind of object and its budget.
 #[derive(Clone, Copy)]
 pub struct RunPlan {
     /// The seed of its random words.
@@ -29,12 +29,11 @@ pub struct RunPlan {
 }
 
 impl RunPlan {
-    /// How the one-thread object is opened for it: as this one, which only judges, but for what the run has beside. The
-    /// generator gives so many operations, each by the next random word from one of its children; for each key in turn
-    /// these are one for each name of the kind, which goes round through the name's parts. Where faults strike, replica 0
-    /// is parted from the others from the 20th event on and the network heals from the 40th on; a reply is lost from the
-    /// 60th on; replica 0 crashes from the 80th on, and starts again from the 100th on. No limit is tested here: it can be
-    /// opened where the replicas are 1 to 7, and this one can be.
+    /// The configuration of the one-thread object for it: this one, which only judges, with the further parts of the run. The generator
+    /// gives this number of operations, each by the next random word from one of its children. For each key in turn these are one for each
+    /// name of the kind, which goes round through the name's parts. If faults strike, replica 0 is parted from the others from the 20th
+    /// event on and the network heals from the 40th on. A reply is lost from the 60th on. Replica 0 crashes from the 80th on, and starts
+    /// again from the 100th on. No limit is tested here: it can be opened if the replicas are 1 to 7, and this one can be.
     ///
     /// It takes the time and the memory of the keys.
     pub fn config(self, alloc: Global, judging: Config) -> Result<Config, AllocError>

@@ -7,8 +7,7 @@ use test_store::Mode;
 
 const MOST_WORKERS: u64 = 64;
 
-/// How many workers the text asks for: 1 to 64. `None` where it is no number, or another one. It takes no memory, and the
-/// time of the text.
+/// How many workers the text asks for: 1 to 64. `None` if it is not such a number. It takes no memory, and the time of the text.
 pub fn workers_in(text: &str) -> Option<u32>
     ensures spelled { result ≡ number_within 1 64 text.now }
     ensures limits { IfSome result (λ workers. (1 ≤ workers) × (workers ≤ 64)) }
@@ -38,7 +37,7 @@ fn digits_in(text: &str) -> Option<u64>
     Some(text.parse::<u64>().unwrap_or(u64::MAX))
 }
 
-// The same, where a plus may stand before the digits.
+// The same, if a plus may stand before the digits.
 fn number_in(text: &str) -> Option<u64>
     ensures { result ≡ option_map (λ n. min n (2 ^ 64 - 1)) (number_spelled text.now) }
 {
@@ -62,23 +61,22 @@ pub(crate) fn within(text: &str, least: u64, most: u64) -> Option<u64>
     }
 }
 
-// The number, or the greatest u32 where it is greater.
+// The number, or the greatest u32 if it is greater.
 fn clipped(number: u64) -> u32
     ensures { result ≡ min number (2 ^ 32 - 1) }
 {
     u32::try_from(number).unwrap_or(u32::MAX)
 }
 
-// The number, or the greatest u8 where it is greater.
+// The number, or the greatest u8 if it is greater.
 pub(crate) fn byte_of(number: u32) -> u8
     ensures { result ≡ min number 255 }
 {
     u8::try_from(number).unwrap_or(u8::MAX)
 }
 
-// The number of an option that tells by another fault than no number that it is out of its limits: however long its text is,
-// and with a minus too. One past the ends of 0 to 2^32 - 1 counts as that end, which is out of the limits of every such
-// option.
+// The number of an option whose limits another refusal reports: however long its text is, and with a minus too. One past the ends of 0 to
+// 2^32 - 1 counts as that end, which is out of the limits of every such option.
 pub(crate) fn count_in(text: &str) -> Option<u32>
     ensures { result ≡ count_spelled text.now }
 {

@@ -1,4 +1,4 @@
--- what a run says, and that a strict store's is no illegal verdict
+-- the report of a run, and that a strict store's is never an illegal verdict
 use Rattle.std.proofs.Common.{◌≡◌, ◌≢◌, ℕ, Bool, Option, List, IfOk, Result, Ok, Err, String, string_bytes, refl, sym, ◌∙◌, subst, inl, inr, ⊎_elim, arith}
 use Rattle.std.specs.declared.alloc.AllocError.{AllocError}
 use Rattle.std.specs.declared.alloc.Global.{Global}
@@ -25,7 +25,7 @@ module _ (before after : Option (List ℕ)) (has_failed is_flushed : Bool) (stat
   pub never_one : (text : List ℕ) (said : ℕ) → said ≢ 1 → IsPut text said before after has_failed is_flushed status → status ≢ 1
   never_one text said other put = λ one. ⊎_elim (λ a. other (sym a.3 ∙ one)) (λ b. absurd (omega (arith, b.5, one))) put
 
-  -- the line of a refusal, or that of want of memory
+  -- the line of a refusal, or that of out of memory
   pub says_why : (setup : Setup) (why : Refusal) → HasNoRun setup why → (line : Result (String Global) AllocError) → IfOk line (λ text. string_bytes text ≡ refusal_line why)
       → IsPut (line_or_no_memory line) 3 before after has_failed is_flushed status
       → (text : List ℕ) × (said : ℕ) × MaySay setup text said × IsPut text said before after has_failed is_flushed status

@@ -17,14 +17,13 @@ use std::mem::forget;
 use std::sync::Wait;
 use std::thread::Threads;
 
-/// Runs clients and the nemesis against a store in the process, each in a thread of its own, writes and flushes the
-/// report of what they came to, and gives the exit status: that of the verdict. Or it writes and flushes the line of a refusal,
-/// and gives 3, which it is too where the writer has failed.
+/// Runs clients and the nemesis against a store in the process, each in a thread of its own. It writes and flushes the report of the
+/// history, and gives the exit status: that of the verdict. Or it writes and flushes the line of a refusal, and gives 3, which it is too if
+/// the writer has failed.
 ///
-/// Where the store is strict, the status is never that of an illegal verdict, in whatever order the threads run. A thread
-/// that can't be started is run by another one. Nothing is written before all clients have ended. It waits for them and for
-/// the writer, and costs what [`run_trial`] and [`report`] cost. The watch is told meanwhile how far they have come, and
-/// the onlooker of the end.
+/// If the store is strict, the status is never that of an illegal verdict, in whatever order the threads run. A thread that can't be
+/// started is run by another one. Nothing is written before all clients have ended. It waits for them and for the writer, and costs what
+/// [`run_trial`] and [`report`] cost. The watch gets the progress meanwhile, and the onlooker the end.
 pub fn run_store<
     X: Threads + Wait + Sync,
     W: Write + Failed + Flushes,
@@ -50,8 +49,8 @@ pub fn run_store<
     }
 }
 
-// The report of what the object judges, and the status of its verdict. A run is the last thing that its process does, so the
-// object's memory goes back with the process.
+// The report of the object's history, and the status of its verdict. A run is the last thing that its process does, so the object's memory
+// goes back with the process.
 fn report_text<L: Onlooker>(
     alloc: Global,
     core: Core,

@@ -7,7 +7,7 @@ use std::io::Eprint;
 use std::rt::Clock;
 use std::sync::Wait;
 
-// Whether these bytes, of which so many come a read at most, are replied this.
+// Whether these bytes, at most `size` of them a read, get this reply.
 fn is_replied<X: Wait + Clock + Eprint>(
     rt: &X,
     alloc: Global,
@@ -29,8 +29,8 @@ fn any_cutting(rt: HostRuntime) {
     }
 }
 
-// What must be replied to a beginning of the text: a line is legal, also one that lacks its line feed alone, and one that lacks
-// its brace is no text.
+// The expected reply to a beginning of the text: a line is legal, also one that lacks its line feed alone, and one that lacks its brace is
+// not text.
 fn wanted(alloc: Global, beginning: &[u8]) -> Result<Vec<u8>, AllocError> {
     let mut want = Vec::new(alloc);
     for byte in beginning {

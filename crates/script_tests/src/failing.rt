@@ -63,7 +63,7 @@ fn failing_flush(rt: HostRuntime) {
     assert!(rt; matches!(told, (3, true, _)));
 }
 
-// Whether a script of which so many bytes come a read at most is legal, and each line was answered at the next read.
+// Whether a script, with at most `size` bytes a read, is legal, and each line was answered at the next read.
 fn is_answered_at_once<X: Wait + Clock + Eprint>(rt: &X, alloc: Global, size: usize) -> bool {
     let mut reader = witness_reader(LINES, size);
     let writer = narrow_writer(alloc, usize::MAX, false);
@@ -81,7 +81,7 @@ fn no_reply_is_held_back(rt: HostRuntime) {
 
 const REFUSED: &[u8] = b"[:verdict]\n[:rewind 1]\n[:verdict]\n[:verdict]\n";
 
-/// A strict script ends at its first refusal: what stands behind that has no reply, and the reader's failure is not met.
+/// A strict script ends at its first refusal: the lines behind it have no reply, and the reader's failure is not met.
 #[test]
 fn strict_ends_at_a_refusal(rt: HostRuntime) {
     let held = b"legal\nrefused 8 NoSuchIndex\n";

@@ -1,6 +1,5 @@
-//! The loop over lines, scripts and checks, over readers and writers that give and take little, and that fail. What must be written
-//! stands in each test.
-//! It has tests alone.
+//! The loop over lines, scripts and checks, over readers and writers that give and take little, and that fail. Each test has its expected
+//! output. It has tests alone.
 #![tactic(auto)]
 
 #[cfg(test)]

@@ -55,8 +55,8 @@ impl LineMachine for Echo {
     }
 }
 
-// Gives one byte a read. At a place there is an error, once, after which it has failed or not. It tells whether the writer had
-// all replies at each read: one for each line before that has a byte, and flushed.
+// Gives one byte a read. At a place there is an error, once, after which it has failed or not. It reports whether the writer had all
+// replies at each read: one for each line before that has a byte, and flushed.
 #[derive(Drop)]
 struct Drip<'a> {
     bytes: &'a [u8],
@@ -120,7 +120,7 @@ fn answered(bytes: &[u8], at: usize) -> usize {
     all
 }
 
-// Takes so many bytes in all, and then none, or fails. It counts the flushes, and the bytes written before the last.
+// Takes this number of bytes in all, and then none, or fails. It counts the flushes, and the bytes written before the last.
 #[derive(Drop)]
 struct Narrow {
     held: Vec<u8>,
@@ -173,9 +173,9 @@ fn drip_reader(error_at: usize, is_failure: bool) -> Drip<'static>
     }
 }
 
-// How many lines close the machine; where the reader has an error, and whether that is a failure; how much the writer takes, and
-// whether it then fails; the lines at the end or the refusal's number, what was written, and how often it was flushed: once for
-// each read behind which something was written.
+// How many lines close the machine; where the reader has an error, and whether that is a failure; how much the writer takes, and whether it
+// then fails. Then the results: the lines at the end or the refusal's number, the output, and the number of flushes: once for each read
+// behind which there was output.
 type Row = (
     u32,
     usize,

@@ -1,4 +1,4 @@
-//! What a script or a check comes to, as plain data.
+//! The result of a script or a check as plain data.
 ghost use Rattle.std.specs.Prelude.{◌≡◌, false};
 
 use crate::streams::{Drip, LINES, Narrow, broken_reader, config, drip_reader, narrow_writer};
@@ -37,7 +37,7 @@ pub fn script_by<X: Wait + Clock + Eprint, R: ReadsBeside<Watched<Narrow>>>(
     (outcome, narrow.held.as_slice() == held, narrow.flushed)
 }
 
-/// Of a reader of these bytes, of which so many come a read at most.
+/// For a reader of these bytes, at most `size` of them a read.
 pub fn script_of<X: Wait + Clock + Eprint>(
     rt: &X,
     alloc: Global,
@@ -52,7 +52,7 @@ pub fn script_of<X: Wait + Clock + Eprint>(
     script_by(rt, alloc, false, &mut reader, writer, held)
 }
 
-/// Of one that fails behind them, to a writer that takes all.
+/// For one that fails behind them, to a writer that takes all.
 pub fn script_of_broken<X: Wait + Clock + Eprint>(
     rt: &X,
     alloc: Global,
@@ -86,7 +86,7 @@ pub fn check_by<X: Wait + Threads + Sync + Clock + Eprint>(
     (status, held.ends_with(end), held.len())
 }
 
-/// Of a reader of these bytes, of which so many come a read at most, that fails behind them; to a writer that takes all.
+/// For a reader of these bytes, at most `size` of them a read, that fails behind them; to a writer that takes all.
 pub fn check_of_broken<X: Wait + Threads + Sync + Clock + Eprint>(
     rt: &X,
     alloc: Global,
@@ -104,7 +104,7 @@ pub fn check_of_broken<X: Wait + Threads + Sync + Clock + Eprint>(
     )
 }
 
-/// Of a reader of all lines.
+/// For a reader of all lines.
 pub fn check_of_lines<X: Wait + Threads + Sync + Clock + Eprint>(
     rt: &X,
     alloc: Global,

@@ -8,7 +8,7 @@ use std::alloc::Global;
 use std::io;
 use std::io::{ErrorKind, Read, Write};
 
-/// A write and a read of what was written.
+/// A write and a read of its value.
 pub const LINES: &[u8] = b"{:type :invoke, :process 0, :f :write, :value [7 3]}
 {:type :ok, :process 0, :f :write, :value [7 3]}
 {:type :invoke, :process 0, :f :read, :value [7 nil]}
@@ -20,7 +20,7 @@ pub fn config(alloc: Global) -> Config {
     Config::to_judge(alloc, 2, ModelKind::Register, 4096)
 }
 
-/// Gives so many bytes a read at most. After the last it fails, or is at its end.
+/// Gives at most this number of bytes a read. After the last it fails, or is at its end.
 #[derive(Drop)]
 pub struct Drip<'a> {
     rest: &'a [u8],
@@ -52,7 +52,7 @@ pub fn drip_reader<'a>(rest: &'a [u8], size: usize) -> Watched<Drip<'a>>
     })
 }
 
-/// A reader of these bytes, of which so many come a read at most, that fails behind them.
+/// A reader of these bytes, at most `size` of them a read, that fails behind them.
 pub fn broken_reader<'a>(rest: &'a [u8], size: usize) -> Watched<Drip<'a>>
     ensures { result.has_failed ≡ false }
 {
@@ -72,7 +72,7 @@ pub struct Witness<'a> {
     pub was_answered: bool,
 }
 
-/// One that gives so many of these bytes a read at most.
+/// One that gives at most `size` of these bytes a read.
 pub fn witness_reader<'a>(rest: &'a [u8], size: usize) -> Witness<'a> {
     Witness {
         drip: Drip {
@@ -116,7 +116,7 @@ fn lines_of(bytes: &[u8]) -> usize {
     bytes.iter().filter(|byte| **byte == b'\n').count()
 }
 
-/// Takes so many bytes in all, and then none, or fails; and flushes, or fails to.
+/// Takes this number of bytes in all, and then none, or fails; and flushes, or fails to.
 #[derive(Drop)]
 pub struct Narrow {
     pub held: Vec<u8>,
@@ -147,7 +147,7 @@ impl Write for Narrow {
     }
 }
 
-/// A writer that takes so many bytes.
+/// A writer that takes `room` bytes.
 pub fn narrow_writer(alloc: Global, room: usize, fails: bool) -> Watched<Narrow>
     ensures { result.has_failed ≡ false }
 {

@@ -1,4 +1,4 @@
--- What a line asks for is answered by a verdict
+-- The command of a line is answered by a verdict
 use Rattle.std.proofs.Common.{◌≡◌, ◌<◌, ◌≤◌, ℕ, Bool, true, false, List, length, refl, sym, ap, ◌∙◌, arith, Result, Ok, Option, Some}
 use Rattle.std.specs.Prelude.{◌&&◌}
 use Rattle.edn.specs.declared.refusal.Refusal.{Refusal}
@@ -40,7 +40,7 @@ line_says line command old new reply asks = says old new command reply (line_may
 true_is_not_false : true ≡ false → ⊥
 true_is_not_false e = cc
 
--- an open script may reply so, where the line is answered so, and is closed where a strict one's line is refused
+-- an open script may reply so, if the line is answered so, and a strict one is closed if its line is refused
 pub replied : (old : Script) (line text : List ℕ) (machine : Machine) (is_refused is_closed : Bool) → old.is_closed ≡ false → MayAnswer old.machine line text is_refused machine → is_closed ≡ old.is_strict && is_refused
     → MayReply old line text (record { machine = machine; is_strict = old.is_strict; is_closed = is_closed })
 replied old line text machine is_refused is_closed is_open answers closes = (

@@ -59,7 +59,7 @@ named name (Some kind) is = sym (ap kind_named is ∙ kind_named-name_of kind)
 named name None other =
     rw (unnamed name Register (other Register), unnamed name CasRegister (other CasRegister), unnamed name Mutex (other Mutex), unnamed name FifoQueue (other FifoQueue), unnamed name Set (other Set), unnamed name UnorderedQueue (other UnorderedQueue), unnamed name WideRegister (other WideRegister), unnamed name WideSet (other WideSet)) refl
 
--- an element that is no vector is an event
+-- an element other than a vector is an event
 appended : (v : Value) (asked : Result Command Refusal) → elements_in v ≡ None → Appends v asked → ElementAsks v asked
 appended (vector vs) asked is appends = cc
 appended nil asked is appends = appends
@@ -81,7 +81,7 @@ spells_none v _ unspelled other = absurd unspelled
 pub refused_element : (v : Value) (why : Refusal) → elements_in v ≡ None → WhyUnspelled v why → why ≢ NoMemory → ElementAsks v (Err why)
 refused_element v why is unspelled other = appended v (Err why) is (spells_none v why unspelled other)
 
--- what an element may ask for: no draw, no serve, no finish and no fault, and it is not refused as unreadable
+-- the possible commands of an element: not a draw, a serve, a finish or a fault, and it is not refused as unreadable
 abbrev pub MayAsk : Result Command Refusal → Type 0
 MayAsk (Ok (Draw thread)) = ⊥
 MayAsk (Ok (Serve number)) = ⊥
@@ -149,7 +149,7 @@ elements_may_ask (more v (more w vs)) command h = cc
 pub line_may_ask : (line : List ℕ) (command : Command) → Asks line (Ok (Some command)) → MayAsk (Ok command)
 line_may_ask line command (values, reads, h) = elements_may_ask values command h
 
--- a line asks for what its elements do
+-- the command of a line is that of its elements
 pub line_asks : (line : List ℕ) (vs : Values) (asked : Result (Option Command) Refusal) → IsText line vs → AskFor vs asked → Asks line asked
 line_asks line vs (Ok command) reads h = (vs, reads, h)
 line_asks line vs (Err (Unreadable place)) reads h = absurd (not_unreadable_for vs place h)

@@ -23,7 +23,7 @@ use Rattle.scripts.specs.Command.{Appends, ElementAsks, AskFor, Asks}
 use Rattle.scripts.specs.Reply.{CarriesOut, AnswersTo, MayAnswer, Script, after, MayReply}
 use Rattle.report.specs.VerdictLine.{verdict_line}
 
--- what a line may be read into
+-- the possible readings of a line
 abbrev Outcome : Type 0
 Outcome = Result (Option Command) Refusal
 
@@ -63,11 +63,11 @@ one_ask_for (more v none) (Ok None) other p q = absurd p
 one_ask_for (more v none) asked (Ok None) p q = absurd q
 one_ask_for (more v (more w vs)) asked other p q = p ∙ sym q
 
--- the longest front is one
+-- there is one longest prefix
 one_front : (bytes : List ℕ) (n m : ℕ) → IsLongestFront bytes n → IsLongestFront bytes m → n ≡ m
 one_front bytes n m a b = ⊎_elim (λ e. e) (⊎_elim (λ lt. absurd (a.longest m lt b.is_front)) (λ lt. absurd (b.longest n lt a.is_front))) (cases_order n m)
 
--- a line is no text, or asks for what its elements do
+-- a line is not text, or asks for the command of its elements
 data LineAsks (line : List ℕ) (asked : Outcome) : Type 0 where
   no_text : (place : ℕ) → asked ≡ Err (Unreadable place) → ((values : Values) → ¬ IsText line values) → IsLongestFront line place → LineAsks line asked
   elements : (values : Values) → IsText line values → AskFor values asked → LineAsks line asked

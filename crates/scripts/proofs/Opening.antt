@@ -16,7 +16,7 @@ machine_at_rest s m e = ap (λ t. t.machine) e
 abbrev of_machine : Machine → Bool → Script
 of_machine machine is_strict = record { machine = machine; is_strict = is_strict; is_closed = false }
 
--- what a script came to that began with this machine
+-- the result of a script that began with this machine
 abbrev pub CameTo : Result (Option Verdict) Refusal → Bool → (left left' before after : Option (List ℕ)) → Bool → Machine → Type 0
 CameTo result is_strict left left' before after has_failed machine =
     let first = of_machine machine is_strict in

@@ -1,4 +1,4 @@
--- Promise: what a line asks for
+-- Promise: the command of a line
 use Rattle.std.specs.Prelude.{◌≡◌, ℕ, ◌^◌, nat_lt, if◌then◌else◌, pos, List, codes, Option, Some, None, Result, Ok, Err}
 use Rattle.std.specs.Str.{bytes_eq}
 use Rattle.edn.specs.Value.{Value, int, vector, keyword, Values, none, more}
@@ -71,12 +71,12 @@ Appends v (Ok (Append event)) = Spells v event
 Appends v (Err BadValue) = (event : Event) → ¬ Spells v event
 Appends v _ = ⊥
 
--- what one element asks for: a vector is a command by its name, and anything else is an event
+-- the command of one element: a vector is a command by its name, and anything else is an event
 abbrev pub ElementAsks : Value → Result Command Refusal → Type 0
 ElementAsks (vector vs) asked = asked ≡ vector_command vs
 ElementAsks v asked = Appends v asked
 
--- what the elements of a line ask for: nothing, or what the one element does. Two or more are refused
+-- the command of the elements of a line: none, or that of the one element. Two or more are refused
 abbrev pub AskFor : Values → Result (Option Command) Refusal → Type 0
 AskFor none asked = asked ≡ Ok None
 AskFor (more v none) (Ok (Some command)) = ElementAsks v (Ok command)
@@ -84,7 +84,7 @@ AskFor (more v none) (Ok None) = ⊥
 AskFor (more v none) (Err why) = ElementAsks v (Err why)
 AskFor (more v (more w vs)) asked = asked ≡ Err BadValue
 
--- what a line asks for. A line that is no text is refused with the length of its longest front that is one
+-- the command of a line. A line that is not text is refused with the length of its longest prefix that is one
 abbrev pub Asks : List ℕ → Result (Option Command) Refusal → Type 0
 Asks line (Err (Unreadable place)) = ((values : Values) → ¬ IsText line values) × IsLongestFront line place
 Asks line asked = (values : Values) × IsText line values × AskFor values asked

@@ -1,4 +1,4 @@
--- Promise: what a script replies to a line
+-- Promise: the reply of a script to a line
 use Rattle.std.specs.Prelude.{◌≡◌, ◌≢◌, ◌⊎◌, ◌<◌, ◌≤◌, ◌&&◌, ℕ, Bool, true, false, List, [], length, Option, Some, None, Result, Ok, Err}
 use Rattle.edn.specs.declared.refusal.Refusal.{Refusal}
 use Rattle.edn.specs.declared.refusal.Refusal.TheVariants.{NoMemory, TooLong}
@@ -12,21 +12,21 @@ use Rattle.line_loop.specs.ReplyText.{line_limit}
 use Rattle.scripts.specs.Command.{Asks}
 use Rattle.report.specs.VerdictLine.{verdict_line}
 
--- the machine carries a command out, and the text is the line of what came of it: the command is answered by a verdict, or
--- refused. Want of memory has no line: the script stops there
+-- the machine carries a command out, and the text is the line of the result: the command is answered by a verdict, or refused. Out of
+-- memory has no line: the script stops there
 abbrev pub CarriesOut : Machine → Command → List ℕ → Bool → Machine → Type 0
 CarriesOut old command text is_refused new =
     ((verdict : Verdict) × MayStep old command (Ok (Says verdict)) new × (text ≡ verdict_line verdict) × (is_refused ≡ false))
     ⊎ ((refusal : Refusal) × MayStep old command (Err refusal) new × (refusal ≢ NoMemory)
     × (text ≡ refusal_line refusal) × (is_refused ≡ true))
 
--- what was asked is answered by this text, which says that it is refused or not
+-- this text answers the command, and says whether it is refused
 abbrev pub AnswersTo : Machine → Result (Option Command) Refusal → List ℕ → Bool → Machine → Type 0
 AnswersTo old (Ok None) text is_refused new = (text ≡ []) × (is_refused ≡ false) × (new ≡ old)
 AnswersTo old (Ok (Some command)) text is_refused new = CarriesOut old command text is_refused new
 AnswersTo old (Err refusal) text is_refused new = (text ≡ refusal_line refusal) × (is_refused ≡ true) × (new ≡ old)
 
--- a line is answered by the text that what it asks for is answered by; one over the limit is refused
+-- the text answers a line if it answers the command of the line; a line over the limit is refused
 pub record MayAnswer (old : Machine) (line text : List ℕ) (is_refused : Bool) (new : Machine) : Type 0 where
   pub within : length line ≤ line_limit → (asked : Result (Option Command) Refusal) × Asks line asked × AnswersTo old asked text is_refused new
   pub over : line_limit < length line → (text ≡ refusal_line TooLong) × (is_refused ≡ true) × (new ≡ old)
@@ -52,7 +52,7 @@ MayReply old line text new =
     × MayAnswer old.machine line text is_refused machine × (new ≡ after old machine is_refused))
     × (old.is_closed ≡ true → (text ≡ []) × (new ≡ old))
 
--- the outcome of a script is the verdict on its history, or none where it is closed
+-- the outcome of a script is the verdict on its history, or none if it is closed
 abbrev pub Shows : Script → Option Verdict → Type 0
 Shows end (Some verdict) = IsVerdictOn end.machine.judged verdict × (end.is_closed ≡ false)
 Shows end None = end.is_closed ≡ true

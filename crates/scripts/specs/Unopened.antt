@@ -1,4 +1,4 @@
--- Promise: what can't be opened is refused before anything is read or written
+-- Promise: a configuration that can't be opened is refused before anything is read or written
 use Rattle.std.specs.Prelude.{◌≡◌}
 use Rattle.edn.specs.declared.refusal.Refusal.{Refusal}
 use Rattle.machine.specs.Machine.{Setup}

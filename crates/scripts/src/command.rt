@@ -1,4 +1,4 @@
-//! What a line asks for.
+//! The command of a line.
 ghost use Rattle.std.specs.Prelude.{◌≡◌, ◌≢◌, Err};
 ghost use Rattle.edn.specs.View.{value_of, values_of};
 ghost use Rattle.scripts.specs.Command.{rewind_to, model_of, budget_of, key_in, kind_in, command_named, vector_command, ElementAsks, AskFor, Asks};
@@ -9,18 +9,16 @@ use models::{Key, ModelKind};
 use plain_events::plain_line;
 use std::alloc::Global;
 
-/// Reads a line as a command, or as nothing where it has no element. A map spells an event to append; `[:verdict]` asks for
-/// the verdict, `[:rewind n]` keeps the first n events, `[:model k m]` makes key k an object of kind m, and `[:budget k n]`
-/// gives it the budget n.
+/// Reads a line as a command, or as nothing if it has no element. A map spells an event to append. `[:verdict]` asks for the verdict,
+/// `[:rewind n]` keeps the first n events, `[:model k m]` makes key k an object of kind m, and `[:budget k n]` gives it the budget n.
 ///
-/// An event that is spelled plainly takes the time of one pass over the line, and memory for the members of a set alone.
-/// Any other line costs what [`read_all`](edn::read_all) and [`from_edn`](events::from_edn) cost.
+/// An event that is spelled plainly costs one pass over the line, and memory for the members of a set alone. Any other line costs what
+/// [`read_all`](edn::read_all) and [`from_edn`](events::from_edn) cost.
 ///
 /// # Errors
 ///
-/// `Unreadable` where the line is no text; `BadValue` where it has two elements or more, or one that is no command;
-/// `NoSuchIndex` for a rewind and `BadBudget` for a budget to a number that is not of 32 bits; and `NoMemory` where memory
-/// is refused.
+/// `Unreadable` if the line is not text; `BadValue` if it has two elements or more, or one that is not a command. `NoSuchIndex` for a
+/// rewind and `BadBudget` for a budget to a number that is not of 32 bits; and `NoMemory` if memory is refused.
 pub fn read_command(alloc: Global, line: &[u8]) -> Result<Option<Command>, Refusal>
     ensures { result ≢ Err Refusal.NoMemory → Asks line.now result }
 {
@@ -31,7 +29,7 @@ pub fn read_command(alloc: Global, line: &[u8]) -> Result<Option<Command>, Refus
     asked_by(alloc, elements.as_slice())
 }
 
-// What the elements of a line ask for.
+// The command in the elements of a line.
 fn asked_by(alloc: Global, elements: &[Edn]) -> Result<Option<Command>, Refusal>
     ensures { result ≢ Err Refusal.NoMemory → AskFor (values_of elements.now) result }
 {

@@ -1,7 +1,7 @@
-//! The monitor, driven by lines: each line is a command, an event to append or one of a few others, and is answered by the verdict
-//! on all events so far, or by a refusal.
+//! The monitor, driven by lines. Each line is a command, an event to append or one of a few others, and gets the verdict on all events so
+//! far, or a refusal.
 //!
-//! A call takes memory only where its result can be `AllocError`, or a refusal for want of memory.
+//! A call allocates only if its result can be `AllocError`, or a refusal because memory ran out.
 #![tactic(auto)]
 
 mod command;

@@ -129,8 +129,7 @@ fn tell_event<L: Onlooker>(onlooker: &L, command: &Command) {
     }
 }
 
-// Carries out a command that a line asks for, puts the line of what came of it into an empty vector, and says whether it was
-// refused.
+// Carries out the command of a line, puts the line of its result into an empty vector, and says whether it was refused.
 fn carry_out<L: Onlooker>(
     alloc: Global,
     core: &mut Core,
@@ -194,15 +193,14 @@ fn reply_refusal<L: Onlooker>(
 /// end it gives the verdict on the history as it then stands. A strict script is closed at the first line that is refused: it
 /// writes and flushes that line's reply, reads no further, and gives none.
 ///
-/// A line is at most 65,536 bytes, its line feed not counted; a longer one is answered by `refused 22 TooLong`. A line
-/// without an element gets no reply. The time is that of the commands, and the memory that of the monitor and of two lines.
-/// It waits for the reader and the writer. The onlooker is told of each line.
+/// A line is at most 65,536 bytes, its line feed not counted; a longer one is answered by `refused 22 TooLong`. A line without an element
+/// gets no reply. The time is that of the commands, and the memory that of the monitor and of two lines. It waits for the reader and the
+/// writer. The onlooker gets each line.
 ///
 /// # Errors
 ///
-/// What [`Core::new`] refuses, before anything is read. Else `ReadFailed` where the reader failed, `WriteFailed` where the
-/// writer failed or took none of some bytes, and `NoMemory` where neither did: the writer has then taken a beginning of the
-/// replies.
+/// The refusals of [`Core::new`], before anything is read. Else `ReadFailed` if the reader failed, `WriteFailed` if the writer failed or
+/// took none of some bytes, and `NoMemory` if neither did: the writer has then taken a beginning of the replies.
 pub fn run_script<X: Wait, R: ReadsBeside<W>, W: Write + Failed + Flushes, L: Onlooker>(
     rt: &X,
     alloc: Global,
@@ -218,8 +216,8 @@ pub fn run_script<X: Wait, R: ReadsBeside<W>, W: Write + Failed + Flushes, L: On
     ensures limits { IsSetup (setup_of config)
         ⊎ IsErrAnd result
         (IsUnopened (setup_of config) reader.old reader.new writer.old writer.new) }
-    // The outcome is that of the end. The reader has not failed, all that it had is consumed, and the writer grew by a reply
-    // text of it; or the script is closed, and all lines that were read to their line feed had their replies.
+    // The outcome is that of the end. The reader has not failed, all that it had is consumed, and the writer grew by a reply text of it. Or
+    // the script is closed, and all lines that were read to their line feed had their replies.
     ensures done { IfOk result (λ outcome. (end : Script) × Shows end outcome
         × ((Finishes MayReply (script (setup_of config) is_strict) end
         (R.remaining reader.old) (R.remaining reader.new)

@@ -433,7 +433,7 @@ module _ (ms : List Mark) (well : AreWellFormed ms) (chained : IsChained ms) whe
         (first_is v).1
 
     module _ (order : List Taken) (by : IsSorted point rank (λ x y. x.id ≢ y.id) (λ x y n e. n (sym e)) ops order) where
-      -- what the set has at a read is its answer
+      -- the members of the set at a read are its answer
       module _ (before after : List Taken) (x : Taken) (whole : before ++ x ∷ after ≡ order) (s : List ℤ) (run : Run set_of_numbers [] before s) (g : IsGet x) where
         here : Contains order x
         here = subst (λ k. Contains k x) whole (Contains-append_right before (x ∷ after) x (Contains-head x after))

@@ -31,7 +31,7 @@ first_of Q dec (x ∷ xs) = ⊎_elim
     (first_of Q dec xs))
     (dec x)
 
--- of two places in one list: what is before the second is before the first, or the first is before the second
+-- two places in one list: everything before the second is before the first, or the first is before the second
 compare : {X : Type 0} (b : List X) (y : X) (a c : List X) (x : X) (d : List X) → b ++ y ∷ a ≡ c ++ x ∷ d → ((z : X) → Contains c z → Contains b z) ⊎ Contains c y
 compare b y a [] x d e = inl (λ z h. absurd (Contains-nil z h))
 compare [] y a (w ∷ c) x d e = let h : y ≡ w = cc in inr (subst (Contains (w ∷ c)) (sym h) (Contains-head w c))

@@ -97,8 +97,8 @@ pub record MayAnswer (marks : List Mark) (id : ℕ) (members : List ℤ) : Type 
       × (¬ Precedes marks other add)
   pub in_turn : (other : ℕ) → ComesAfter marks members other → ¬ Precedes marks other id
 
--- an open operation may fail now: where it adds a member of an answer, another add has it that has not failed and that the
--- operation which comes with the answer does not precede
+-- an open operation may fail now. If it adds a member of an answer, another add has it that has not failed, and the operation with the
+-- answer does not precede that add
 abbrev pub MayFail : List Mark → ℕ → Type 0
 MayFail marks id =
     (read : ℕ) (members : List ℤ) (v : ℤ) (other : ℕ) → HasRead marks read members

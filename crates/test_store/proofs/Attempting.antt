@@ -1,4 +1,4 @@
--- What an attempt says of a row
+-- The result of an attempt on a row
 use Rattle.std.proofs.Common.{◌≡◌, ℕ, List, Option, Some, None, unwrap_or, Result, IfOk, MatchOption, sym, ap, nat_eq}
 use Rattle.std.specs.declared.alloc.AllocError.{AllocError}
 use Rattle.std.specs.Map.{lookup}

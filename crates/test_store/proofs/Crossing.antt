@@ -1,4 +1,4 @@
--- A store may go to another thread, and threads may share one.
+-- A store can be sent to another thread, and threads may share one.
 use denote.Param.Send.{IsSend, IsSync, sendable}
 use Rattle.std.proofs.Crossing.{crosses}
 use Rattle.std.proofs.MapsCrossing as maps

@@ -55,7 +55,7 @@ opening_true n kind h key = holds_fresh kind n h.0
 abbrev pub seen : {S : Type 0} → (S → AnyState) → S × Found → AnyState × Found
 seen view o = (view o.0, o.1)
 
--- what the first listed outcome says of the object
+-- the first listed outcome as an outcome of the object
 pub record FirstStep {S : Type 0} (view : S → AnyState) (xs : List (S × Found)) (came : AnyState × Found) : Type 0 where
   pub next : S
   pub after_is : came.0 ≡ view next
@@ -166,7 +166,7 @@ fault_leaves fault s kind truth strict true_of = (
   strict,
 )
 
--- what is prepared and carried out
+-- the prepared change, carried out
 pub serving : (old st new : StoreView) (e : ℕ) (op : Op) (outcome : Outcome) → (next : Cluster) × MayServe old.now e op outcome next × (st ≡ record { now = old.now; next = Some next })
     → IfSome st.next (λ next. new ≡ at_rest next) → KeepsTruth old.now op outcome new.now
 serving old st new e op outcome served done =

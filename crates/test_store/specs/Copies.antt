@@ -1,11 +1,11 @@
--- Promise: what replicas hold of one key
+-- Promise: the copies of one key at the replicas
 use Rattle.std.specs.Prelude.{ℕ, Bool, true, false, nat_lt, if◌then◌else◌, Option, Some, None, List, [], ◌∷◌, replicate}
 use Rattle.models.specs.declared.model_kind.ModelKind.{ModelKind}
 use Rattle.models.specs.Objects.{object_of}
 use Rattle.models.specs.AnyState.{any}
 use Rattle.test_store.specs.declared.held.Held.{Held}
 
--- what a replica holds of a key that was never changed
+-- the copy at a replica of a key that was never changed
 abbrev pub fresh : ModelKind → Held
 fresh kind = record { version = 0; state = any kind (object_of kind).start }
 
@@ -13,13 +13,13 @@ fresh kind = record { version = 0; state = any kind (object_of kind).start }
 abbrev pub fresh_row : ℕ → ModelKind → List Held
 fresh_row replicas kind = replicate replicas (fresh kind)
 
--- the one with the greater version, where the first has the lower number
+-- the one with the greater version, if the first has the lower number
 abbrev pub newer : Bool → Held → Option Held → Option Held
 newer false held best = best
 newer true held None = Some held
 newer true held (Some other) = Some (if nat_lt held.version other.version then other else held)
 
--- of what the chosen replicas hold, the copy with the greatest version; of equal ones that of the lowest number
+-- the copy with the greatest version among those of the chosen replicas; of equal ones that of the lowest number
 abbrev pub newest : List Bool → List Held → Option Held
 newest [] row = None
 newest (flag ∷ chosen) [] = None

@@ -42,7 +42,7 @@ opening replicas mode kind = record {
   losing = 0;
 }
 
--- what each replica holds of the key: at first version 0 and the start state
+-- the copies of the key at the replicas: at first version 0 and the start state
 abbrev pub row_in : List (ℕ × List Held) → ℕ → ModelKind → ℕ → List Held
 row_in rows replicas kind key = unwrap_or (lookup (nat_eq key) rows) (fresh_row replicas kind)
 
@@ -72,15 +72,14 @@ abbrev pub first_of : {X : Type 0} → List X → Option X
 first_of [] = None
 first_of (x ∷ xs) = Some x
 
--- what an operation comes to in a state: the first of the outcomes that the table lists, which is the state after it and
--- what it finds; or nothing, where none is listed
+-- the result of an operation in a state: the first of the outcomes that the table lists, which is the state after it and its answer; or
+-- nothing, if none is listed
 abbrev pub ComesTo : AnyState → Op → Option (AnyState × Found) → Type 0
 ComesTo a op outcome = (kind : ModelKind) (s : (object_of kind).State) → a ≡ any kind s
     → outcome ≡ first_of (outcomes_of kind s op)
 
--- the operation takes place at the servers, where the replicas hold these copies of its key, and leaves them with those:
--- it finds this in the copy with the greatest version among the servers', and each takes the state after it, with the
--- version one greater
+-- the operation takes place at the servers. The replicas hold these copies of its key, and then those. It finds this in the copy with the
+-- greatest version among the servers', and each takes the state after it, with the version one greater
 pub record TakesPlace (mode : Mode) (n : ℕ) (links : Links) (e : ℕ) (op : Op) (row : List Held)
     (found : Found) (row' : List Held) : Type 0 where
   pub may : may_serve mode n links e ≡ true
@@ -135,8 +134,8 @@ abbrev pub losing_after : Fault → ℕ → ℕ
 losing_after (LoseReplies n) losing = n
 losing_after _ losing = losing
 
--- in sloppy mode Heal lets each replica that is up take, for each key, the copy with the greatest version among those of
--- the replicas that are up; of equal ones that of the lowest number
+-- in sloppy mode Heal lets each replica that is up take, for each key, the copy with the greatest version among those of the replicas that
+-- are up. If versions are equal it takes that of the lowest number
 abbrev pub rows_after : Mode → ℕ → Links → Fault → List (ℕ × List Held) → List (ℕ × List Held)
 rows_after Sloppy n links Heal rows = map (healed_entry (ups n links)) rows
 rows_after mode n links fault rows = rows
@@ -187,7 +186,7 @@ abbrev pub MayNotOpenStore : ℕ → Refusal → Type 0
 MayNotOpenStore n NoSuchReplica = ¬ IsCount n
 MayNotOpenStore n _ = ⊥
 
--- What a caller sees: the store, and the store that a prepared change leads to
+-- The view of a caller: the store, and the store that a prepared change leads to
 pub record StoreView : Type 0 where
   pub now : Cluster
   pub next : Option Cluster

@@ -1,4 +1,4 @@
--- Invariant: what a store keeps
+-- Invariant: the facts that a store keeps
 use Rattle.std.specs.Prelude.{◌≡◌, ℕ, ◌-◌, ◌<◌, true, Option, Some, None, if◌then◌else◌, List}
 use Rattle.models.specs.declared.model_kind.ModelKind.{ModelKind}
 use Rattle.test_store.specs.declared.held.Held.{Held}
@@ -20,7 +20,7 @@ cluster_of mode kind replicas table links losing = record {
   losing = losing;
 }
 
--- the rows: those that were changed, where any were
+-- the rows: those that were changed, if any were
 abbrev pub rows_with : Option RowsView → List (ℕ × List Held) → List (ℕ × List Held)
 rows_with None rows = rows
 rows_with (Some changed) rows = changed.rows

@@ -23,8 +23,8 @@ start_truth kind key = (object_of kind).start
 abbrev pub with_version : ℕ → List Held → ℕ
 with_version v row = count_by (λ held. nat_eq held.version v) row
 
--- this is the true state of a key, where n replicas hold this row of it: more than half of them hold it with the greatest
--- version, and so does each that holds that version
+-- this is the true state of a key, with this row at its n replicas: more than half of them hold it with the greatest version, and so
+-- does each that holds that version
 pub record TrueState (kind : ModelKind) (n : ℕ) (row : List Held)
     (state : (object_of kind).State) : Type 0 where
   pub version : ℕ
@@ -44,14 +44,13 @@ TrulySteps kind old op found new =
     (object_of kind).Steps (old op.key) op found (new op.key)
     × ((key : ℕ) → key ≢ op.key → new key ≡ old key)
 
--- what a serve of the strict store may come to: Done and Lost take place, and Refused leaves all as it is
+-- the possible outcomes of a serve of the strict store: Done and Lost take place, and Refused leaves all as it is
 abbrev pub MayServeTruly : (kind : ModelKind) → Truth kind → Op → Outcome → Truth kind → Type 0
 MayServeTruly kind old op (Done found) new = TrulySteps kind old op found new
 MayServeTruly kind old op Lost new = (found : Found) × TrulySteps kind old op found new
 MayServeTruly kind old op Refused new = new ≡ old
 
--- what a serve does to the truth of a strict store: it holds a truth again, which is the one that the strict store may
--- come to
+-- the effect of a serve on the truth of a strict store: it holds a truth again, which is the one of the outcome
 abbrev pub KeepsTruth : Cluster → Op → Outcome → Cluster → Type 0
 KeepsTruth old op outcome new =
     (kind : ModelKind) (truth : Truth kind) → old.mode ≡ Strict → IsTrueOf kind old truth

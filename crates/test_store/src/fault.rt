@@ -8,10 +8,10 @@ ghost use Rattle.edn.specs.declared.refusal.Refusal.{Refusal};
 use edn::Refusal;
 use events::{Fault, Groups};
 
-/// Tests whether a fault names replicas of a store with so many, each once.
+/// Tests whether a fault names replicas of a store with `replicas` of them, each once.
 ///
 /// # Errors
-/// [`Refusal::BadValue`] where one is named twice, else [`Refusal::NoSuchReplica`] where one is none of the store.
+/// [`Refusal::BadValue`] if one is named twice, else [`Refusal::NoSuchReplica`] if one is none of the store.
 pub(crate) fn test(replicas: u8, fault: &Fault) -> Result<(), Refusal>
     ensures ok { OnOk result (MayStrike replicas fault.now) }
     ensures refused { IfErr result (FaultRefused replicas fault.now) }
@@ -25,7 +25,7 @@ pub(crate) fn test(replicas: u8, fault: &Fault) -> Result<(), Refusal>
     Ok(())
 }
 
-/// Whether a fault names no replica twice. Takes the time of a partition's groups.
+/// Whether a fault names no replica twice. Costs O(a partition's groups).
 pub fn names_once(fault: &Fault) -> bool
     ensures { IsTrue result ↔ AreOnce (numbers_of fault.now) }
 {
@@ -35,7 +35,7 @@ pub fn names_once(fault: &Fault) -> bool
     }
 }
 
-/// Whether a fault names replicas below this number alone. Takes the time of a partition's groups.
+/// Whether a fault names replicas below this number alone. Costs O(a partition's groups).
 pub fn names_present(replicas: u8, fault: &Fault) -> bool
     ensures { result ≡ are_below replicas (numbers_of fault.now) }
 {
@@ -73,7 +73,7 @@ fn are_once(groups: &Groups) -> bool
     true
 }
 
-// Marks the numbers. It answers false where one is marked already.
+// Marks the numbers. It answers false if one is marked already.
 fn mark(numbers: &[u8], seen: &mut [bool]) -> bool
     requires { length seen.old ≡ 256 }
     ensures { (before : List ℕ) → HasMarked seen.old before → MatchBool result

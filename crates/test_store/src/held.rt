@@ -1,4 +1,4 @@
-//! What replicas hold of one key.
+//! The copies of one key at the replicas.
 ghost use Rattle.std.specs.Prelude.{◌≡◌, false, slice_index_or, IfOk};
 ghost use Rattle.std.specs.Option.{option_copied};
 ghost use Rattle.test_store.specs.Copies.{newest, taken_over, fresh_row};
@@ -7,7 +7,7 @@ use models::{AnyState, ModelKind};
 use std::alloc::{AllocError, Global};
 use std::marker::Model;
 
-/// What one replica holds of one key.
+/// The copy of one key at one replica.
 #[derive(Drop)]
 pub struct Held {
     /// How often the key was changed, as far as the replica knows.
@@ -16,9 +16,8 @@ pub struct Held {
 }
 
 impl Held {
-    /// An equal copy, which shares the items of a queue with an order; `AllocError` where there is no memory for it, or as
-    /// many share them as can be counted. Takes the time of the values of a queue without an order, or of the spans of a
-    /// set.
+    /// An equal copy, which shares the items of a queue with an order; `AllocError` if there is no memory for it, or as many share them as
+    /// can be counted. Costs O(values) for a queue without an order, and O(spans) for a set.
     pub fn copy(&self, alloc: Global) -> Result<Held, AllocError>
         ensures { IfOk result (λ other. other ≡ self.now) }
     {
@@ -30,7 +29,7 @@ impl Held {
     }
 }
 
-/// What each replica holds of one key, by the replicas' numbers.
+/// The copies of one key at the replicas, by their numbers.
 #[derive(Drop)]
 pub struct Row {
     held: Vec<Held>,
@@ -60,7 +59,7 @@ impl Row {
         Ok(Row { held })
     }
 
-    /// What the replicas hold, by their numbers.
+    /// The copies at the replicas, by their numbers.
     pub(crate) fn held(&self) -> &[Held]
         ensures { result.now ≡ self.now }
     {
@@ -79,7 +78,7 @@ impl Row {
     }
 }
 
-/// Of what the chosen replicas hold, the copy with the greatest version; of equal ones that of the lowest number.
+/// The copy with the greatest version among those of the chosen replicas; of equal ones that of the lowest number.
 pub(crate) fn newest<'a>(chosen: &[bool], row: &'a [Held]) -> Option<&'a Held>
     ensures { option_copied result ≡ newest chosen.now row.now }
 {

@@ -9,10 +9,9 @@ ghost use Rattle.test_store.specs.declared.outcome.Outcome.{Outcome};
 ghost use Rattle.test_store.specs.Store.{Cluster, opening, MayServe, after_fault, IsCount, VersionsWithin};
 ghost use Rattle.test_store.specs.Truth.{start_truth, IsTrueOf, KeepsTruth, LeavesTruth};
 
-/// In strict mode the store holds one true state of each key, as one copy would: at first the start states; a serve that is
-/// done or lost steps it as the operation does, and one that is refused leaves it, and so does each fault.
-/// [`Store::serve`](crate::Store::serve) and [`Store::fault`](crate::Store::fault) cite it, and the law
-/// `no_trial_is_a_false_alarm` of `machine` rests on it.
+/// In strict mode the store holds one true state of each key, as one copy would: at first the start states. A serve that is done or lost
+/// steps it as the operation does. One that is refused leaves it, and so does each fault. [`Store::serve`](crate::Store::serve) and
+/// [`Store::fault`](crate::Store::fault) cite it, and the law `no_trial_is_a_false_alarm` of `machine` rests on it.
 pub fn strict_law()
     ensures opening { (n : ℕ) (kind : ModelKind) → IsCount n
         → IsTrueOf kind (opening n Strict kind) (start_truth kind) }

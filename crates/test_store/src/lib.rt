@@ -1,11 +1,11 @@
-//! A replicated store in the process, with faults: what a test under a monitor talks to.
+//! A replicated store in the process, with faults: the store for a test under a monitor.
 //!
 //! Each replica has a copy of each key, with a version. In the strict mode an operation takes place where its replica reaches a
 //! majority: on the newest copy among these, which each of them then takes, with the version one greater. In the sloppy mode it
 //! takes place on the replica's own copy, and the copies are brought together when a partition heals, so that such a store loses
 //! writes. Faults cut links, pause and crash replicas, and lose replies.
 //!
-//! A call takes memory only where its result can be `AllocError`, or a refusal for want of memory.
+//! A call allocates only if its result can be `AllocError`, or a refusal because memory ran out.
 #![tactic(auto)]
 
 mod fault;

@@ -96,8 +96,7 @@ impl Rows {
         self.healed(alloc, &[])
     }
 
-    /// The rows in which each of these replicas has taken over the copy with the greatest version among theirs. It takes
-    /// the time of all rows.
+    /// The rows in which each of these replicas has taken over the copy with the greatest version among theirs. Costs O(all rows).
     pub(crate) fn healed(&self, alloc: Global, ups: &[bool]) -> Result<Rows, AllocError>
         ensures { IfOk result (λ other. other.rows ≡ map (healed_entry ups.now) self.now.rows) }
     {

@@ -76,11 +76,10 @@ impl Drop for Store {
 }
 
 impl Store {
-    /// A store of so many replicas, all up, in one group, with no key changed yet. Each key is an object of this kind.
-    /// Takes no memory.
+    /// A store of `replicas` replicas, all up, in one group, with no key changed yet. Each key is an object of this kind. Takes no memory.
     ///
     /// # Errors
-    /// [`Refusal::NoSuchReplica`] where the number is not 1 to 7.
+    /// [`Refusal::NoSuchReplica`] if the number is not 1 to 7.
     pub fn new(alloc: Global, replicas: u8, mode: Mode, kind: ModelKind) -> Result<Store, Refusal>
         ensures limits { OnOk result (IsCount replicas) }
         ensures opened { IfOk result (λ store. store ≡ at_rest (opening replicas mode kind)) }
@@ -109,13 +108,12 @@ impl Store {
         self.replicas
     }
 
-    /// Prepares a serve of the operation at the entry, and gives the outcome that [`commit`](Store::commit) will bring. The
-    /// store stays as it is. The entry is the number of a replica, from 0, and no version of the key may be greater than
-    /// 2^64 - 2. It takes the time of the replicas and of the operation's outcomes in the key's state, and not that of the
-    /// keys, but where its memory grows.
+    /// Prepares a serve of the operation at the entry, and gives the outcome that [`commit`](Store::commit) will bring. The store stays as
+    /// it is. The entry is the number of a replica, from 0, and no version of the key may be greater than 2^64 - 2. It costs O(replicas +
+    /// the operation's outcomes in the key's state), whatever the number of keys, unless its memory grows.
     ///
     /// # Errors
-    /// `AllocError` where a growth was refused; then nothing is prepared.
+    /// `AllocError` if an allocation fails; then nothing is prepared.
     pub fn prepare_serve(&mut self, entry: u8, op: &Op) -> Result<Outcome, AllocError>
         requires entry { entry < self.old.now.replicas }
         requires versions { VersionsOf (row_of self.old.now op.now.key) (2 ^ 64 - 2) }
@@ -149,12 +147,11 @@ impl Store {
         Ok(outcome_of(lost, found))
     }
 
-    /// Prepares a fault. The store stays as it is. It takes the time of the fault, and for [`Fault::Heal`] in sloppy mode
-    /// that of all keys that were changed.
+    /// Prepares a fault. The store stays as it is. It costs O(replicas of the fault), and for [`Fault::Heal`] in sloppy mode O(changed keys).
     ///
     /// # Errors
-    /// [`Refusal::BadValue`] where a replica is named twice, else [`Refusal::NoSuchReplica`] where one is none of the
-    /// store, else [`Refusal::NoMemory`] where a growth was refused. Then nothing is prepared.
+    /// [`Refusal::BadValue`] if a replica is named twice, else [`Refusal::NoSuchReplica`] if one is none of the
+    /// store, else [`Refusal::NoMemory`] if an allocation fails. Then nothing is prepared.
     pub fn prepare_fault(&mut self, fault: &Fault) -> Result<(), Refusal>
         ensures may { OnOk result (MayStrike self.old.now.replicas fault.now) }
         ensures prepared { OnOk result (self.new ≡ record {
@@ -179,7 +176,7 @@ impl Store {
         Ok(())
     }
 
-    /// Carries out what is prepared. It takes no memory and cannot fail, and the time of what it takes away.
+    /// Carries out what is prepared. It takes no memory and cannot fail, and costs the drop of the old parts.
     pub fn commit(&mut self)
         requires { IsSome self.old.next }
         ensures { IfSome self.old.next (λ next. self.new ≡ at_rest next) }
@@ -207,7 +204,7 @@ impl Store {
     /// with the time of both.
     ///
     /// # Errors
-    /// `AllocError` where a growth was refused; the store is then as it was.
+    /// `AllocError` if an allocation fails; the store is then as it was.
     pub fn serve(&mut self, entry: u8, op: &Op) -> Result<Outcome, AllocError>
         requires entry { entry < self.old.now.replicas }
         requires versions { VersionsOf (row_of self.old.now op.now.key) (2 ^ 64 - 2) }
@@ -245,9 +242,8 @@ impl Store {
         Ok(())
     }
 
-    /// An equal store with nothing prepared, and memory of its own but for the items of queues with an order, which are
-    /// shared; `AllocError` where there is none, or as many share the items as can be counted. It takes the time of all
-    /// keys that were changed.
+    /// An equal store with nothing prepared, and memory of its own except for the shared items of queues with an order. `AllocError` if
+    /// there is none, or as many share the items as can be counted. It costs O(changed keys).
     pub fn copy(&self) -> Result<Store, AllocError>
         ensures { IfOk result (λ other. other ≡ at_rest self.now.now) }
     {
@@ -266,7 +262,7 @@ impl Store {
     }
 }
 
-// What the outcome is of an operation that found this.
+// The outcome of an operation with this answer.
 fn outcome_of(lost: bool, found: Found) -> Outcome
     ensures { result ≡ (if lost then Outcome.Lost else Outcome.Done found) }
 {
@@ -277,7 +273,7 @@ fn outcome_of(lost: bool, found: Found) -> Outcome
     }
 }
 
-// What the operation comes to: nothing where it can't take place, else the row that it leaves and what it finds.
+// The result of the operation: nothing if it can't take place, else the row that it leaves and its answer.
 fn attempt(
     alloc: Global,
     mode: Mode,
@@ -304,8 +300,8 @@ fn attempt(
     }
 }
 
-// What the operation comes to where the replicas hold these copies of its key: nothing where it can't take place, else
-// the row that it leaves and what it finds.
+// The result of the operation if the replicas hold these copies of its key: nothing if it can't take place, else the row that it leaves and
+// its answer.
 fn take(
     alloc: Global,
     mode: Mode,
@@ -337,7 +333,7 @@ fn take(
     Ok(Some((next, found)))
 }
 
-// What the operation comes to in the state: the first of its outcomes, or nothing, where it has none.
+// The result of the operation in the state: the first of its outcomes, or nothing, if it has none.
 fn first_outcome(
     alloc: Global,
     state: &AnyState,
@@ -381,7 +377,7 @@ fn is_majority(replicas: usize, chosen: &[bool]) -> bool
     replicas < 2 * count(chosen)
 }
 
-// The rows after a fault, where it changes any.
+// The rows after a fault, if it changes any.
 fn rows_after(
     alloc: Global,
     mode: Mode,

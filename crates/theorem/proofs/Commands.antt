@@ -1,4 +1,4 @@
--- what the five commands do to the one-thread object
+-- the effects of the five commands on the one-thread object
 use Rattle.std.proofs.Common.{◌≡◌, Ok, Err, ap}
 use Rattle.edn.specs.declared.refusal.Refusal.{Refusal}
 use Rattle.edn.specs.declared.refusal.Refusal.TheVariants.{NoSuchIndex, BadBudget}

@@ -79,7 +79,7 @@ ask_so none command p = cc
 ask_so (more v none) command p = element_so v command p
 ask_so (more v (more w vs)) command p = cc
 
--- What a line is answered by
+-- The answer to a line
 
 abbrev pub HasHistory : Machine → Type 0
 HasHistory m = IsHistoryOf m.judged.concurrency m.judged.events

@@ -1,4 +1,4 @@
--- what a recorded history comes to, by its history alone
+-- the findings about a recorded history, by its history alone
 use Rattle.std.proofs.Common.{◌≡◌, ℕ, List, [], ◌∷◌, ◌++◌, Some, Ok, refl, sym, ap, subst, ⊎_elim, inl, inr}
 use Rattle.edn.specs.Value.{Value, Values, none, more}
 use Rattle.edn.specs.declared.refusal.Refusal.{Refusal}

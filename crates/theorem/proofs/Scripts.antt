@@ -1,4 +1,4 @@
--- what a script reads and writes, by its history alone
+-- the input and output of a script, by its history alone
 use Rattle.std.proofs.Common.{◌≡◌, ℕ, Bool, true, false, List, [], ◌∷◌, ◌++◌, Option, Some, None, refl, sym, ap, subst}
 use Rattle.edn.specs.declared.refusal.Refusal.{Refusal}
 use Rattle.linspec.specs.declared.verdict.Verdict.{Verdict}

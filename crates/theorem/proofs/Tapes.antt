@@ -1,4 +1,4 @@
--- what the replies on a tape say
+-- the replies on a tape
 use Rattle.std.proofs.Common.{[], ◌∷◌, Ok, sym, subst}
 use mathlib.Core.List.{IsPrefix}
 use Rattle.linspec.specs.declared.verdict.Verdict.{Verdict}

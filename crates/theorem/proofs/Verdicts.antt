@@ -1,4 +1,4 @@
--- what a verdict says of a history
+-- the meaning of a verdict for a history
 use Rattle.std.proofs.Common.{◌≡◌, ℕ, Bool, true, false, List, [], ◌∷◌, refl, ap, subst}
 use Rattle.std.specs.Prelude.{IsTrue}
 use Rattle.std.proofs.lemmas.List.{append-nil}
@@ -13,7 +13,7 @@ use Rattle.machine.proofs.Pushes.{keyed, well_formed}
 use Rattle.machine.proofs.Verdicts.{never_illegal}
 use Rattle.theorem.specs.Theorem.{Means, IsRight}
 
--- where no key is blown, none is set aside
+-- if no key is over budget, none is set aside
 none_aside : (blown : ℕ → Bool) → ((k : ℕ) → blown k ≡ false) → (entries : List Entry) → set_aside blown entries ≡ entries
 none_aside blown none [] = refl
 none_aside blown none (e ∷ entries) = rw (none e.key) (ap (λ l. e ∷ l) (none_aside blown none entries))

@@ -12,7 +12,7 @@ use Rattle.board.specs.Tape.{Leads}
 use Rattle.board.specs.CoreTape.{CoreReply, CoreTape}
 use Rattle.theorem.specs.Theorem.{Session, IsRight}
 
--- a line can spell the command: it is no draw, no ticket and no fault
+-- a line can spell the command: it is not a draw, a ticket or a fault
 abbrev pub IsOfHistory : Command → Type 0
 IsOfHistory (Append event) = Unit {0}
 IsOfHistory (Rewind n) = Unit {0}

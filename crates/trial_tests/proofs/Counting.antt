@@ -1,4 +1,4 @@
--- What calls of a store do to the number of serves, by the store's own law
+-- The effect of calls of a store on the number of serves, by the store's own law
 use Rattle.std.proofs.Common.{◌≡◌, ℕ, ◌+◌, ◌≤◌, Result, Ok, Err, IfOk, OnOk, OnErr, sym, subst, arith}
 use Rattle.std.specs.declared.alloc.AllocError.{AllocError}
 use Rattle.edn.specs.declared.refusal.Refusal.{Refusal}
@@ -7,7 +7,7 @@ use Rattle.events.specs.declared.event.Fault.{Fault}
 use Rattle.test_store.specs.declared.outcome.Outcome.{Outcome}
 use Rattle.test_store.specs.Store.{Cluster, MayServe, after_fault, VersionsWithin, StoreView, at_rest}
 
--- what the law says of a serve and of a fault
+-- the law about a serve and a fault
 abbrev pub ServeCounts : Type 0
 ServeCounts = (old new : Cluster) (e : ℕ) (op : Op) (outcome : Outcome) (n : ℕ)
     → MayServe old e op outcome new → VersionsWithin old n → VersionsWithin new (n + 1)

@@ -1,4 +1,4 @@
-//! What a core answers, as plain data.
+//! The answers of a core as plain data.
 use crate::setups::{Ask, command_of};
 use edn::Refusal;
 use events::{EventKind, Fault, Process};
@@ -16,7 +16,7 @@ pub(crate) enum Struck {
     Other,
 }
 
-/// What a command is answered by.
+/// The answer to a command.
 #[derive(Clone, Copy, PartialEq, Eq)]
 pub(crate) enum Said {
     Legal,
@@ -87,7 +87,7 @@ fn standing(core: &Core) -> (u32, Said) {
     (core.monitor().history().len(), verdict_said(core.verdict()))
 }
 
-/// What the command is answered by.
+/// The answer to the command.
 pub(crate) fn answer(core: &mut Core, command: Command) -> Said {
     let before = standing(core);
     match core.step(command) {
@@ -111,7 +111,7 @@ pub(crate) fn first_other(core: &mut Core, rows: &[Row]) -> Option<(usize, Said)
     None
 }
 
-/// The number of the refusal of an opening, 0 where it is opened.
+/// The number of the refusal of an opening, 0 if it is opened.
 pub(crate) fn opening_said(opened: Result<Core, Refusal>) -> u8 {
     match opened {
         Ok(_) => 0,

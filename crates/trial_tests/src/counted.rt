@@ -1,4 +1,4 @@
-//! A store that counts its serves, and what it comes to in so many steps.
+//! A store that counts its serves, and its results in several steps.
 ghost use Rattle.test_store.specs.Store.{VersionsWithin};
 
 use edn::Refusal;
@@ -15,7 +15,7 @@ pub struct Counted {
     ghost few: { VersionsWithin store.now serves },
 }
 
-/// What is done to a store. An operation is on key 7, and its value that of a write or of an enqueue.
+/// A step on a store. An operation is on key 7, and its value that of a write or of an enqueue.
 #[derive(Clone, Copy)]
 pub enum Step {
     Serve(u8, Name, Option<i64>),
@@ -25,7 +25,7 @@ pub enum Step {
     Restart(u8),
 }
 
-/// What a step came to.
+/// The result of a step.
 #[derive(Clone, Copy, PartialEq, Eq)]
 pub enum Said {
     Done,
@@ -49,7 +49,7 @@ pub fn told(outcome: Result<Outcome, AllocError>) -> Said {
 }
 
 impl Counted {
-    /// A strict store of so many replicas.
+    /// A strict store of `replicas` replicas.
     pub fn new(alloc: Global, replicas: u8, kind: ModelKind) -> Result<Counted, Refusal> {
         versions_law();
         let store = Store::new(alloc, replicas, Mode::Strict, kind)?;
@@ -62,7 +62,7 @@ impl Counted {
         Ok(Counted { store, serves })
     }
 
-    /// Whether each step comes to what its row says.
+    /// Whether each step has the result of its row.
     pub fn follows(&mut self, rows: &[(Step, Said)]) -> bool {
         for &(step, want) in rows {
             if self.carry(step) != want {
@@ -106,7 +106,7 @@ impl Counted {
     }
 }
 
-/// Whether each step comes to what its row says, in a new strict store of so many replicas.
+/// Whether each step has the result of its row, in a new strict store of `replicas` replicas.
 pub fn follows(
     alloc: Global,
     replicas: u8,

@@ -28,7 +28,7 @@ fn read() -> Item {
     })
 }
 
-// What a draw answered, in a word.
+// The answer of a draw, in a word.
 fn word(drawn: &Drawn) -> &'static str {
     match drawn {
         Drawn::Pending => "pending",
@@ -102,7 +102,7 @@ fn phases(alloc: Global) -> Result<Source, AllocError> {
     Ok(Source::new(alloc, Gen::Phases(children), 0))
 }
 
-// What is drawn, by who is idle and by the asker.
+// The drawn item, by who is idle and by the asker.
 const PHASES: [([bool; 2], Asker, &str); 3] = [
     (BOTH, ZERO, "write"),
     ([false, true], ONE, "pending"),
@@ -173,7 +173,7 @@ fn mixed_with_nothing(alloc: Global, seed: u64) -> Result<Source, AllocError> {
     Ok(Source::new(alloc, Gen::Mix(children), seed))
 }
 
-// What is drawn, and the places of the source and of its copy then.
+// The drawn item, and the places of the source and of its copy then.
 fn first_of_mix(alloc: Global, seed: u64) -> Result<(&'static str, u128, u128), AllocError> {
     let mut source = mixed_with_nothing(alloc, seed)?;
     let found = drawn(&mut source, &BOTH, ZERO);
@@ -273,7 +273,7 @@ fn committed(source: &mut Source) -> u128 {
     source.place()
 }
 
-// What a draw prepared for each thread is, and the places after both and after two commits.
+// The item that a draw prepared for each thread, and the places after both and after two commits.
 fn prepared_for_both(source: &mut Source) -> (&'static str, &'static str, [u128; 4]) {
     let first = prepared(source, ZERO);
     let after_first = source.place();
@@ -296,7 +296,7 @@ fn is_seen_once_committed(alloc: Global) -> Result<bool, AllocError> {
     Ok(true)
 }
 
-// What is prepared is seen only once it is committed, and a commit of nothing changes nothing.
+// A prepared draw is visible only after its commit, and a commit of nothing changes nothing.
 #[test]
 fn prepared_draw_changes_nothing(rt: HostRuntime) {
     assert!(rt; is_seen_once_committed(rt.alloc()) == Ok(true));

@@ -1,6 +1,6 @@
-//! Worked rows of trials on a `Core`: draws, serves, completions and faults, with every refusal that such commands meet, and
-//! thousands of steps under faults; and rows of what a trial draws from and serves by: generators, schedules, and stores. Each
-//! answer follows from the definitions by hand. It has tests alone.
+//! Worked rows of trials on a `Core`: draws, serves, completions and faults, with every refusal that such commands meet, and thousands of
+//! steps under faults. Further rows are of the generators, schedules and stores of a trial. Each answer follows from the definitions by
+//! hand. It has tests alone.
 #![tactic(auto)]
 
 #[cfg(test)]

@@ -13,7 +13,7 @@ fn reads(alloc: Global) -> Result<Gen, AllocError> {
     ops_of(alloc, &[None])
 }
 
-// A core of this budget and concurrency, and of so many replicas.
+// A core of this budget, concurrency and number of replicas.
 fn numbers(alloc: Global, numbers: Numbers) -> Result<Core, Refusal> {
     let config = config(Mode::Strict, numbers, reads(alloc)?, no_fault(alloc), 0);
     Core::new(alloc, config)

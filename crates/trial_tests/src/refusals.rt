@@ -1,5 +1,4 @@
-//! Commands that are refused. Each leaves history and verdict as they were, and the commands after it are answered as
-//! without it.
+//! Commands that are refused. Each leaves history and verdict as they were, and the commands after it are answered as without it.
 use crate::answers::{Row, Said};
 use crate::setups::Ask::{
     Budget, Draw, Event, Finish, Nemesis, Numbered, Ok as OkOf, Rewind, Serve, Verdict,
@@ -71,7 +70,7 @@ const OTHERS: [Row; 9] = [
 ];
 
 const TRIALS: [Trial; 7] = [
-    // A thread draws where it is there and has no open operation. A draw that is refused asks no generator.
+    // A thread draws if it is there and has no open operation. A draw that is refused asks no generator.
     Trial {
         mode: Mode::Strict,
         values: &[Some(5), None],

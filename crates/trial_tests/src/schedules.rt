@@ -17,7 +17,7 @@ fn scheduled(alloc: Global) -> Result<Schedule, AllocError> {
     Ok(Schedule::new(faults))
 }
 
-// A length of the history, what is due then, and whether it is taken.
+// A length of the history, the fault that is due then, and whether it is taken.
 const DUE: [(u32, &str, bool); 6] = [
     (1, "none", false),
     (2, "heal", false),

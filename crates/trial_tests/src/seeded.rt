@@ -1,5 +1,5 @@
-//! Trials under faults, with every choice taken from the random words of a seed. What they come to was worked out by a second
-//! program in another language, which draws, serves and judges by the definitions and shares nothing with this one.
+//! Trials under faults, with every choice taken from the random words of a seed. A second program in another language worked out the
+//! results. It draws, serves and judges by the definitions and shares nothing with this one.
 use crate::answers::{Said, verdict_said};
 use crate::setups::{Plain, config, fault_of, no_fault};
 use edn::Refusal;
@@ -17,7 +17,7 @@ const STEPS: u32 = 1000;
 
 const KEYS: u16 = 4;
 
-// What a client does next.
+// A client's next step.
 #[derive(Clone, Copy)]
 enum Next {
     Draw,
@@ -96,7 +96,7 @@ fn command_of(next: Next, thread: u32) -> Command {
     }
 }
 
-// What the client does after this reply.
+// The client's step after this reply.
 fn after(next: Next, reply: &Reply) -> Next {
     match (next, reply) {
         (Next::Draw, Reply::Drawn { ticket, .. }) => Next::Serve(*ticket),
@@ -129,10 +129,10 @@ fn count(core: &Core, kind: EventKind) -> u32 {
     count
 }
 
-// What came of a trial.
+// The result of a trial.
 #[derive(Drop)]
 struct Ended {
-    // The first verdict that is not legal, where there is one.
+    // The first verdict that is not legal, if there is one.
     first: Verdict,
     done: u32,
     failed: u32,

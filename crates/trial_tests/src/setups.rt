@@ -115,7 +115,7 @@ pub(crate) fn one_fault(alloc: Global, at: u32, fault: Plain) -> Result<Schedule
     Ok(Schedule::new(vec![in alloc; (at, fault)]?))
 }
 
-/// For each number its write, and a read where there is none, in turn.
+/// For each number its write, and a read if there is none, in turn.
 pub(crate) fn ops_of(alloc: Global, values: &[Option<i64>]) -> Result<Gen, AllocError> {
     let mut items = Vec::new(alloc);
     for value in values {
@@ -159,8 +159,8 @@ pub(crate) fn config(
     }
 }
 
-/// A core of two threads that are given a write of each number, and a read where there is none, in turn, with one fault, due
-/// from this length of the history on.
+/// A core of two threads that get a write of each number, and a read if there is none, in turn. It has one fault, due from this length of
+/// the history on.
 pub(crate) fn faulty(
     alloc: Global,
     mode: Mode,

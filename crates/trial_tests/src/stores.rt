@@ -58,13 +58,13 @@ fn opened(alloc: Global, replicas: u8) -> Result<Store, Refusal> {
     Store::new(alloc, replicas, Mode::Strict, ModelKind::Register)
 }
 
-// What a store of three replicas refuses the fault for.
+// The refusal of the fault by a store of three replicas.
 fn refusal_of(alloc: Global, fault: &Fault) -> Result<Option<Refusal>, Refusal> {
     let mut store = opened(alloc, 3)?;
     Ok(store.fault(fault).err())
 }
 
-// What it refuses the partition for.
+// The refusal of the partition.
 fn refusal_of_partition(alloc: Global, other: u8) -> Result<Option<Refusal>, Refusal> {
     refusal_of(alloc, &partition(alloc, other)?)
 }

@@ -1,4 +1,4 @@
-//! Trials as rows: how a core is opened, what it is asked and answers, and which events there are then.
+//! Trials as rows: how a core is opened, its questions and answers, and the events then.
 use crate::answers::{Row, events_are, first_other};
 use crate::setups::{NUMBERS, Plain, config, no_fault, one_fault, ops_of};
 use edn::Refusal;
@@ -12,11 +12,11 @@ use test_store::Mode;
 #[derive(Clone, Copy)]
 pub(crate) struct Stage {
     pub(crate) rows: &'static [Row],
-    /// None where nothing is said of them.
+    /// None if nothing is said of them.
     pub(crate) events: Option<&'static [(EventKind, Process)]>,
 }
 
-/// A trial of two threads that are given a write of each number, and a read where there is none, in turn.
+/// A trial of two threads that are given a write of each number, and a read if there is none, in turn.
 #[derive(Clone, Copy)]
 pub(crate) struct Trial {
     pub(crate) mode: Mode,

@@ -106,7 +106,7 @@ const TRIALS: [Trial; 4] = [
             events: None,
         }],
     },
-    // A ticket is served once, and is finished after it is served. The cut of its invocation makes it stale for good.
+    // A ticket is served once, and is finished after its serve. The cut of its invocation makes it stale for good.
     Trial {
         mode: Mode::Strict,
         values: &[Some(5)],

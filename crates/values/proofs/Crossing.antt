@@ -1,4 +1,4 @@
--- Items, values and spans may go to another thread, and threads may share them: what they share is counted for threads.
+-- Items, values and spans can be sent to another thread, and threads may share them: the counts of shared parts are made for threads.
 use denote.Param.Send.{IsSend, IsSync, sendable}
 use Rattle.std.proofs.Crossing.{crosses}
 use Rattle.persistent.proofs.tree.Tree.TheLaws.TheKnot as tree

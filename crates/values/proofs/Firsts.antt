@@ -45,7 +45,7 @@ module _ (s : List ℤ) (at : ℕ) (d : ℤ) (fits : at < length s) (is : NeverF
   abbrev v : ℤ
   v = get_or s at d
 
-  -- what is among the first at values
+  -- an element among the first at values
   place_in : (y : ℤ) → Contains (take at s) y → (i : ℕ) × (i < at) × (get_or s i y ≡ y)
   place_in y h =
       let long = length-take at s in

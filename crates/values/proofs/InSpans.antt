@@ -71,7 +71,7 @@ in_turn_ascends x (suc n) rest is far = (
   in_turn_ascends (x +ℤ pos 1) n rest is (λ y k. let low : (x +ℤ pos (suc n)) ≤ℤ y = far y k in omega (arith, ints)),
 )
 
--- integers in turn with others behind them tell how many they are
+-- integers in turn with others behind them determine their number
 in_turn_cancel : (x : ℤ) (n m : ℕ) (ls bs : List ℤ) → ((y : ℤ) → Contains ls y → (x +ℤ pos n) <ℤ y) → ((y : ℤ) → Contains bs y → (x +ℤ pos m) <ℤ y) → in_turn x n ++ ls ≡ in_turn x m ++ bs → (n ≡ m) × (ls ≡ bs)
 in_turn_cancel x zero zero ls bs past_ls past_bs e = (refl, e)
 in_turn_cancel x zero (suc m) ls bs past_ls past_bs e =

@@ -151,7 +151,7 @@ sorted_at (x ∷ xs) is (suc k) d h = sorted_at xs is.1 k d (omega arith)
 pub IsSorted-ascending : (xs : List ℤ) → IsAscending xs → IsSortedBy (λ x y. is_lt (int_cmp x y)) xs
 IsSorted-ascending xs is k d low high = rw add-one (sorted_at xs is k d (omega arith))
 
--- what a binary search for v says of an ascending list
+-- the result of a binary search for v in an ascending list
 pub put_in-found : (v : ℤ) (xs : List ℤ) (i : ℕ) → IsAscending xs → i < length xs → IsBinarySearchResult (λ y. int_cmp y v) xs (Ok i) → put_in v xs ≡ xs
 put_in-found v xs i is fits found = put_in-member v xs is (i, fits, int_ranked (get_or xs i v) v Equal (sym (found v)))
 

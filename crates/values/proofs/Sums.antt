@@ -38,7 +38,7 @@ sum_of-between (x ∷ xs) ys v =
     sum_of-first x (xs ++ v ∷ ys) ∙ ap (λ n. (n + mixed x) % 2 ^ 128) (sum_of-between xs ys v) ∙ later (sum_of (xs ++ ys)) (mixed v) (mixed x)
     ∙ ap (λ n. (n + mixed v) % 2 ^ 128) (sym (sum_of-first x (xs ++ ys)))
 
--- what is told of an answer holds of what equals it
+-- a fact about an answer holds for an equal one
 pub if_ok : {E : Type 0} (r : Result (List ℤ) E) (P : List ℤ → Type 0) (xs : List ℤ) → IfOk r (λ set. set ≡ xs) → P xs → IfOk r P
 if_ok (Ok set) P xs is p = subst P (sym is) p
 if_ok (Err e) P xs is p = tt

@@ -7,7 +7,7 @@ abbrev pub IsAscending : List ℤ → Type 0
 IsAscending [] = Unit {0}
 IsAscending (x ∷ xs) = ((y : ℤ) → Contains xs y → x <ℤ y) × IsAscending xs
 
--- the set with v put in: in front of the first greater member, and not a second time
+-- the set with v put in: before the first greater member, and not a second time
 abbrev pub put_in : ℤ → List ℤ → List ℤ
 put_in v [] = v ∷ []
 put_in v (x ∷ xs) =

@@ -9,7 +9,7 @@ abbrev pub NeverFalls : List ℤ → Type 0
 NeverFalls [] = Unit {0}
 NeverFalls (x ∷ xs) = ((y : ℤ) → Contains xs y → x ≤ℤ y) × NeverFalls xs
 
--- the multiset with one more v: in front of the first value that is not below it
+-- the multiset with one more v: before the first value that is not below it
 abbrev pub with_one : ℤ → List ℤ → List ℤ
 with_one v [] = v ∷ []
 with_one v (x ∷ xs) = if int_lt x v then x ∷ with_one v xs else v ∷ x ∷ xs

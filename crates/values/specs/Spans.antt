@@ -5,7 +5,7 @@ use Rattle.std.specs.List.{Contains, flat_map}
 use Rattle.values.specs.declared.span_row.Span.{Span}
 use Rattle.values.specs.Sums.{sum_of}
 
--- so many integers in turn, of which this is the first
+-- n integers in turn from this one on
 abbrev pub in_turn : ℤ → ℕ → List ℤ
 in_turn x zero = []
 in_turn x (suc n) = x ∷ in_turn (x +ℤ pos 1) n

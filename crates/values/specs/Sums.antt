@@ -1,4 +1,4 @@
--- Invariant: the sum of a set or a multiset, by which most others are told apart
+-- Invariant: the sum of a set or a multiset, which differs for most others
 use Rattle.std.specs.Prelude.{◌≡◌, ℕ, ◌+◌, ◌*◌, ◌/◌, ◌%◌, ◌^◌, ℤ, List, [], ◌∷◌, Option, Some, None, bit_xor}
 use Rattle.std.specs.Int.{cast_unsigned, w64}
 use Rattle.std.specs.Arc.{arc_value}
@@ -11,7 +11,7 @@ use Rattle.values.specs.Multisets.{NeverFalls}
 unfoldable pub folded : ℕ → ℕ
 folded n = bit_xor ((bit_xor n 2685821657736338717 * 11400714819323198485) % 2 ^ 64) ((bit_xor n 2685821657736338717 * 11400714819323198485) % 2 ^ 64 / 2 ^ 32)
 
--- the product of that with what it is turned into once more, each greater by 2^64, so that neither is zero
+-- the product of that with its second mixing, each greater by 2^64, so that neither is zero
 unfoldable pub product : ℕ → ℕ
 product n = (((folded n + 2 ^ 64) % 2 ^ 128)
     * (((bit_xor (folded n) 11507291218515648293 * 15485907386658061715) % 2 ^ 64 + 2 ^ 64) % 2 ^ 128)) % 2 ^ 128
@@ -23,7 +23,7 @@ spread n = bit_xor (product n) (product n / 2 ^ 64)
 unfoldable pub mixed : ℤ → ℕ
 mixed v = spread (cast_unsigned w64 v)
 
--- what all members add
+-- the sum of all members
 unfoldable pub sum_of : List ℤ → ℕ
 sum_of [] = 0
 sum_of (x ∷ xs) = (sum_of xs + mixed x) % 2 ^ 128

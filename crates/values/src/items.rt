@@ -11,13 +11,13 @@ use std::alloc::{AllocError, Global};
 use std::hash::{Hash, Hasher};
 use std::marker::Model;
 
-// What a place weighs more than the one behind it, up to a multiple of 2^128, and the number that takes that off again.
+// The ratio of the weight of a place to that of the one behind it, up to a multiple of 2^128, and the number that takes that off again.
 const RATIO: u128 = 47026247687942121848144207491837523525;
 
 const BACK: u128 = 10455382779074951524300553632856583309;
 
-/// Integers, the front first. What two queues have in common they share. Beside them stands their sum, each by the weight of its
-/// place, so that their hash takes constant time, and what the place before them would weigh.
+/// Integers, the front first. Two queues share their common parts. Beside them stands their sum, each by the weight of its place, so that
+/// their hash takes constant time, and what the place before them would weigh.
 pub struct Items {
     alloc: Global,
     items: Row<i64>,
@@ -56,21 +56,21 @@ fn sum_with(sum: u128, value: i64) -> u128
     sum.wrapping_mul(RATIO).wrapping_add(mixed(value))
 }
 
-// What one place more weighs.
+// The weight of one place more.
 fn weight_with(weight: u128) -> u128
     ensures { (many : ℕ) → weight ≡ power many → result ≡ power (many + 1) }
 {
     weight.wrapping_mul(RATIO)
 }
 
-// What one place less weighs.
+// The weight of one place less.
 fn weight_without(weight: u128) -> u128
     ensures { (many : ℕ) → weight ≡ power (many + 1) → result ≡ power many }
 {
     weight.wrapping_mul(BACK)
 }
 
-// The sum of the items without the front one, by theirs and by what its place weighs.
+// The sum of the items without the front one, from theirs and the weight of its place.
 fn sum_without_front(sum: u128, weight: u128, front: i64) -> u128
     ensures { (values : List ℤ) → sum ≡ rolled (front ∷ values) → weight ≡ power (length values)
         → result ≡ rolled values }
@@ -106,8 +106,8 @@ impl Items {
         self.items.first()
     }
 
-    /// The same items, all of them shared where they are many. Takes the time and the memory of a copy of a row; `AllocError` too
-    /// where they are shared as often as they can be.
+    /// The same items, all of them shared if they are many. Takes the time and the memory of a copy of a row; `AllocError` too
+    /// if they are shared as often as they can be.
     pub fn copy(&self) -> Result<Items, AllocError>
         ensures { IfOk result (λ other. other ≡ self.now) }
     {

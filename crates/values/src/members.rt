@@ -39,7 +39,7 @@ impl Drop for Members {
     }
 }
 
-// Integers, ascending, with their sum, by which most other sets are told apart.
+// Integers, ascending, with their sum, which differs for most other sets.
 #[derive(Drop)]
 struct Listed {
     items: Vec<i64>,
@@ -65,8 +65,8 @@ impl Listed {
     }
 }
 
-// What a value adds to the sum of its set, its multiset or its queue: a number that is spread over 128 bits, so that few have the
-// same sum, also if somebody has chosen the values for that. Neither factor is zero, as one of them would be for two values.
+// The summand of a value in the sum of its set, its multiset or its queue. It is a number that is spread over 128 bits, so that few have
+// the same sum, also if somebody has chosen the values for that. Neither factor is zero, as one of them would be for two values.
 pub(crate) fn mixed(value: i64) -> u128
     ensures { result ≡ mixed value }
 {
@@ -79,7 +79,7 @@ pub(crate) fn mixed(value: i64) -> u128
     product ^ (product >> 64)
 }
 
-// The sum of what the values add, up to a multiple of 2^128.
+// The sum of the values' summands, up to a multiple of 2^128.
 fn sum_of(values: &[i64]) -> u128
     ensures { result ≡ sum_of values.now }
 {
@@ -101,7 +101,7 @@ impl Members {
         }
     }
 
-    // The set of what is listed; `AllocError` where there is no memory to share it.
+    // The set of these values; `AllocError` if there is no memory to share it.
     fn sharing(alloc: Global, listed: Listed) -> Result<Members, AllocError>
         ensures { IfOk result (λ set. set ≡ listed) }
     {
@@ -112,8 +112,8 @@ impl Members {
         })
     }
 
-    /// The set of these values, which the caller has put in ascending order, none twice; `AllocError` where there is no
-    /// memory to share them. Takes the time of the values.
+    /// The set of these values, which the caller has put in ascending order, none twice; `AllocError` if there is no memory to share them.
+    /// Costs O(values).
     pub fn of_ascending(values: Vec<i64>) -> Result<Members, AllocError>
         requires { IsAscending values.items }
         ensures { IfOk result (λ set. set ≡ values.items) }
@@ -121,7 +121,7 @@ impl Members {
         Members::sharing(*values.allocator(), Listed::of(values))
     }
 
-    /// The same, where the caller knows the sum of the values, so that they are not gone through for it: it takes constant
+    /// The same, if the caller knows the sum of the values, so that they are not gone through for it: it takes constant
     /// time.
     pub(crate) fn of_listed(values: Vec<i64>, sum: u128) -> Result<Members, AllocError>
         requires { IsListed values.items sum }
@@ -130,8 +130,8 @@ impl Members {
         Members::sharing(*values.allocator(), Listed { items: values, sum })
     }
 
-    /// The set of these values, in whatever order and however often they stand there; `AllocError` where there is no memory
-    /// to share them. Takes the time of a sort: it grows with n log n.
+    /// The set of these values, in whatever order and however often they stand there; `AllocError` if there is no memory to share them.
+    /// Costs a sort: O(n log n).
     pub fn of_unordered(values: Vec<i64>) -> Result<Members, AllocError>
         ensures members { IfOk result (λ set. (v : ℤ) → Contains set v ↔ Contains values.items v) }
         ensures ascending { IfOk result IsAscending }
@@ -153,7 +153,7 @@ impl Members {
         }
     }
 
-    // The sum of what the members add.
+    // The sum of the members' summands.
     fn sum(&self) -> u128
         ensures { result ≡ sum_of self.now }
     {
@@ -163,7 +163,7 @@ impl Members {
         }
     }
 
-    /// The same set, which shares its members with this one. Takes constant time, and no memory; `AllocError` where as many
+    /// The same set, which shares its members with this one. Takes constant time, and no memory; `AllocError` if as many
     /// share them as can be counted.
     pub fn copy(&self) -> Result<Members, AllocError>
         ensures { IfOk result (λ other. other ≡ self.now) }
@@ -177,14 +177,14 @@ impl Members {
         }
     }
 
-    /// Whether both have the same members. Takes constant time where their numbers or their sums differ.
+    /// Whether both have the same members. Takes constant time if their numbers or their sums differ.
     pub fn same(&self, other: &Members) -> bool
         ensures { IsTrue result ↔ (self.now ≡ other.now) }
     {
         self == other
     }
 
-    /// The set with the value put in. Takes the time of the members.
+    /// The set with the value put in. Costs O(members).
     pub fn with(&self, value: i64) -> Result<Members, AllocError>
         ensures { IfOk result (λ more. more ≡ put_in value self.now) }
     {

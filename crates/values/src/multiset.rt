@@ -11,8 +11,8 @@ use std::alloc::{AllocError, Global};
 use std::hash::{Hash, Hasher};
 use std::marker::Model;
 
-/// A multiset of integers: its values ascending, each as often as it is in. What two multisets have in common they share, where one
-/// was made from the other. Beside them stands the sum of what the values add, so that its hash takes constant time.
+/// A multiset of integers: its values ascending, each as often as it is in. Two multisets share their common parts, if one was made from
+/// the other. With them the sum of the values' summands is kept, so that its hash takes constant time.
 pub struct Multiset {
     alloc: Global,
     values: Row<i64>,
@@ -104,8 +104,8 @@ impl Multiset {
         self.values.place_of(value + 1)
     }
 
-    /// The same multiset, all of it shared where it is large. Takes the time and the memory of a copy of a row; `AllocError` too
-    /// where it is shared as often as it can be.
+    /// The same multiset, all of it shared if it is large. Takes the time and the memory of a copy of a row; `AllocError` too
+    /// if it is shared as often as it can be.
     pub fn copy(&self) -> Result<Multiset, AllocError>
         ensures { IfOk result (λ other. other ≡ self.now) }
     {

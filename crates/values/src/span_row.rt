@@ -94,8 +94,8 @@ impl SpanRow {
         self.spans.place_of(value)
     }
 
-    /// The same spans, all of them shared where they are many. Takes the time and the memory of a copy of a row; `AllocError` too
-    /// where they are shared as often as they can be.
+    /// The same spans, all of them shared if they are many. Takes the time and the memory of a copy of a row; `AllocError` too
+    /// if they are shared as often as they can be.
     pub fn copy(&self) -> Result<SpanRow, AllocError>
         ensures { IfOk result (λ row. row ≡ self.now) }
     {

@@ -16,8 +16,7 @@ use std::hash::{Hash, Hasher};
 use std::marker::Model;
 
 /// A set of integers, by its spans: as many consecutive members as there are, in ascending order. So each set has one such row, and
-/// to compare two takes the time of the spans, and not that of the members. What two sets have in common they share, where one was
-/// made from the other.
+/// comparing two costs O(spans), and not O(members). Two sets share their common parts, if one was made from the other.
 pub struct Spans {
     alloc: Global,
     spans: SpanRow,
@@ -79,8 +78,8 @@ fn start_of(spans: &SpanRow, at: usize, value: i64) -> (usize, i64)
     (at, value)
 }
 
-// Where the span of a value ends that is put in before the span at this place, which starts behind it: from which place on
-// the spans stay behind it, and its last integer. The first of them is joined with it, unless an integer is missing between.
+// The end of the span of a value that is put in before the span at this place, which starts behind it. It is the place from which on the
+// spans stay behind it, and its last integer. The first of them is joined with it, unless an integer is missing between.
 fn end_of(spans: &SpanRow, at: usize, value: i64) -> (usize, i64)
     requires apart { StandApart (drop at spans.now) }
     requires place { at ≤ length spans.now }
@@ -102,7 +101,7 @@ fn end_of(spans: &SpanRow, at: usize, value: i64) -> (usize, i64)
     (at, value)
 }
 
-// How many integers these spans have, or the greatest number where they are more.
+// How many integers these spans have, or the greatest number if they are more.
 fn room_of(spans: &[Span]) -> usize
     requires { StandApart spans.now }
     ensures { result ≡ min (length (integers_in spans.now)) usize.MAX }
@@ -116,7 +115,7 @@ fn room_of(spans: &[Span]) -> usize
     room
 }
 
-// How many integers the spans have, or the greatest number where they are more.
+// How many integers the spans have, or the greatest number if they are more.
 fn room_for(spans: &SpanRow) -> usize
     requires { StandApart spans.now }
     ensures { result ≡ min (length (integers_in spans.now)) usize.MAX }
@@ -170,7 +169,7 @@ impl Spans {
         }
     }
 
-    /// The same set, all of it shared where it is large. Takes the time and the memory of a copy of a row; `AllocError` too where
+    /// The same set, all of it shared if it is large. Takes the time and the memory of a copy of a row; `AllocError` too if
     /// it is shared as often as it can be.
     pub fn copy(&self) -> Result<Spans, AllocError>
         ensures { IfOk result (λ other. other ≡ self.now) }
@@ -183,7 +182,7 @@ impl Spans {
     }
 
     /// The set with the value put in. Takes time and memory that grow with the logarithm of how many spans there are, and no memory
-    /// where the value is in already.
+    /// if the value is in already.
     pub fn with(&self, value: i64) -> Result<Spans, AllocError>
         ensures { IfOk result (λ more. more ≡ put_in value self.now) }
     {
@@ -203,7 +202,7 @@ impl Spans {
         })
     }
 
-    /// The set by its members. Takes the time of the members.
+    /// The set by its members. Costs O(members).
     pub fn to_members(&self) -> Result<Members, AllocError>
         ensures { IfOk result (λ members. members ≡ self.now) }
     {

@@ -17,7 +17,7 @@ module _ (calls : List Call) where
   abbrev Apart : Row → Row → Type 0
   Apart a b = (¬ IsAtMostBy calls a b) × (¬ IsAtMostBy calls b a)
 
-  -- what was kept is kept if each row that is there is
+  -- kept rows stay kept if each row that is there does
   pub kept_still : (rows new : List Row) → ((r : Row) → Contains rows r → IsKeptIn calls new r) → (r : Row) → IsKeptIn calls rows r → IsKeptIn calls new r
   kept_still rows new to r k = let q = to k.0 k.1 in (q.0, q.1, at_most_then calls r k.0 q.0 k.2 q.2)
 

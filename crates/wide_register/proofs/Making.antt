@@ -39,7 +39,7 @@ module _ (calls : List Call) (now : ℕ) (row : Row) where
   puts_still old made w v out before to h =
       (has_still (IsPut calls w.id v now (Some v) out row) old made to h.0, λ b. has_still (IsPut calls w.id v row.door row.state out row) old made to (h.1 b))
 
-  -- the ok of a read: so many of the operations were tried
+  -- the ok of a read: this many operations were tried
   module _ (r : Call) (v : ℤ) where
     abbrev pub Doors : Call → Type 0
     Doors c = HasDoor row r × HasDoor row c

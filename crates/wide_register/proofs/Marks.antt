@@ -1,4 +1,4 @@
--- what the deed makes of a row is what the mark makes of its end
+-- the deed's effect on a row is the mark's effect on its end
 use Rattle.std.proofs.Common.{◌≡◌, ◌≢◌, ◌↔◌, ℕ, ◌≤◌, ℤ, ◌⊎◌, inl, inr, ⊎_elim, Bool, false, IsTrue, nat_eq, map, Some, None, List, length, refl, sym, ap, ◌∙◌, subst}
 use Rattle.std.specs.List.{Contains, filter, list_any}
 use Rattle.models.specs.declared.operation.Name.{Name}

@@ -1,4 +1,4 @@
--- what is kept after an event is that of the history with its mark
+-- the kept facts after an event are those of the history with its mark
 use Rattle.std.proofs.Common.{◌≡◌, ℕ, ◌+◌, ◌≤◌, ◌⊎◌, ⊎_elim, Some, List, [], ◌∷◌, ◌++◌, length, map, sym, ap, ◌∙◌, subst, arith, length-append, append-nil}
 use Rattle.std.specs.List.{Contains}
 use Rattle.events.specs.Events.{Mark}

@@ -7,7 +7,7 @@ use Rattle.wide_register.specs.declared.next.Deed.TheVariants.{EndsWrite, EndsRe
 use Rattle.wide_register.specs.declared.kept.Kept.{Kept}
 use Rattle.wide_register.specs.Facts.{IsDeed}
 
--- so many operations are tried at each row: the write that is done, or the writes of the value that was read
+-- this many operations are tried at each row: the write of the deed, or the writes of the value that was read
 abbrev pub AreTries : List Call → Deed → ℕ → Type 0
 AreTries calls (EndsWrite w v) n = n ≡ 1
 AreTries calls (EndsRead r v) n = n ≤ length calls

@@ -23,7 +23,7 @@ use Rattle.linspec.specs.Orders.{Pairwise}
 use Rattle.linspec.specs.MarkRule.{AreWellFormed}
 use Rattle.linspec.specs.LeanEnds.{LeanEnd, MayRead, MayWrite, AreLeanEnds}
 
--- what an operation does to a register
+-- the effect of an operation on a register
 abbrev pub what_by : Name → Part → Option What
 what_by Write (Int v) = Some (Writes v)
 what_by Read Nil = Some Reads
@@ -100,7 +100,7 @@ end_of calls row = record {
   finds = λ r v. list_any (λ (f : Found). nat_eq f.read r && int_eq f.value v) row.finds.items;
 }
 
--- what is kept is that of the history
+-- the kept facts are those of the history
 pub record AreFacts (k : Kept) (marks : List Mark) : Type 0 where
   pub well : AreWellFormed marks
   pub now : k.moment ≡ length marks
@@ -108,7 +108,7 @@ pub record AreFacts (k : Kept) (marks : List Mark) : Type 0 where
   pub doors : (row : Row) → Contains k.rows.items row → row.door ≤ k.moment
   pub ends : AreLeanEnds marks (map (end_of k.calls.items) k.rows.items)
 
--- a row that needs the operation needs another one's if it is open, and may be passed by it only where the other one may
+-- a row that needs the operation needs the second row's if it is open, and may be passed by it only if the second row may
 pub record FitsAt (row other : Row) (c : Call) : Type 0 where
   pub needed : Contains row.needed.items c.id → c.is_open ≡ true → Contains other.needed.items c.id
   pub door : HasDoor row c → c.since < other.door
@@ -157,7 +157,7 @@ HasPuts calls now w v out before row made =
 abbrev pub found_by : Call → ℤ → Found
 found_by r v = record { read = r.id; value = v }
 
--- what the deed makes of the row
+-- the effect of the deed on the row
 abbrev pub IsNextBy : List Call → ℕ → Deed → Row → Row → Type 0
 IsNextBy calls now Keeps row new = IsSame row new
 IsNextBy calls now (Begins id) row new = IsBegun id row new
@@ -253,7 +253,7 @@ pub record IsAfter (m : Mark) (k new : Kept) : Type 0 where
       × ((r : Row) → Contains made r → IsKeptIn new.calls.items new.rows.items r)
   pub apart : AreApart new.calls.items new.rows.items
 
--- what is kept is the same
+-- the kept facts are the same
 pub record AreSame (k new : Kept) : Type 0 where
   pub moment : new.moment ≡ k.moment
   pub calls : new.calls.items ≡ k.calls.items

@@ -22,13 +22,13 @@ is_an_ok Fail = false
 is_an_ok Invoke = false
 is_an_ok Info = false
 
--- Dead if no row is left by what can kill, else Alive
+-- Dead if an event that can kill leaves no row, else Alive
 abbrev pub IsStepLeft : Kept → EventKind → Step → Type 0
 IsStepLeft left kind step =
     ((step ≡ Dead) × (left.rows.items ≡ []) × IsTrue (kills kind))
     ⊎ ((step ≡ Alive) × (¬ ((left.rows.items ≡ []) × IsTrue (kills kind))))
 
--- what is prepared, or if nothing is, what is kept
+-- the prepared history, or if there is none, the kept one
 abbrev pub next_of : Option Kept → Kept → Kept
 next_of None kept = kept
 next_of (Some next) kept = next

@@ -18,8 +18,8 @@ use std::alloc::{AllocError, Global};
 
 /// The history of one register, judged as its events come, by its lean ends: it is linearizable exactly if it has one (`lean_ends`).
 ///
-/// An event can be prepared, which may fail for want of memory and leaves what the register stands for, and then committed, which takes no
-/// memory. What was prepared before is dropped.
+/// An event can be prepared, which may run out of memory and keeps the meaning of the register, and then committed, which takes no memory.
+/// A change that was prepared before is dropped.
 #[derive(Drop)]
 pub struct WideRegister {
     alloc: Global,
@@ -44,7 +44,7 @@ fn can_kill(kind: EventKind) -> bool
     matches!(kind, EventKind::Ok | EventKind::Fail)
 }
 
-// What an event of this kind leaves.
+// The step that an event of this kind leaves.
 fn step_left(left: &Kept, kind: EventKind) -> Step
     ensures { IsStepLeft left.now kind result }
 {
@@ -100,11 +100,11 @@ impl WideRegister {
         is_ok(kind) && self.kept.rows.len() > self.budget as usize
     }
 
-    /// Prepares an event of an operation, and gives its answer. The id is the index of the operation's invocation, which is new if the event
-    /// is one, and else is that of an open operation; the part of an ok is the answer. Over if the event is an ok and more lean ends than the
-    /// budget stand just before it: then nothing is prepared. An invocation and an info are answered Alive, since they kill nothing. The
-    /// register stands for what it stood for until [`commit`](Self::commit); after `AllocError` no commit must follow. What was prepared before
-    /// is dropped. Takes the time of the pairs of the rows that are made.
+    /// Prepares an event of an operation, and gives its answer. The id is the index of the operation's invocation. It is new if the event
+    /// is an invocation, and else is that of an open operation; the part of an ok is the answer. Over if the event is an ok and more lean
+    /// ends than the budget stand just before it: then nothing is prepared. An invocation and an info are answered Alive, since they kill
+    /// nothing. The register keeps its meaning until [`commit`](Self::commit); after `AllocError` no commit must follow. A change that was
+    /// prepared before is dropped. Costs O(pairs of new rows).
     pub fn prepare(&mut self, id: u32, kind: EventKind, op: &Op) -> Result<Step, AllocError>
         ensures { Prepares (view_of self.old) (view_of self.new) (CountsMoreThan OfWideRegister) (object_of OfWideRegister)
             (mark_by id kind op.now) result }
@@ -129,8 +129,8 @@ impl WideRegister {
         }
     }
 
-    /// An event of an operation: [`prepare`](Self::prepare) and [`commit`](Self::commit) in one. After Over, and on `AllocError`, the register
-    /// stands for what it stood for.
+    /// An event of an operation: [`prepare`](Self::prepare) and [`commit`](Self::commit) in one. After Over, and on `AllocError`, the
+    /// register keeps its meaning.
     pub fn observe(&mut self, id: u32, kind: EventKind, op: &Op) -> Result<Step, AllocError>
         ensures { Observes (view_of self.old) (view_of self.new) (CountsMoreThan OfWideRegister) (object_of OfWideRegister)
             (mark_by id kind op.now) result }
@@ -140,7 +140,7 @@ impl WideRegister {
         Ok(step)
     }
 
-    /// An equal one; nothing is prepared of it. Takes the time of the operations and rows.
+    /// An equal one; nothing is prepared of it. Costs O(operations + rows).
     pub fn copy(&self) -> Result<Self, AllocError>
         ensures { IfOk result (λ w. IsCopy (view_of self.now) (view_of w)) }
     {

@@ -1,4 +1,4 @@
-//! What is kept of the history of a register.
+//! The kept part of the history of a register.
 ghost use Rattle.std.specs.Prelude.{◌≡◌, ◌≢◌, ◌↔◌, ◌⊎◌, ◌+◌, [], List, map, IfOk, IsTrue, OnOk};
 ghost use Rattle.std.specs.List.{Contains, filter};
 ghost use Rattle.events.specs.Events.{act_by, mark_by_act};
@@ -14,7 +14,7 @@ use events::EventKind;
 use models::Op;
 use std::alloc::{AllocError, Global};
 
-/// What is kept of a history: how many marks it has, the operations that may still take place, and the lean ends.
+/// The kept part of a history: the number of its marks, the operations that may still take place, and the lean ends.
 #[derive(Drop)]
 pub struct Kept {
     pub moment: u64,
@@ -83,7 +83,7 @@ fn calls_crashed(alloc: Global, calls: &[Call], id: u32) -> Result<Vec<Call>, Al
 }
 
 impl Kept {
-    /// Of a history without events. Takes constant time.
+    /// The kept part of a history without events. Takes constant time.
     pub fn start(alloc: Global) -> Result<Kept, AllocError>
         ensures { IfOk result (λ k. AreFacts k []) }
     {
@@ -96,7 +96,7 @@ impl Kept {
         })
     }
 
-    /// The same again. Takes the time of the operations and rows.
+    /// The same again. Costs O(operations + rows).
     pub fn copy(&self, alloc: Global) -> Result<Kept, AllocError>
         ensures { IfOk result (AreSame self.now) }
     {
@@ -162,7 +162,7 @@ impl Kept {
         Ok(left)
     }
 
-    /// What is kept after the event of an operation. The id is that of the operation, and the part of an ok is the answer.
+    /// The kept part after the event of an operation. The id is that of the operation, and the part of an ok is the answer.
     pub fn after(
         &self,
         alloc: Global,

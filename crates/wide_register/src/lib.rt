@@ -1,7 +1,7 @@
-//! The history of one register, judged as its events come, by its lean ends: a write that is open or has timed out is among the operations
-//! of an end only if an answer needs it.
+//! The history of one register, judged as its events come, by its lean ends. An end has a write that is open or has timed out only if an
+//! answer needs it.
 //!
-//! A call takes memory only where its result can be `AllocError`.
+//! A call takes memory only if its result can be `AllocError`.
 #![tactic(auto)]
 
 mod calls;

@@ -1,4 +1,4 @@
-//! What an event makes of a row.
+//! The effect of an event on a row.
 ghost use Rattle.std.specs.Prelude.{◌≡◌, ◌≤◌, ◌↔◌, ◌⊎◌, [], ◌∷◌, Some, IfOk, IsTrue, OnOk, length};
 ghost use Rattle.std.specs.List.{Contains};
 ghost use Rattle.models.specs.Objects.{answer_of};
@@ -14,7 +14,7 @@ use events::EventKind;
 use models::{Op, Part};
 use std::alloc::{AllocError, Global};
 
-/// What an event makes of each row.
+/// The effect of an event on each row.
 #[derive(Clone, Copy)]
 pub enum Deed {
     /// It stays.
@@ -33,7 +33,7 @@ pub enum Deed {
     Dies,
 }
 
-// What an invocation makes of each row.
+// The effect of an invocation on each row.
 fn deed_of_invoke(calls: &[Call], id: u32, op: &Op) -> Deed
     ensures { IsDeed calls.now (Invoked id op.now) result }
 {
@@ -43,7 +43,7 @@ fn deed_of_invoke(calls: &[Call], id: u32, op: &Op) -> Deed
     }
 }
 
-// What the answer of a read makes of each row.
+// The effect of the answer of a read on each row.
 fn deed_of_answer(read: Call, part: &Part) -> Deed
     ensures { IsDeedOfAnswer read (answer_of part.now) result }
 {
@@ -54,7 +54,7 @@ fn deed_of_answer(read: Call, part: &Part) -> Deed
     }
 }
 
-// What an ok makes of each row.
+// The effect of an ok on each row.
 fn deed_of_ok(calls: &[Call], id: u32, part: &Part) -> Deed
     ensures { IsDeed calls.now (Returned id (answer_of part.now)) result }
 {
@@ -67,7 +67,7 @@ fn deed_of_ok(calls: &[Call], id: u32, part: &Part) -> Deed
     }
 }
 
-// What an info makes of each row.
+// The effect of an info on each row.
 fn deed_of_info(calls: &[Call], id: u32) -> Deed
     ensures { IsDeed calls.now (Crashed id) result }
 {
@@ -80,7 +80,7 @@ fn deed_of_info(calls: &[Call], id: u32) -> Deed
     }
 }
 
-/// What an event of an operation makes of each row. The id is that of the operation, and the part of an ok is the answer.
+/// The effect of an event of an operation on each row. The id is that of the operation, and the part of an ok is the answer.
 pub fn deed_of(calls: &[Call], id: u32, kind: EventKind, op: &Op) -> Deed
     ensures { IsDeed calls.now (mark_by_act id id (act_by kind op.now)) result }
 {
@@ -234,7 +234,7 @@ fn end_read(
     Ok(written)
 }
 
-/// The rows that the event makes of the row. Takes the time of the operations, each with what the row finds.
+/// The rows that the event makes of the row. Costs O(operations), each with the values that the row finds.
 pub fn next_rows(
     alloc: Global,
     row: &Row,
@@ -297,7 +297,7 @@ fn writes_of(calls: &[Call], value: i64) -> u64
     many
 }
 
-/// How many operations an event tries at each row. Takes the time of the operations.
+/// How many operations an event tries at each row. Costs O(operations).
 pub fn tries_of(calls: &[Call], deed: &Deed) -> u64
     ensures { AreTries calls.now deed.now result }
 {

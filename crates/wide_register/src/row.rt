@@ -31,7 +31,7 @@ pub fn has_id(ids: &[u32], id: u32) -> bool
     ids.contains(&id)
 }
 
-// Whether the read may find the value. Takes the time of what is found.
+// Whether the read may find the value. Costs O(finds).
 pub fn has_found(finds: &[Found], found: Found) -> bool
     ensures { IsTrue result ↔ Contains finds.now found }
 {
@@ -45,7 +45,7 @@ fn may_find(call: &Call, gap: u64) -> bool
     matches!(call.what, What::Reads) && call.since < gap
 }
 
-// The read may find the value, too. Takes the time of what is found.
+// The read may find the value, too. Costs O(finds).
 fn note(finds: &mut Vec<Found>, found: Found) -> Result<(), AllocError>
     ensures { OnOk result ((f : Found) → Contains finds.new.items f ↔ (Contains finds.old.items f ⊎ (found ≡ f))) }
 {
@@ -55,7 +55,7 @@ fn note(finds: &mut Vec<Found>, found: Found) -> Result<(), AllocError>
     Ok(())
 }
 
-// Each open read that was invoked before the gap may find the value. Takes the time of the operations and of what is found.
+// Each open read that was invoked before the gap may find the value. Costs O(operations + finds).
 fn find_value(
     finds: &mut Vec<Found>,
     calls: &[Call],
@@ -92,7 +92,7 @@ impl Row {
         }
     }
 
-    /// The same again. Takes the time of its lists.
+    /// The same again. Costs O(its lists).
     pub fn copy(&self) -> Result<Row, AllocError>
         ensures { IfOk result (IsSame self.now) }
     {
@@ -119,7 +119,7 @@ impl Row {
         self.finds.retain(|found| found.read != id);
     }
 
-    /// The row without the operation. Takes the time of its lists.
+    /// The row without the operation. Costs O(its lists).
     pub fn without(&self, id: u32) -> Result<Row, AllocError>
         ensures { IfOk result (IsWithoutId id self.now) }
     {
@@ -128,7 +128,7 @@ impl Row {
         Ok(row)
     }
 
-    /// The row as the read begins, which may find the state. Takes the time of its lists.
+    /// The row as the read begins, which may find the state. Costs O(its lists).
     pub fn with_read(&self, id: u32) -> Result<Row, AllocError>
         ensures { IfOk result (IsBegun id self.now) }
     {
@@ -139,8 +139,8 @@ impl Row {
         Ok(row)
     }
 
-    /// The row as the write takes place at this gap, and leaves this state behind all, without the operation that is done by it.
-    /// Takes the time of its lists and of the operations, each with what is found.
+    /// The row as the write takes place at this gap, and leaves this state behind all, without the operation that is done by it. Costs
+    /// O(its lists + operations), each with the finds.
     pub fn put(
         &self,
         calls: &[Call],

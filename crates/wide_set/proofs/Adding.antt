@@ -67,7 +67,7 @@ module _ (ms : List Mark) (m : Mark) (well : AreWellFormed (ms ++ m ∷ [])) (be
     }
 
 module _ (f : Facts) (ms : List Mark) (facts : AreFacts f ms) (id : ℕ) (v : ℤ) (own : IsAddOf ms id v) where
-  -- what is logged of an add of the value
+  -- the log entry of an add of the value
   abbrev pub as_logged : ℕ → Option ℕ → Added
   as_logged since by = record { value = v; since = since; by = by }
 

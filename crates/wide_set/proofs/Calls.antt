@@ -1,4 +1,4 @@
--- operations by what they do
+-- operations by their effects
 use Rattle.std.proofs.Common.{◌≡◌, ◌≢◌, ℕ, ◌≤◌, ℤ, ◌⊎◌, inl, inr, ⊎_elim, Option, Some, None, List, refl, sym, ap, ◌∙◌, subst, arith}
 use Rattle.std.specs.List.{Contains}
 use Rattle.models.specs.declared.operation.Name.{Name}
@@ -63,7 +63,7 @@ module _ (f : Facts) (ms : List Mark) (facts : AreFacts f ms) where
   pub call_of_add : (p : Pending) (h : Contains f.pending p) (v : ℤ) → IsAddOf ms p.id v → p.call ≡ calls.Add v
   call_of_add p h v a = sym (same_call p h a.0 a.1) ∙ by_adds a.0 v a.2
 
-  -- what can no longer fail has not failed, and is not open
+  -- an operation that can no longer fail has not failed, and is not open
   pub not_failed : (id : ℕ) → CannotFail ms id → ¬ Contains ms (Failed id)
   not_failed id c failed = ⊎_elim
       (λ r. returned_not_failed ms well id r.0 r.1 failed)

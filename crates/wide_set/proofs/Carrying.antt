@@ -1,4 +1,4 @@
--- what is known stays known with one more mark, apart from what that mark says
+-- known facts stay with one more mark, apart from the facts of that mark
 use Rattle.std.proofs.Common.{◌≡◌, ◌≢◌, ℕ, ◌≤◌, ℤ, ◌⊎◌, inl, inr, ⊎_elim, Option, Some, None, List, [], ◌∷◌, ◌++◌, length, refl, sym, ap, ◌∙◌, subst, append_assoc, nat_eq, not, true}
 use Rattle.std.specs.List.{Contains, filter}
 use Rattle.std.proofs.lemmas.List.Elements.{Contains-append_left, Contains-push, Contains-push_cases}
@@ -29,7 +29,7 @@ is_not_same a b ne = ap not (ne_eqb a b ne)
 pub same_or_not : (a b : ℕ) → (a ≡ b) ⊎ (a ≢ b)
 same_or_not a b = ⊎_elim (λ e. inl (eqb-true a b e)) (λ e. inr (λ same. true≢false (sym (eq-eqb a b same) ∙ e))) (cases_Bool (nat_eq a b))
 
--- what is logged of an add
+-- the log entry of an add
 abbrev pub IsLogged : List Mark → Added → Type 0
 IsLogged marks a = (id : ℕ) × (op : Op) × IsAddOf marks id a.value × StandsAt marks a.since (Invoked id op) × IsSettledBy marks id a.by
 
@@ -92,7 +92,7 @@ module _ (ms : List Mark) (m : Mark) (well : AreWellFormed (ms ++ m ∷ [])) whe
         (stands_cases ms m n (Returned id answer) s);
   }
 
-  -- what reads have answered
+  -- the answers of reads
   pub answers_carried : (base : List ℤ) (answers more : List Answered) → ((a : Answered) → Contains answers a → Contains more a)
       → ((a : Answered) → Contains more a → Contains answers a ⊎ ((id : ℕ) × HasRead longer id a.members × StandsAt longer a.by (Returned id (Many a.members))))
       → ((id n : ℕ) (members : List ℤ) → HasRead longer id members → m ≡ Returned id (Many members) → n ≡ length ms → (a : Answered) × Contains more a × (a.members ≡ members) × (a.by ≤ n))

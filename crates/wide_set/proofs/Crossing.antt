@@ -1,4 +1,4 @@
--- A judged set may go to another thread, and threads may share one.
+-- A judged set can be sent to another thread, and threads may share one.
 use denote.Param.Send.{IsSend, IsSync, sendable}
 use Rattle.std.proofs.Crossing.{crosses}
 use Rattle.persistent.proofs.tree.Tree.TheLaws.TheKnot as tree

@@ -21,7 +21,7 @@ module _ (f : Facts) (ms : List Mark) (facts : AreFacts f ms) (p : Pending) (h :
   is_open : IsOpen ms p.id
   is_open = (facts.pending.is p h).0
 
-  -- what puts no value in may always fail
+  -- an operation that puts no value in may always fail
   pub others_may_fail : ((v : ℤ) → p.call ≢ calls.Add v) → MayFail ms p.id
   others_may_fail no' read members v other r i a comes = absurd (no' v (call_of_add f ms facts p h v a))
 

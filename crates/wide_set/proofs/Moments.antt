@@ -59,7 +59,7 @@ stands_cases ms x n m s = ⊎_elim
     (last_or_before ms x m s.before s.after k.0 k.1 k.2))
     (snoc_cut s.before (m ∷ s.after) ms x s.cut)
 
--- what stands earlier is before
+-- an earlier mark is before a later one
 pub before_it : (ms : List Mark) (n k : ℕ) (m x : Mark) (s : StandsAt ms n m) (u : StandsAt ms k x) → n < k → Contains u.before m
 before_it ms n k m x s u lt = ⊎_elim
     (λ (f : IsFront u.before (s.before ++ m ∷ [])). whole f.0 f.1)

@@ -14,7 +14,7 @@ use Rattle.wide_set.specs.declared.known.Answered.{Answered}
 use Rattle.wide_set.specs.Facts.{Nests, AreNested, IsInChain, IsPlace}
 use Rattle.wide_set.specs.Queries.{HasBefore}
 
--- what is read from a place on
+-- the part that is read from a place on
 pub rest : (xs : List Answered) (at : ℕ) → take (length xs - at) (drop at xs) ≡ drop at xs
 rest xs at = take_all (length xs - at) (drop at xs) (omega (arith, length-drop at xs))
 

@@ -1,4 +1,4 @@
--- what an event is answered
+-- the answer to an event
 use Rattle.std.proofs.Common.{◌≡◌, ◌≢◌, ◌↔◌, ℕ, ◌⊎◌, inl, inr, ⊎_elim, Bool, false, not, Some, List, [], ◌∷◌, ◌++◌, IsTrue, refl, sym, ap}
 use Rattle.std.proofs.lemmas.Bool.{true≢false}
 use Rattle.models.specs.declared.operation.Op.{Op}
@@ -52,7 +52,7 @@ module _ (f : Facts) (ms : List Mark) (facts : AreFacts f ms) (change : Change) 
       (λ a. not_dead a.0)
       (dead_or_alive change f (ms ++ Crashed id ∷ []) h)
 
--- what is dead stays so
+-- a dead history stays dead
 no_more : (ms : List Mark) (m : Mark) → IsDead ms → MayFollow ms m → IsTrue false ↔ IsLinearizable set_of_numbers (ms ++ m ∷ [])
 no_more ms m dead may = ((λ t. absurd (true≢false (sym t))), (λ l. absurd ((still_dead ms m dead may).1 l)))
 

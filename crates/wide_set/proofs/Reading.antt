@@ -24,7 +24,7 @@ use Rattle.wide_set.proofs.Moments.{stands_below, stands_last}
 use Rattle.wide_set.proofs.Carrying.{kept, logged_carried, answers_carried, pending_without, still_based}
 use Rattle.wide_set.proofs.Events.{one_more, settled_invoked}
 
--- what is in the chain with one more
+-- the chain with one more answer
 module _ (answers : List Answered) (at : ℕ) (new : Answered) where
   whole : take at answers ++ drop at answers ≡ answers
   whole = take-append-drop at answers

@@ -1,4 +1,4 @@
--- what searches of lists say
+-- the results of searches of lists
 use Rattle.std.proofs.Common.{◌≡◌, ◌≢◌, ◌↔◌, ℕ, suc, ◌+◌, ◌-◌, ◌≤◌, ◌<◌, ℤ, ◌⊎◌, inl, inr, ⊎_elim, Option, Some, None, Ok, Err, Result, List, [], ◌∷◌, ◌++◌, length, take, drop, get_or, min, IsTrue, refl, sym, ap, ◌∙◌, subst, arith, length-append, length-drop, IfSome}
 use Rattle.std.specs.List.{Contains, insert}
 use Rattle.std.specs.Result.{is_ok}

@@ -1,4 +1,4 @@
--- what a judged set answers, in the words of every judge
+-- the answers of a judged set, in the words of every judge
 use Rattle.std.proofs.Common.{◌≡◌, ◌≢◌, ℕ, Bool, true, false, List, refl, sym, arith}
 use Rattle.std.proofs.lemmas.Bool.{true≢false}
 use Rattle.models.specs.declared.operation.Op.{Op}

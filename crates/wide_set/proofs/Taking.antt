@@ -1,4 +1,4 @@
--- what each event makes of the facts
+-- the effect of each event on the facts
 use Rattle.std.proofs.Common.{◌≡◌, ◌≢◌, ℕ, ℤ, ⊎_elim, Option, Some, None, List, [], ◌∷◌, ◌++◌, sym, ◌∙◌, subst}
 use Rattle.std.specs.List.{Contains}
 use Rattle.std.proofs.lemmas.List.Elements.{Contains-push}
@@ -55,7 +55,7 @@ module _ (f : Facts) where
   pub invoked : (id : ℕ) (op : Op) (p : Pending) → p.id ≡ id → p.since ≡ f.now → call_by op.name op.part ≡ p.call → IsTakenBy f (Invoked id op) (Invokes p)
   invoked id op p e g h ms facts may = after_invoke f ms facts id op (well_more ms _ facts.well may) p e g h
 
-  -- what is pending is open
+  -- a pending operation is open
   pub not_pending : (id : ℕ) (m : Mark) (change : Change) → ((ms : List Mark) → MayFollow ms m → IsOpen ms id) → ((p : Pending) → Contains f.pending p → p.id ≢ id) → IsTakenBy f m change
   not_pending id m change opens none ms facts may = let p = facts.pending.all id (opens ms may) in absurd (none p.0 p.1 p.2)
 

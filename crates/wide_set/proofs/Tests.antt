@@ -1,4 +1,4 @@
--- what tests say
+-- the meaning of tests
 use Rattle.std.proofs.Common.{◌≡◌, ◌≢◌, Bool, true, false, not, refl, sym}
 use Rattle.std.proofs.lemmas.Bool.{true≢false}
 

@@ -1,4 +1,4 @@
--- Invariant: what is kept of the history of a set, where the moment of a mark is how many marks come before it
+-- Invariant: the kept facts of the history of a set, where the moment of a mark is the number of marks before it
 use Rattle.std.specs.Prelude.{◌≡◌, ◌≢◌, ℕ, ◌+◌, ◌<◌, ◌≤◌, ℤ, ◌⊎◌, Bool, not, nat_eq, Option, Some, None, List, [], ◌∷◌, ◌++◌, length, take, drop}
 use Rattle.std.specs.List.{Contains, filter, insert}
 use Rattle.models.specs.declared.operation.Name.{Name}
@@ -22,7 +22,7 @@ use Rattle.wide_set.specs.declared.known.Answered.{Answered}
 use Rattle.wide_set.specs.declared.known.Known.{Known}
 use Rattle.wide_set.specs.declared.log.Added.{Added}
 
--- what an operation does to a set
+-- the effect of an operation on a set
 abbrev pub call_by : Name → Part → Call
 call_by Add (Int v) = calls.Add v
 call_by Read Nil = calls.Read
@@ -62,7 +62,7 @@ pub record AreLogged (log : List Added) (base : List ℤ) (marks : List Mark) : 
       → StandsAt marks moment (Returned id answer)
       → (a : Added) × (by : ℕ) × Contains log a × (a.value ≡ v) × (a.by ≡ Some by) × (by ≤ moment)
 
--- what reads have answered, each with its least return, apart from answers within the base
+-- the answers of reads, each with its least return, apart from answers within the base
 pub record AreAnswers (base : List ℤ) (answers : List Answered) (marks : List Mark) : Type 0 where
   pub is : (a : Answered) → Contains answers a
       → (id : ℕ) × HasRead marks id a.members × StandsAt marks a.by (Returned id (Many a.members))
@@ -78,7 +78,7 @@ pub record AreNested (answers : List Answered) : Type 0 where
   pub ascending : (a : Answered) → Contains answers a → IsAscending a.members
   pub nested : Pairwise Nests answers
 
--- what is known, apart from how it is kept
+-- the known facts, apart from how they are kept
 pub record Facts : Type 0 where
   pub now : ℕ
   pub pending : List Pending
@@ -143,7 +143,7 @@ pub record IsInChain (answers : List Answered) (since : ℕ) (members : List ℤ
 abbrev pub IsDoneBeyond : List Added → List ℤ → Added → ℕ → Type 0
 IsDoneBeyond log members a moment = Contains log a × (a.by ≡ Some moment) × (¬ Contains members a.value)
 
--- the members of an answer were added in time, where the read was invoked at this moment
+-- the members of an answer were added in time, if the read was invoked at this moment
 pub record WereAdded (f : Facts) (but since : ℕ) (members : List ℤ) : Type 0 where
   pub has_add : (v : ℤ) → Contains members v → ¬ Contains f.base v → (moment : ℕ) × HasAdd f but v moment
   pub in_time : (v : ℤ) (a : Added) (by : ℕ) → Contains members v → ¬ Contains f.base v
@@ -194,7 +194,7 @@ with_logged id a f = record {
   answers = f.answers;
 }
 
--- a read has answered what none before it did, which stands at this place of the chain
+-- a read has a new answer, at this place of the chain
 abbrev pub with_answer : ℕ → ℕ → Answered → Facts → Facts
 with_answer id at a f = record {
   now = f.now + 1;

@@ -1,4 +1,4 @@
--- Invariant: what an event is answered, and what is prepared of it
+-- Invariant: the answer to an event, and its prepared change
 use Rattle.std.specs.Prelude.{◌↔◌, Bool, true, false, IsTrue, Option, Some, None, List, [], ◌∷◌, ◌++◌, Result, IfOk}
 use Rattle.std.specs.declared.alloc.AllocError.{AllocError}
 use Rattle.models.specs.Objects.{set_of_numbers}
@@ -29,7 +29,7 @@ IsAlive marks (Failed id) alive = IsTrue alive ↔ IsLinearizable set_of_numbers
 IsAlive marks (Invoked id op) alive = IsTrue alive
 IsAlive marks (Crashed id) alive = IsTrue alive
 
--- what is prepared, or where nothing is, what is due
+-- the prepared change, or if there is none, the due one
 abbrev pub next_of : Option Change → Option Change → Option Change
 next_of None due = due
 next_of (Some change) due = Some change

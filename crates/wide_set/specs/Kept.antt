@@ -30,7 +30,7 @@ StandAfter (Leaves id) f marks = AreFacts (without id f) marks
 StandAfter (Logs id a) f marks = AreFacts (with_logged id a f) marks
 StandAfter (Answers id at a) f marks = AreFacts (with_answer id at a f) marks
 
--- the same, where a change may be due
+-- the same, if a change may be due
 abbrev pub StandBy : Option Change → Facts → List Mark → Type 0
 StandBy None f marks = AreFacts f marks
 StandBy (Some change) f marks = StandAfter change f marks
@@ -40,7 +40,7 @@ abbrev pub IsTakenBy : Facts → Mark → Change → Type 0
 IsTakenBy f mark change =
     (marks : List Mark) → AreFacts f marks → MayFollow marks mark → StandAfter change f (marks ++ mark ∷ [])
 
--- what an add of this value makes of the facts, which is done by this moment or has crashed: nothing is logged of a value in the base
+-- the effect on the facts of an add of this value, which is done by this moment or has crashed: a value in the base is not logged
 abbrev pub IsAfterAdd : Facts → Pending → ℤ → Option ℕ → Change → Type 0
 IsAfterAdd f p v by change =
     ((change ≡ Leaves p.id) × Contains f.base v)

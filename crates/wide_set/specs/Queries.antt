@@ -1,4 +1,4 @@
--- Invariant: what is asked of the facts
+-- Invariant: the questions about the facts
 use Rattle.std.specs.Prelude.{◌≡◌, ◌≢◌, ℕ, ◌<◌, ◌≤◌, ℤ, ◌⊎◌, Option, Some, None, List, [], ◌∷◌, ◌++◌, get_or, length, min}
 use Rattle.std.specs.List.{Contains}
 use Rattle.wide_set.specs.declared.known.Answered.{Answered}

@@ -9,8 +9,8 @@ use crate::queries::{last_before, oldest};
 use std::alloc::AllocError;
 
 impl Known {
-    // Takes the greatest answer that came before each open operation as the base, if it has more than the base, and tells whether it
-    // has. Forgets the answers within it.
+    // Takes the greatest answer that came before each open operation as the base, if it has more than the base, and returns whether it has.
+    // Forgets the answers within it.
     fn raise_base(&mut self) -> Result<bool, AllocError>
         ensures { IsKept (facts_of self.old) (facts_of self.new) }
     {

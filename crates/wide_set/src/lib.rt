@@ -1,6 +1,6 @@
 //! Judges the history of one set as its events come, without ends: by the answers of its reads, and their moments.
 //!
-//! A call takes memory only where its result can be `AllocError`.
+//! A call takes memory only if its result can be `AllocError`.
 #![tactic(auto)]
 
 mod change;

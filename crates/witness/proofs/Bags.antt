@@ -83,7 +83,7 @@ length_remove [] at fits = absurd (omega arith)
 length_remove (x ∷ xs) zero fits = refl
 length_remove (x ∷ xs) (suc at) fits = ap suc (length_remove xs at (omega arith))
 
--- what is in is counted
+-- a value that is in is counted
 pub in_if_counted : (v : ℤ) (s : List ℤ) → 0 < times_in v s → Contains s v
 in_if_counted v [] h = absurd (omega arith)
 in_if_counted v (x ∷ xs) h =

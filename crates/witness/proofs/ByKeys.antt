@@ -106,14 +106,14 @@ module _ (sorted : List Stand) (k start end : ℕ) (lt : start < end) (within : 
       ∙ ap (λ l. take (end - start) (drop start sorted) ++ l) (filter-none p (drop (end - start) (drop start sorted)) in_rest)
       ∙ append-nil (take (end - start) (drop start sorted)))
 
--- what is there stays there
+-- a run that is there stays there
 pub run_there : (events : List Event) (stands sorted : List Stand) (n m : ℕ) → AreByKeys stands sorted → AreThere events stands → AreThere events (take m (drop n sorted))
 run_there events stands sorted n m by there s h =
     let later : Contains (drop n sorted) s = subst (λ l. Contains l s) (take-append-drop m (drop n sorted)) (Contains-append_left (take m (drop n sorted)) (drop m (drop n sorted)) s h) in
     let in_sorted : Contains sorted s = subst (λ l. Contains l s) (take-append-drop n sorted) (Contains-append_right (take n sorted) (drop n sorted) s later) in
     there s (from_filter (λ (x : Stand). nat_eq x.key s.key) stands s (subst (λ l. Contains l s) (by.same s.key) (to_filter (λ (x : Stand). nat_eq x.key s.key) sorted s in_sorted (eq-eqb s.key s.key refl)))).0
 
--- what holds of the keys before a place, and of the key that stands behind it, holds of the keys before its end
+-- a fact about the keys before a place, and about the key behind it, holds for the keys before its end
 below : (P : ℕ → Type 0) (sorted : List Stand) (k start end : ℕ) → ((i : ℕ) (d : Stand) → start ≤ i → i < end → (get_or sorted i d).key ≡ k) → ((i : ℕ) (d : Stand) → i < start → P (get_or sorted i d).key)
     → P k → (i : ℕ) (d : Stand) → i < end → P (get_or sorted i d).key
 below P sorted k start end same before now i d l =
@@ -138,7 +138,7 @@ of_each P sorted n all empty each key = by_case (on_key key sorted) refl
         let is : (get_or sorted i.0 s).key ≡ key = ap (λ (x : Stand). x.key) i.2 ∙ eqb-true s.key key there.1 in
         subst P e (subst (λ j. P (on_key j sorted)) is (each i.0 s within))
 
--- what is no later than one is no later than what that one is no later than
+-- a place that is at most a second one, which is at most a third one, is at most the third one
 no_later : (o : Option Unfit) (a b : ℕ) → a ≤ b → IfSome o (λ (other : Unfit). b ≤ other.place) → IfSome o (λ (other : Unfit). a ≤ other.place)
 no_later None a b le h = tt
 no_later (Some other) a b le h = omega (arith, le, h)
@@ -151,7 +151,7 @@ module _ (kind : ModelKind) (events : List Event) (fates : List Fate) where
   nothing_fits = record { in_time = tt; can_run = record { calls = []; are = tt; can_run = tt } }
 
   module _ (found : Option Unfit) (sorted : List Stand) where
-    -- what was found is no later than that of a key which is no later than it
+    -- the found place is at most that of a key that is at most it
     found_later : (start : ℕ) (first : Option Unfit) (u : Unfit) → FindsUpTo kind events fates found sorted start first → IfSome first (λ (other : Unfit). u.place ≤ other.place) → IfSome found (λ (other : Unfit). u.place ≤ other.place)
     found_later start None u so_far le = subst (λ o. IfSome o (λ (other : Unfit). u.place ≤ other.place)) (sym so_far.0) tt
     found_later start (Some v) u so_far le = no_later found u.place v.place le so_far.0.later

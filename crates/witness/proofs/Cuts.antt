@@ -22,7 +22,7 @@ key_cut events key xs place id at of =
     ∙ sym (filter-append (λ i. is_of key (slice_get events i)) (take place xs) (id ∷ drop (place + 1) xs))
     ∙ ap (among events key) (cut_there xs place id at)
 
--- what stands at a place or behind it is among the rest
+-- an element at a place or behind it is among the rest
 pub in_rest : {X : Type 0} (xs : List X) (n place : ℕ) (x : X) → n ≤ place → slice_get xs place ≡ Some x → Contains (drop n xs) x
 in_rest xs n place x le at = (
   place - n,
@@ -45,7 +45,7 @@ one_cut (y ∷ a) b (z ∷ c) d x once e =
     let rest : a ≡ c = one_cut a b c d x once.1 tail in
     ap (λ l. y ∷ l) rest ∙ ap (λ h. h ∷ c) head
 
--- of two cuts of one list the front of one is a front of the other, where the other's element is not in it
+-- if one list is cut twice, and the second cut's element is not in the first cut's prefix, then that prefix is a prefix of the second one
 pub front_of : {X : Type 0} (a b c d : List X) (x y : X) → a ++ x ∷ b ≡ c ++ y ∷ d → ¬ Contains (a ++ x ∷ []) y → IsFront (a ++ x ∷ []) c
 front_of [] b [] d x y e out = (let head : x ≡ y = cc in absurd (out (subst (Contains (x ∷ [])) head (Contains-head x []))))
 front_of [] b (z ∷ c) d x y e out = (let head : x ≡ z = cc in (c, ap (λ h. h ∷ c) head))

@@ -19,7 +19,7 @@ use Rattle.witness.specs.Orders.{is_of}
 use Rattle.witness.specs.Fates.{op_in, op_at, answer_at}
 use Rattle.witness.specs.Placing.{key_at}
 
--- what an event that speaks of an operation is
+-- the facts about an event that speaks of an operation
 pub record Speaks (kind : EventKind) (process : Process) (body : Body) (o : OpEvent) : Type 0 where
   pub client : ℕ
   pub op : Op

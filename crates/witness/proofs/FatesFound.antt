@@ -1,4 +1,4 @@
--- what became of operations, after one event more
+-- the fates of operations, after one event more
 use Rattle.std.proofs.Common.{◌≡◌, ℕ, zero, suc, ◌+◌, ◌<◌, cond, Option, Some, None, option_map, List, [], ◌∷◌, ◌++◌, length, take, get_or, set, get_or-set_same, get_or-set_other, refl, sym, ap, ◌∙◌, subst, ⊎_elim, arith}
 use Rattle.std.proofs.lemmas.Bool.{cases_eq, eq-eqb, ne_eqb}
 use Rattle.std.proofs.lemmas.List.{take_more, length-take-le}
@@ -89,7 +89,7 @@ some_of : {X Y : Type 0} (f : X → Y) (x : Option X) (y : Y) → Some y ≡ opt
 some_of f None y e = cc
 some_of f (Some o) y e = (o, refl, (let t : y ≡ f o = cc in sym t))
 
--- what is noted of an event of a client
+-- the notes about an event of a client
 pub record IsNotedBy (event : Event) (at : ℕ) (last : ℕ → ℕ) (target : ℕ) : Type 0 where
   pub says : OpEvent
   pub said : op_event event ≡ Some says

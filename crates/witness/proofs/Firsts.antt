@@ -1,4 +1,4 @@
--- nothing that does not fit stands before what is told
+-- nothing that does not fit comes before the reported place
 use Rattle.std.proofs.Common.{◌≡◌, ◌≢◌, ℕ, ◌+◌, ◌<◌, ◌≤◌, ⊎_elim, true, nat_eq, Option, Some, None, MatchOption, IfSome, List, [], ◌∷◌, ◌++◌, length, take, drop, get_or, slice_get, refl, sym, ap, ◌∙◌, subst, append_assoc, arith}
 use Rattle.std.specs.List.{Contains}
 use Rattle.std.proofs.lemmas.Bool.{cases_order}
@@ -46,7 +46,7 @@ calls_cut events fates (i ∷ before) id after (c ∷ calls) are =
     let r = calls_cut events fates before id after calls are.1 in
     record { first = c ∷ r.first; call = r.call; rest = r.rest; cut = ap (λ l. c ∷ l) r.cut; are = (are.0, r.are); is = r.is }
 
--- what stands in an order is within it
+-- a place in an order is within it
 place_within : (kind : ModelKind) (events : List Event) (order : List ℕ) (place id : ℕ) (why : Misfit) → IsMisfit kind events order place id why → place ≤ length order
 place_within kind events order place id NoEvent m = (let l = slice_get_within order place id m.0 in omega (arith, l))
 place_within kind events order place id NoInvocation m = (let l = slice_get_within order place id m.0 in omega (arith, l))

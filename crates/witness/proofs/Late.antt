@@ -133,7 +133,7 @@ module _ (kind : ModelKind) (events : List Event) (fates : List Fate) (stands : 
         unfit_for = subst (IsUnfitFor kind events fates (ids_of k.front) k.here.id) (sym b.2) (halts_for kind events fates (ids_of k.front) k.here.id h.before h.call why k.are k.is (after_none fates k.front k.here k.rest stands k.cut in_time) h.halts);
       }
 
-  -- what is unfit among the first is so among all
+  -- an operation that is unfit among the first is so among all
   pub unfit_in_all : (n : ℕ) (u : Unfit) → KeyUnfit kind events fates (take n stands) u → KeyUnfit kind events fates stands u
   unfit_in_all n u k = record {
     before = k.before;

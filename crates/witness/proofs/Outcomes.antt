@@ -78,7 +78,7 @@ module _ (kind : ModelKind) (s : (object_of kind).State) (c : Call) where
     pub one_unfit : ¬ FitsIf x.1 c.answer → ¬ CanRun (object_of kind) (c ∷ []) s
     one_unfit unfit h = unfit (subst (λ f. FitsIf f c.answer) (no_other h.1 h.0 h.2).1 h.3)
 
--- what is made of the last outcome
+-- the result of the last outcome
 only_last : {X : Type 0} (front : List X) (x : X) → length (front ++ x ∷ []) ≤ 1 → front ++ x ∷ [] ≡ x ∷ []
 only_last [] x h = refl
 only_last (y ∷ front) x h = let l = length-append front (x ∷ []) in absurd (omega (arith, l))

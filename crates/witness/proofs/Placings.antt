@@ -22,7 +22,7 @@ stands_push events n (i ∷ ids) id =
     ap (λ l. record { key = key_at (slice_get events i); place = n; id = i } ∷ l)
     (stands_push events (n + 1) ids id ∙ ap (λ p. stands_from events (n + 1) ids ++ record { key = key_at (slice_get events id); place = p; id = id } ∷ []) (let t : n + 1 + length ids ≡ n + length (i ∷ ids) = omega arith in t))
 
--- what is placed so far
+-- the operations placed so far
 pub record ArePlacedUpTo (events : List Event) (fates : List Fate) (order : List ℕ) (place : ℕ) (taken : List Bool) (stands : List Stand) : Type 0 where
   pub long : length taken ≡ length fates
   pub marked : (id : ℕ) → (get_or taken id false ≡ true) ↔ Contains (take place order) id

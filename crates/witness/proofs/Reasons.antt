@@ -1,4 +1,4 @@
--- the reason why an order is no witness
+-- the reason why an order is not a witness
 use Rattle.std.proofs.Common.{◌≡◌, ◌≢◌, ℕ, zero, suc, ◌+◌, ◌<◌, ⊎_elim, true, nat_eq, Option, Some, None, MatchOption, List, [], ◌∷◌, ◌++◌, length, take, drop, slice_get, refl, sym, ap, ◌∙◌, subst, arith}
 use Rattle.std.specs.List.{Contains}
 use Rattle.std.proofs.lemmas.List.{map-append, take-append-le}
@@ -28,7 +28,7 @@ use Rattle.witness.proofs.Sound.{IsSound, is_there, one_key, invoked_within, may
 use Rattle.witness.proofs.OneCall.{call_one, calls_one}
 use Rattle.witness.proofs.Witnesses.{ids_on_key, is_of_there, is_call, are_calls, witness_of}
 
--- what stands at a place
+-- the element at a place
 pub get_in : {X : Type 0} (xs : List X) (k : ℕ) (x : X) → slice_get xs k ≡ Some x → Contains xs x
 get_in xs k x e = (k, slice_get_within xs k x e, get_or_from_slice_get xs k x x e)
 
@@ -74,7 +74,7 @@ module _ (events : List Event) (sound : IsSound events) (fates : List Fate) (are
       ends.each
       (λ key. subst (λ l. KeyFits kind events fates (among events key l)) all (subst (KeyFits kind events fates) (of_key key) (f.1 key)))
 
-  -- what may stand is not kept from it
+  -- an operation that may stand has no reason against it
   none_barring : (kind : ModelKind) (place id : ℕ) (other : Misfit) → rank_of other < 3 → MayStand (fate_at fates id) → ¬ IsMisfit kind events order place id other
   none_barring kind place id NoEvent lt may_be m =
       let within = invoked_within events sound id (may events sound fates are id may_be).0 in

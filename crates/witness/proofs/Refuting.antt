@@ -1,4 +1,4 @@
--- an order that has such a reason is no witness
+-- an order that has such a reason is not a witness
 use Rattle.std.proofs.Common.{◌≡◌, ◌≢◌, ℕ, ◌+◌, ◌≤◌, true, Option, Some, None, List, [], ◌∷◌, ◌++◌, length, map, take, drop, slice_get, refl, sym, ◌∙◌, subst, append_assoc, arith}
 use Rattle.std.specs.List.{Contains}
 use Rattle.std.proofs.lemmas.Bool.{eqb-true, eq-eqb}
@@ -28,7 +28,7 @@ use Rattle.witness.proofs.Cuts.{key_cut}
 use Rattle.witness.proofs.Sound.{entries, IsSound, IsThere, is_there, one_op, invoked_within, to_key, in_whole, key_precedes, must, returned}
 use Rattle.witness.proofs.Reasons.{get_in}
 
--- pairwise of what a function makes, the other way round
+-- pairwise for the results of a function, the other way round
 map-Pairwise : {X Y : Type 0} (f : X → Y) (R : Y → Y → Type 0) (xs : List X) → Pairwise (λ x y. R (f x) (f y)) xs → Pairwise R (map f xs)
 map-Pairwise f R [] h = tt
 map-Pairwise f R (x ∷ xs) h = ((λ y k. let z = from_map f xs y k in subst (R (f x)) z.2 (h.0 z.0 z.1)), map-Pairwise f R xs h.1)

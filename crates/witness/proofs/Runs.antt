@@ -18,7 +18,7 @@ pub CanRun-left : (o : Object) (xs ys : List Call) (s : o.State) → CanRun o (x
 CanRun-left o [] ys s h = tt
 CanRun-left o (x ∷ xs) ys s h = (h.0, h.1, h.2, h.3, CanRun-left o xs ys h.1 h.4)
 
--- what finds nothing fits
+-- an operation that finds nothing fits
 pub fits_done : (answer : Option Answer) → FitsIf Done answer
 fits_done None = tt
 fits_done (Some answer) = tt

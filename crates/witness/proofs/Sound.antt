@@ -1,4 +1,4 @@
--- what is known of a history's events, and of the fates of its operations
+-- the known facts about a history's events, and the fates of its operations
 use Rattle.std.proofs.Common.{◌≡◌, ℕ, ◌<◌, nat_eq, true, Some, List, [], ◌∷◌, length, slice_get, refl, sym, ap, ◌∙◌, subst, ⊎_elim, arith}
 use Rattle.std.specs.List.{Contains}
 use Rattle.std.proofs.lemmas.Bool.{eqb-true}
@@ -153,7 +153,7 @@ module _ (events : List Event) (sound : IsSound events) where
     known_by : (id : ℕ) (f : Fate) → fate_at fates id ≡ f → Knows (entries events) id f
     known_by id f q = subst (Knows (entries events) id) q (known id)
 
-    -- what may stand is invoked, and has not failed
+    -- an operation that may stand is invoked, and has not failed
     may_invoked : (id : ℕ) (f : Fate) → Knows (entries events) id f → MayStand f → IsInvoked (marks_in events) id × (¬ Contains (marks_in events) (Failed id))
     may_invoked id NoOperation k m = absurd m
     may_invoked id Pending k m = (k.invoked, k.not_failed)
@@ -163,7 +163,7 @@ module _ (events : List Event) (sound : IsSound events) where
     pub may : (id : ℕ) → MayStand (fate_at fates id) → IsInvoked (marks_in events) id × (¬ Contains (marks_in events) (Failed id))
     may id m = may_invoked id (fate_at fates id) (known id) m
 
-    -- what has returned must stand, and the other way round
+    -- an operation that has returned must stand, and the other way round
     must_of : (id : ℕ) (f : Fate) → Knows (entries events) id f → HasReturned (marks_in events) id → MustStand f
     must_of id NoOperation k r = absurd (k (Returned id r.0) r.1 refl)
     must_of id Pending k r = absurd (k.not_returned r)
@@ -191,7 +191,7 @@ module _ (events : List Event) (sound : IsSound events) where
           subst (λ n. answer_at (slice_get events n) ≡ Some k.answer) k.at (answer_of_return events k.entry id k.answer (entry_of events k.entry k.there) k.says),
         )
 
-    -- what is pending has no answer
+    -- a pending operation has no answer
     pub not_returned : (id : ℕ) → fate_at fates id ≡ Pending → ¬ HasReturned (marks_in events) id
     not_returned id q = (known_by id Pending q).not_returned
 

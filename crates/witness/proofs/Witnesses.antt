@@ -27,7 +27,7 @@ use Rattle.witness.specs.Placing.{MayStand, MustStand, key_at, stands_from}
 use Rattle.witness.specs.KeyOrders.{ids_of, on_key, IsBefore, answer_by, IsCallBy, AreCallsBy, KeyFits}
 use Rattle.witness.proofs.Sound.{entries, IsSound, IsThere, is_there, one_answer, its_key, to_key, in_whole, whole_precedes, may, must, returned, returned_at, not_returned, from_precedes}
 
--- pairwise of what a function makes
+-- pairwise for the results of a function
 pub Pairwise-map : {X Y : Type 0} (f : X → Y) (R : Y → Y → Type 0) (xs : List X) → Pairwise R (map f xs) → Pairwise (λ x y. R (f x) (f y)) xs
 Pairwise-map f R [] h = tt
 Pairwise-map f R (x ∷ xs) h = ((λ y k. h.0 (f y) (to_map f xs y k)), Pairwise-map f R xs h.1)

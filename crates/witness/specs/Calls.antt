@@ -7,7 +7,7 @@ use Rattle.witness.specs.declared.calls.Call.{Call}
 use Rattle.witness.specs.declared.misfit.Misfit.{Misfit}
 use Rattle.witness.specs.declared.misfit.Misfit.TheVariants.{CannotTakePlace, AnotherAnswer}
 
--- what was found fits the answer, if there is one
+-- the value that was found fits the answer, if there is one
 abbrev pub FitsIf : Found → Option Answer → Type 0
 FitsIf found None = Unit {0}
 FitsIf found (Some answer) = Fits found answer

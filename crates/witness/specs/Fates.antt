@@ -1,4 +1,4 @@
--- Invariant: what became of operations, in the order of their events
+-- Invariant: the fates of operations, in the order of their events
 use Rattle.std.specs.Prelude.{◌≡◌, ℕ, nat_eq, if◌then◌else◌, Option, Some, None, unwrap_or, option_map, List, [], ◌∷◌, length, slice_index_or}
 use Rattle.std.specs.Ordering.{nat_cmp}
 use Rattle.std.specs.BTreeMap.{BTreeMap, get}
@@ -16,7 +16,7 @@ use Rattle.linspec.specs.MarkRule.{id_of}
 use Rattle.witness.specs.declared.fates.Fate.{Fate}
 use Rattle.witness.specs.declared.fates.Fate.TheVariants.{NoOperation, Pending, Returned as ReturnedAt, Failed as HasFailed}
 
--- what a mark at this index makes of its operation
+-- the fate of an operation after a mark at this index
 abbrev pub fate_by : ℕ → Mark → Fate
 fate_by index (Invoked id op) = Pending
 fate_by index (Returned id answer) = ReturnedAt index
@@ -30,7 +30,7 @@ abbrev pub fate_from : Fate → ℕ → List Entry → Fate
 fate_from fate id [] = fate
 fate_from fate id (e ∷ entries) = fate_from (fate_after fate id e) id entries
 
--- what became of an operation by these entries
+-- the fate of an operation by these entries
 abbrev pub fate_in : List Entry → ℕ → Fate
 fate_in entries id = fate_from NoOperation id entries
 
@@ -38,12 +38,12 @@ fate_in entries id = fate_from NoOperation id entries
 abbrev pub fate_at : List Fate → ℕ → Fate
 fate_at fates id = slice_index_or fates id NoOperation
 
--- what became of each operation of the history
+-- the fate of each operation of the history
 pub record AreFates (events : List Event) (fates : List Fate) : Type 0 where
   pub long : length fates ≡ length events
   pub each : (id : ℕ) → fate_at fates id ≡ fate_in (entries_of (indexed_from 0 events)) id
 
--- the last invocation of a process, 0 where there is none
+-- the last invocation of a process, 0 if there is none
 abbrev pub last_in : BTreeMap ℕ ℕ → ℕ → ℕ
 last_in last process = unwrap_or (get nat_cmp last process) 0
 

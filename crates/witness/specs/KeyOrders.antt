@@ -29,7 +29,7 @@ IsBefore fates y x = (index : ℕ) × (fate_at fates y ≡ Returned index) × (i
 abbrev pub AreInTime : List Fate → List ℕ → Type 0
 AreInTime fates ids = Pairwise (λ x y. ¬ IsBefore fates y x) ids
 
--- the answer of an operation, by what became of it
+-- the answer of an operation, by its fate
 abbrev pub answer_by : List Event → Fate → Option Answer
 answer_by events (Returned index) = answer_at (slice_get events index)
 answer_by events _ = None
@@ -101,12 +101,12 @@ pub record FitsBefore (kind : ModelKind) (events : List Event) (fates : List Fat
   pub judged : Judges kind events fates stands first
   pub later : IfSome first (λ unfit. place ≤ unfit.place)
 
--- it was found before, or of a key; what was found before does not stand before it
+-- it was found before, or for a key; a place that was found before does not come before it
 pub record FirstFound (kind : ModelKind) (events : List Event) (fates : List Fate) (found : Option Unfit) (stands : List Stand) (unfit : Unfit) : Type 0 where
   pub one : (found ≡ Some unfit) ⊎ ((key : ℕ) × KeyUnfit kind events fates (on_key key stands) unfit)
   pub later : IfSome found (λ other. unfit.place ≤ other.place)
 
--- what is found of the first so many, which stand by their keys, beside what was found before
+-- the finding for the first n operations, sorted by their keys, together with the earlier finding
 abbrev pub FindsUpTo : ModelKind → List Event → List Fate → Option Unfit → List Stand → ℕ → Option Unfit → Type 0
 FindsUpTo kind events fates found sorted n first =
     MatchOption first
@@ -114,7 +114,7 @@ FindsUpTo kind events fates found sorted n first =
     (λ unfit. FirstFound kind events fates found sorted unfit
     × ((i : ℕ) (d : Stand) → i < n → FitsBefore kind events fates (on_key (slice_index_or sorted i d).key sorted) unfit.place))
 
--- what is found of all
+-- the finding for all
 abbrev pub FindsAll : ModelKind → List Event → List Fate → Option Unfit → List Stand → Option Unfit → Type 0
 FindsAll kind events fates found stands first =
     MatchOption first

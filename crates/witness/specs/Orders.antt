@@ -17,7 +17,7 @@ use Rattle.witness.specs.declared.confirming.Confirmation.{Confirmation}
 use Rattle.witness.specs.declared.confirming.Confirmation.TheVariants.{Linearizable, NoOrder}
 use Rattle.witness.specs.Calls.{HaltsBehind}
 
--- what events say of operations, of all and of those of a key
+-- the marks of events, of all and of those of a key
 abbrev pub marks_in : List Event → List Mark
 marks_in events = marks (entries_of (indexed_from 0 events))
 
@@ -98,7 +98,7 @@ IsMisfit kind events order place id TooLate = (slice_get order place ≡ Some id
 IsMisfit kind events order place id LeftOut = (place ≡ length order) × IsLeftOut events order id
 IsMisfit kind events order place id why = (slice_get order place ≡ Some id) × HaltsThere kind events order place id why
 
--- which reason is told where several hold: the one of the least rank
+-- the reported reason if several hold: the one of the least rank
 abbrev pub rank_of : Misfit → ℕ
 rank_of NoEvent = 0
 rank_of NoInvocation = 1
@@ -127,7 +127,7 @@ abbrev pub HasReason : ModelKind → List Event → List ℕ → Confirmation �
 HasReason kind events order Linearizable = Unit {0}
 HasReason kind events order (NoOrder unfit) = IsUnfit kind events order unfit
 
--- and what is told stands first
+-- and the reported place is the first
 abbrev pub TellsFirst : ModelKind → List Event → List ℕ → Confirmation → Type 0
 TellsFirst kind events order Linearizable = Unit {0}
 TellsFirst kind events order (NoOrder unfit) = StandsFirst kind events order unfit

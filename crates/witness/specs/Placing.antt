@@ -1,4 +1,4 @@
--- Invariant: the operations that stand in an order, by what became of them
+-- Invariant: the operations of an order, by their fates
 use Rattle.std.specs.Prelude.{◌≡◌, ◌≢◌, ℕ, ◌+◌, ◌<◌, ◌≤◌, Option, Some, MatchOption, unwrap_or, option_and_then, List, [], ◌∷◌, length, slice_get, take}
 use Rattle.std.specs.List.{Contains}
 use Rattle.events.specs.declared.event.Event.{Event}
@@ -25,7 +25,7 @@ MustStand Pending = ⊥
 MustStand (Returned index) = Unit {0}
 MustStand Failed = ⊥
 
--- the key of an event, 0 where it has none
+-- the key of an event, 0 if it has none
 abbrev pub key_at : Option Event → ℕ
 key_at e = unwrap_or (option_and_then key_of e) 0
 

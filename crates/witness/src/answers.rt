@@ -12,7 +12,7 @@ use events::{Body, Event, Process};
 use models::{Answer, Op};
 use std::alloc::{AllocError, Global};
 
-/// What became of the operation of this index.
+/// The fate of the operation of this index.
 pub fn fate_at(fates: &[Fate], id: usize) -> Fate
     ensures { result ≡ fate_at fates.now id }
 {

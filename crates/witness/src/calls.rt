@@ -2,7 +2,7 @@
 
 use models::{Answer, Op};
 
-/// An operation, with its answer where it has returned.
+/// An operation, with its answer if it has returned.
 #[derive(Drop)]
 pub struct Call {
     pub op: Op,

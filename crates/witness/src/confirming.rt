@@ -12,7 +12,7 @@ use history::History;
 use models::ModelKind;
 use std::alloc::{AllocError, Global};
 
-/// What an order shows of a history.
+/// The result of an order of a history.
 #[derive(Clone, Copy, Debug, PartialEq, Eq)]
 pub enum Confirmation {
     /// The order is one of the history, which is linearizable.
@@ -21,18 +21,18 @@ pub enum Confirmation {
     NoOrder(Unfit),
 }
 
-/// Whether these operations of the history, by the indices of their invocations, are an order of it in which those of each key,
-/// an object of this kind, can take place one after another, with the answers that they had, and against no precedence in real time
-/// (Herlihy and Wing 1990, section 2). Then the history is linearizable. Operations of different keys may stand in any order.
-/// One that has returned must be in the order, one that has failed must not, and one that has not completed, or has crashed, may be
-/// left out, which says that it did not take place.
+/// Whether these operations of the history, by the indices of their invocations, are an order of it. In an order those of each key, an
+/// object of this kind, can take place one after another, with their answers. No operation comes after one that it precedes in real time
+/// (Herlihy and Wing 1990, section 2). Then the history is linearizable. Operations of different keys may stand in any order. An operation
+/// that has returned must be in the order, and one that has failed must not. One that has not completed, or has crashed, may be left out,
+/// which says that it did not take place.
 ///
 /// Else it says what does not fit, at the first place at which something does not. It tries no other order, and says nothing of the
 /// history then.
 ///
-/// Takes the time of the events and of the order, each with a logarithm: of the keys, of the processes, of the state. A read of a
-/// set takes that of the members besides. Of a queue without an order a dequeue takes its value out wherever it is in; and one that
-/// has no answer takes out what no later one needs.
+/// Costs O(n log n) in the events and in the order: the logarithm is of the keys, of the processes, of the state. A read of a set takes
+/// that of the members besides. A dequeue from a queue without an order takes its value out wherever it is. A dequeue without an answer
+/// takes out a value that no later one needs.
 pub fn confirm(
     alloc: Global,
     history: &History,

@@ -1,4 +1,4 @@
-//! What became of the operations of a history.
+//! The fates of the operations of a history.
 ghost use Rattle.std.specs.Prelude.{◌≡◌, ℕ, ◌<◌, length, option_map, IfOk, OnOk};
 ghost use Rattle.models.specs.declared.operation.Op.{Op};
 ghost use Rattle.events.specs.Events.{act_by, last_after, last_by, mark_by_act, op_event, OpEvent};
@@ -8,7 +8,7 @@ use events::{Body, Event, EventKind, Process};
 use std::alloc::{AllocError, Global};
 use std::collections::BTreeMap;
 
-/// What became of the operation that an event invokes.
+/// The fate of the operation that an event invokes.
 #[derive(Clone, Copy, Debug, PartialEq, Eq)]
 pub enum Fate {
     /// The event invokes none.
@@ -31,14 +31,14 @@ fn client_of(event: &Event) -> Option<u32>
     }
 }
 
-// The last invocation of a process, 0 where there is none.
+// The last invocation of a process, 0 if there is none.
 fn last_of(last: &BTreeMap<u32, usize>, process: u32) -> usize
     ensures { result ≡ last_in last.now process }
 {
     last.get(&process).copied().unwrap_or(0)
 }
 
-// What an event of this kind and index makes of its operation.
+// The effect of an event of this kind and index on the fate of its operation.
 fn made_by(kind: EventKind, at: usize) -> Fate
     ensures { (last : ℕ) (op : Op) → result ≡ fate_by at (mark_by_act at last (act_by kind op)) }
 {
@@ -93,8 +93,7 @@ fn note(
     Ok(())
 }
 
-/// What became of the operation that each event invokes. Takes the time of the events, each with the logarithm of how many
-/// processes there are.
+/// The fate of the operation that each event invokes. Costs O(events), each with the logarithm of the number of processes.
 pub fn fates_of(alloc: Global, events: &[Event]) -> Result<Vec<Fate>, AllocError>
     ensures { IfOk result (λ fates. AreFates events.now fates.items) }
 {

@@ -76,7 +76,7 @@ fn halted(
     }
 }
 
-// What does not fit first of the operations of one key, if something does not.
+// The first operation of one key that does not fit, if there is one.
 fn key_unfit(
     alloc: Global,
     events: &[Event],
@@ -137,8 +137,8 @@ fn end_of_key(stands: &[Stand], start: usize) -> usize
     stands.len()
 }
 
-/// What does not fit first of the operations of each key, beside what was found of the order before, if something does not. Takes
-/// the time of a sort by the keys, and of the operations of each key: of each the logarithm of the state.
+/// The first operation of each key that does not fit, together with the earlier finding about the order, if there is one. Costs a sort by
+/// the keys, and O(operations of each key): for each the logarithm of the state.
 pub fn first_unfit(
     alloc: Global,
     events: &[Event],

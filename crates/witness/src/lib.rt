@@ -1,9 +1,9 @@
 //! Whether an order of the operations of a history shows that it is linearizable.
 //!
-//! What became of each operation is noted, the order's operations are placed and sorted by their keys, and those of each key take
-//! place one after another. The first thing that does not fit is told, with its place in the order.
+//! The fate of each operation is noted, the order's operations are placed and sorted by their keys, and those of each key take place one
+//! after another. The result names the first operation that does not fit, with its place in the order.
 //!
-//! A call takes memory only where its result can be `AllocError`, or a refusal for want of memory.
+//! A call allocates only if its result can be `AllocError`, or a refusal because memory ran out.
 #![tactic(auto)]
 
 mod answers;

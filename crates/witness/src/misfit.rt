@@ -5,7 +5,7 @@
 pub enum Misfit {
     /// The history has no event of this index.
     NoEvent,
-    /// The event is no invocation.
+    /// The event is not an invocation.
     NoInvocation,
     /// The operation stands in the order before.
     Twice,
@@ -29,10 +29,10 @@ pub struct Halt {
     pub why: Misfit,
 }
 
-/// What does not fit of an order.
+/// An operation that does not fit an order.
 #[derive(Clone, Copy, Debug, PartialEq, Eq)]
 pub struct Unfit {
-    /// The place in the order, from 0; of what is left out, behind the last one.
+    /// The place in the order, from 0; for an operation that is left out, behind the last one.
     pub place: usize,
     /// The index that stands there, or that of the invocation that is left out.
     pub event: usize,

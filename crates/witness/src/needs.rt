@@ -1,4 +1,4 @@
-//! What calls need of the queue without an order that they begin in.
+//! The needs of calls from the queue without an order that they begin in.
 ghost use Rattle.std.specs.Prelude.{◌≡◌, ◌+◌, ◌<◌, ◌≤◌, pos, Some, [], get_or, length, IfOk, IfSome, MatchOption};
 ghost use Rattle.std.specs.List.{Contains};
 ghost use Rattle.models.specs.declared.operation.Name.{Name};
@@ -10,7 +10,7 @@ use models::{Answer, Name, Op, Part};
 use std::alloc::{AllocError, Global};
 use values::Multiset;
 
-/// At least these values, and so many more.
+/// At least these values, and this number of others.
 #[derive(Drop)]
 pub struct Needs {
     pub values: Multiset,
@@ -50,7 +50,7 @@ fn place_of(values: &Multiset, value: i64) -> Option<usize>
     }
 }
 
-// What is needed before the value is put in.
+// The needs before the value is put in.
 fn before_enqueue(needs: Needs, value: i64) -> Result<Needs, AllocError>
     ensures needs { IfOk result (λ before. (c : Call) → c.op.name ≡ Name.Enqueue
         → c.op.part ≡ Part.Int value → AreBefore c needs (Some before)) }
@@ -68,7 +68,7 @@ fn before_enqueue(needs: Needs, value: i64) -> Result<Needs, AllocError>
     }
 }
 
-// What is needed before a value is taken out that is answered; none for what is no answer of a queue.
+// The needs before this answer is taken out; none if it cannot be the answer of a queue.
 fn before_answered(needs: Needs, answer: &Answer) -> Result<Option<Needs>, AllocError>
     ensures needs { IfOk result (λ before. (c : Call) → c.op.name ≡ Name.Dequeue
         → c.op.part ≡ Part.Nil → c.answer ≡ Some answer.now → AreBefore c needs before) }
@@ -83,7 +83,7 @@ fn before_answered(needs: Needs, answer: &Answer) -> Result<Option<Needs>, Alloc
     }
 }
 
-// What is needed before a value is taken out: the one that is answered, or any.
+// The needs before a value is taken out: the answer, or any value.
 fn before_dequeue(needs: Needs, answer: &Option<Answer>) -> Result<Option<Needs>, AllocError>
     requires { needs.more < usize.MAX }
     ensures needs { IfOk result (λ before. (c : Call) → c.op.name ≡ Name.Dequeue
@@ -99,8 +99,8 @@ fn before_dequeue(needs: Needs, answer: &Option<Answer>) -> Result<Option<Needs>
     }
 }
 
-/// What is needed before a call of this operation, with this answer if it has one, by what is needed after it; none where it
-/// can't take place in any queue. Takes the square of the logarithm of what is needed, and memory of its logarithm.
+/// The needs before a call of this operation, with this answer if it has one, from the needs after it; none if it can't take place in any
+/// queue. Costs O(log² n) in the needs, and O(log n) memory.
 pub fn needs_before(
     needs: Needs,
     op: &Op,

@@ -28,7 +28,7 @@ pub struct Placed {
     pub stop: Option<Unfit>,
 }
 
-// The key of the event of this index, 0 where there is none.
+// The key of the event of this index, 0 if there is none.
 fn key_at(events: &[Event], id: usize) -> Key
     ensures { result ≡ key_at (slice_get events.now id) }
 {
@@ -84,8 +84,8 @@ fn left_out(fates: &[Fate], taken: &[bool], end: usize) -> Option<Unfit>
     None
 }
 
-/// The operations of an order up to the first that can't stand there, and that one; or, where all stand, one that is left out.
-/// Takes the time of the order and of the events.
+/// The operations of an order up to the first that can't stand there, and that one; or, where all stand, one that is left out. Costs O(the
+/// order + events).
 pub fn place_all(
     alloc: Global,
     events: &[Event],

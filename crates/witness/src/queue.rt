@@ -1,5 +1,5 @@
-//! Whether calls of a queue without an order can take place one after another. They are gone through from the last to the first:
-//! what a dequeue without an answer takes out is then left open, and it is known what the later ones need.
+//! Whether calls of a queue without an order can take place one after another. They are gone through from the last to the first. The value
+//! of a dequeue without an answer is then left open, and the needs of the later ones are known.
 ghost use Rattle.std.specs.Prelude.{◌≡◌, ◌↔◌, ◌+◌, ◌<◌, ◌^◌, List, [], ◌∷◌, ◌++◌, length, take, IsTrue, IfOk, MatchOption};
 ghost use Rattle.models.specs.Objects.{unordered_queue};
 ghost use Rattle.witness.specs.declared.calls.Call.{Call};
@@ -12,7 +12,7 @@ use crate::needs::{Needs, needs_before, no_needs};
 use models::Op;
 use std::alloc::{AllocError, Global};
 
-// What is needed before the calls, by what is needed after them; none where they can't take place in any queue.
+// The needs before the calls, from the needs after them; none if they can't take place in any queue.
 fn needs_before_all(calls: &[Call], after: Needs) -> Result<Option<Needs>, AllocError>
     requires { after.more + length calls.now < 2 ^ 64 }
     ensures { IfOk result (AreBeforeAll calls.now after) }
@@ -94,8 +94,8 @@ fn why_unfit(alloc: Global, calls: &[Call], at: usize) -> Result<Misfit, AllocEr
     }
 }
 
-/// Where the calls of a queue without an order halt first, if they do. Takes the time of the calls, each that of the square of
-/// the logarithm of what is needed, and where they halt the logarithm of the calls as often.
+/// Where the calls of a queue without an order halt first, if they do. Costs O(calls), each with O(log² n) in the needs; if they halt, the
+/// logarithm of the calls as often.
 pub fn queue_halt(alloc: Global, calls: &[Call]) -> Result<Option<Halt>, AllocError>
     ensures { IfOk result (λ first. MatchOption first (CanRun unordered_queue calls.now [])
         (λ halt. IsHalt unordered_queue calls.now halt.at halt.why)) }

@@ -27,10 +27,10 @@ fn halt_in_turn(alloc: Global, kind: ModelKind, calls: &[Call]) -> Result<Option
     Ok(None)
 }
 
-/// Where the calls halt first, if they do: none where all can take place one after another, from the start state of an object
-/// of this kind on, and each finds what fits its answer.
+/// Where the calls halt first, if they do. None if all can take place one after another, from the start state of an object of this kind on,
+/// and each finds a value that fits its answer.
 ///
-/// Takes the time of the calls, each that of the logarithm of the state, and for a read of a set that of its members.
+/// Costs O(calls), each with the logarithm of the state, and for a read of a set O(members).
 pub fn first_halt(
     alloc: Global,
     kind: ModelKind,

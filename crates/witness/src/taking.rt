@@ -22,7 +22,7 @@ pub(crate) fn fits_if(found: &Found, answer: &Option<Answer>) -> bool
     }
 }
 
-// What an outcome comes to.
+// The result of an outcome.
 fn settled(outcome: Option<(AnyState, Found)>, answer: &Option<Answer>) -> Result<AnyState, Misfit>
     ensures { MatchOption outcome (result ≡ Err Misfit.CannotTakePlace) (λ found. MatchResult result
         (λ next. (next ≡ found.0) × FitsIf found.1 answer.now)
@@ -40,8 +40,8 @@ fn settled(outcome: Option<(AnyState, Found)>, answer: &Option<Answer>) -> Resul
     }
 }
 
-/// The state that the call leads to, or why there is none; of any kind but a queue without an order. Takes the time of the members
-/// of a set that is read, and else such as grows with the logarithm of the state.
+/// The state that the call leads to, or why there is none; of any kind but a queue without an order. Costs O(members) for a read of a set,
+/// and else the logarithm of the state.
 pub(crate) fn take_call(
     alloc: Global,
     state: &AnyState,

@@ -1,4 +1,4 @@
-//! Gates that hold a piece back until another begins, for so many turns.
+//! Gates that hold a piece back until another begins, for a number of turns.
 
 use edn::Gate;
 use std::sync::atomic::{AtomicBool, AtomicU64, Ordering};
@@ -7,7 +7,7 @@ use std::thread;
 /// The turns that a piece waits for another.
 pub const TURNS: u32 = 1_000_000;
 
-// Whether another thread sets the flag within so many turns.
+// Whether another thread sets the flag within a number of turns.
 fn comes(flag: &AtomicBool) -> bool {
     for _ in 0..TURNS {
         if flag.load(Ordering::SeqCst) {
@@ -18,7 +18,7 @@ fn comes(flag: &AtomicBool) -> bool {
     false
 }
 
-/// What is known of a piece: it was begun; it saw the other one begun, where it waits for that; it was ended.
+/// The state of a piece: it was begun; it saw the other piece begin, if it waits for that; it was ended.
 #[derive(Drop)]
 struct Piece {
     waits: bool,
@@ -48,13 +48,13 @@ impl Piece {
         self.ended.store(true, Ordering::SeqCst);
     }
 
-    // Whether it saw the other one begun, where it waits for that, and has ended.
+    // Whether it saw the other piece begin, if it waits for that, and has ended.
     fn was_held(&self) -> bool {
         (!self.waits || self.saw.load(Ordering::SeqCst)) && self.ended.load(Ordering::SeqCst)
     }
 }
 
-/// Piece 0 waits for piece 1, and piece 1 for piece 0 where both wait. Each other one passes.
+/// Piece 0 waits for piece 1, and piece 1 for piece 0 if both wait. Each other one passes.
 #[derive(Drop)]
 pub struct Meeting {
     first: Piece,
@@ -76,7 +76,7 @@ impl Meeting {
         }
     }
 
-    /// Whether each that waits saw the other one begun, and both have ended.
+    /// Whether each that waits saw the other piece begin, and both have ended.
     pub fn was_held(&self) -> bool {
         self.first.was_held() && self.second.was_held()
     }
@@ -100,7 +100,7 @@ impl Gate for Meeting {
     }
 }
 
-/// Each piece of so many waits until all of them have begun. It counts how many begin and end, and adds up their places.
+/// Each of these pieces waits until all of them have begun. It counts how many begin and end, and adds up their places.
 #[derive(Drop)]
 pub struct Gathering {
     pieces: u64,
@@ -124,7 +124,7 @@ impl Gathering {
         }
     }
 
-    // Whether it is so within so many turns, or was missed before.
+    // Whether it is so within a number of turns, or was missed before.
     fn all_begin(&self) -> bool {
         for _ in 0..TURNS {
             if self.begun.load(Ordering::SeqCst) >= self.pieces
@@ -137,7 +137,7 @@ impl Gathering {
         false
     }
 
-    /// Whether each saw all the others begin, and so many have begun and ended, whose places add up to this.
+    /// Whether each saw all the others begin, and this number have begun and ended, whose places add up to this.
     pub fn was_held(&self, places: u64) -> bool {
         !self.missed.load(Ordering::SeqCst)
             && self.begun.load(Ordering::SeqCst) == self.pieces

@@ -1,5 +1,4 @@
-//! What workers judge, and that they run at once: pieces and histories of which each answer is worked out by hand. It has
-//! tests alone.
+//! The results of workers, and that they run at once: pieces and histories of which each answer is worked out by hand. It has tests alone.
 #![tactic(auto)]
 
 #[cfg(test)]

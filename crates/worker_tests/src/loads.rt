@@ -39,7 +39,7 @@ fn loaded<R: Threads + Sync, G: Gate + Sync>(
     Monitor::load(rt, alloc, history, ModelKind::Register, 4096, 2, gate)
 }
 
-// The verdict, the first key, and how many events the second has, where there are two keys.
+// The verdict, the first key, and how many events the second has, if there are two keys.
 fn found(monitor: &Monitor) -> Option<(Verdict, Key, usize)> {
     if monitor.key_count() != 2 {
         return None;

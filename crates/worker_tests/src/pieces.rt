@@ -13,7 +13,7 @@ use parallel_recheck::{KeyEvents, recheck};
 use std::alloc::{AllocError, Global};
 use std::thread::Threads;
 
-// The piece of a key with two events: one has this index, and the other one comes two later.
+// The piece of a key with two events: one has this index, and the second comes two later.
 fn piece<'a>(
     alloc: Global,
     key: Key,
@@ -112,9 +112,9 @@ fn lines_of_many<R: Threads + Sync, G: Gate + Sync>(
     Ok(lines.len())
 }
 
-/// Each of 64 pieces has a worker of its own, which judges it once: all of them have begun before the first is judged. No
-/// clause says so: a worker that judges a piece twice, the pieces of another, or tells the gate of another place, meets each
-/// clause, and fails here. Tried by hand: each of the three does.
+/// Each of 64 pieces has a worker of its own, which judges it once: all of them have begun before the first is judged. No clause says so. A
+/// worker that judges a piece twice, judges the pieces of another, or calls the gate of another place, meets each clause, and fails here.
+/// Tried by hand: each of the three does.
 #[test]
 fn each_piece_once(rt: HostRuntime) {
     let gathering = Gathering::of(64);

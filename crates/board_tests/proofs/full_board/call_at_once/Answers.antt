@@ -1,4 +1,4 @@
--- The board of the one-thread object may be shared by threads, and its seats may go to them.
+-- Threads may share the board of the one-thread object and get its seats.
 use denote.Param.Send.{param_send, param_sync}
 use Rattle.board.proofs.Crossing.{board_sync, seat_send}
 use Rattle.board_tests.proofs.full_board.call_at_once.Goals as goal

@@ -1,4 +1,4 @@
--- So far each number that stands for what fits is marked, and no other.
+-- So far each number whose answer fits is marked, and no other.
 use Rattle.std.proofs.Common.{◌≡◌, ◌↔◌, ◌+◌, ◌<◌, ℕ, true, false, Some, length, slice_get, get_or}
 use Rattle.models.specs.declared.finding.Found.{Found}
 use Rattle.models.specs.Objects.{Fits}

@@ -17,7 +17,7 @@ use Rattle.harness.proofs.laws.refused_wants_no_memory.Goals as goal
 not_none : {X : Type 0} (o : Option X) → IsSome o → o ≡ None → ⊥
 not_none o some none = true≢false (sym some ∙ ap is_some none)
 
--- what holds of a ticket with the number holds of another
+-- a fact about a ticket with the number holds for another
 of_other : (P : Ticket → Type 0) (m : Machine) (number : ℕ) (t u : Ticket) → HasTicket m.tickets number t → HasTicket m.tickets number u → P t → P u
 of_other P m number t u has also p = subst P (same_ticket m.tickets number t u has also) p
 

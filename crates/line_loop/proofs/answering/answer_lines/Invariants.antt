@@ -1,5 +1,5 @@
--- What was read so far is answered, but for the line that is held, all replies are written and flushed, none was held back over
--- a read, and nothing has failed.
+-- The bytes so far are answered, except for the held line. All replies are written and flushed, none was held back over a read, and nothing
+-- has failed.
 use Rattle.std.proofs.Common.{◌≡◌, [], true, false}
 use Rattle.line_loop.specs.Live.{IsLive}
 use Rattle.line_loop.specs.BetweenReads.{between, Stands}

@@ -1,4 +1,4 @@
--- What was read so far is held.
+-- All bytes that were read are held.
 use Rattle.std.specs.Io.KnownBytes.{Consumes}
 use Rattle.line_loop.proofs.reading.read_whole.Given as goal
 

@@ -1,4 +1,4 @@
--- What was taken so far is the text's front.
+-- The bytes so far are a prefix of the text.
 use Rattle.std.proofs.Common.{◌≤◌, length, take}
 use Rattle.std.specs.Io.KnownBytes.{Appends}
 use Rattle.line_loop.proofs.writing.write_text.Given as goal

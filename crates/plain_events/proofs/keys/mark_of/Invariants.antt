@@ -1,4 +1,4 @@
--- What is left of the name makes its mark of the mark so far.
+-- The rest of the name makes its mark from the mark so far.
 use Rattle.std.proofs.Common.{◌≡◌, length}
 use Rattle.plain_events.specs.Keys.{mark_from, mark_of}
 use Rattle.plain_events.proofs.keys.mark_of.Given as goal

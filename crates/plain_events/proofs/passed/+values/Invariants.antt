@@ -1,4 +1,4 @@
--- What is left of a collection stands behind what was passed over. The measure goes down as more collections are open.
+-- The rest of a collection is behind the part that was passed over. The measure goes down as more collections are open.
 use Rattle.std.proofs.Common.{◌+◌, ◌-◌, ◌*◌, length}
 use Rattle.edn.specs.Value.{Pairs}
 use Rattle.plain_events.specs.Keys.{ArePairsAt, AreMarked}

@@ -1,4 +1,4 @@
--- What is left of the string stands behind what was read.
+-- The rest of the string is behind the part that was read.
 use Rattle.std.proofs.Common.{length}
 use Rattle.plain_events.proofs.Runs.{StringSoFar}
 use Rattle.plain_events.proofs.strings.past_string.Given as goal

@@ -1,4 +1,4 @@
--- What is left is behind white space.
+-- The rest is behind white space.
 use Rattle.std.proofs.Common.{ℕ, List, length}
 use Rattle.edn.specs.Text.{SkipsGap}
 use Rattle.plain_events.proofs.word.past_all_white.Given as goal

@@ -1,4 +1,4 @@
--- The bytes so far stand in front of the rest.
+-- The bytes so far are before the rest.
 use Rattle.std.proofs.Common.{◌≡◌, ◌++◌, take}
 use Rattle.plain_events.proofs.word.past_bytes.Given as goal
 

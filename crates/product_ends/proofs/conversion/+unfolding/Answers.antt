@@ -21,7 +21,7 @@ put_rows-returns-then-place-sets-clause-rows t c =
     (goes_nowhere sets c.args.place row c.if-place-sets.true))
     c.put.ensures.put
 
--- what is put is there once, where the others are
+-- the row that is put is there once, if the others are
 put_once : (row : List ℕ) (old new : List (List ℕ)) → IsPut row old new → IsOnceIn old → IsOnceIn new
 put_once row old new put once =
     ⊎_elim (λ h. subst IsOnceIn (sym h.1) once) (λ h. subst IsOnceIn (sym h.1) (once_push old row h.0 once)) put

@@ -1,4 +1,4 @@
--- Each number of the places so far is in the others' sets too, unless that is not told.
+-- Each number of the places so far is in the others' sets too, unless that is not known.
 use Rattle.std.proofs.Common.{◌≡◌, ◌<◌, ℕ, true, get_or}
 use Rattle.products.specs.Products.{Has}
 use Rattle.products.proofs.product.overlap_with_singleton.Given as goal

@@ -1,4 +1,4 @@
--- the first span from the place on is joined where it starts beside the value
+-- the first span from the place on is joined if it starts next to the value
 use Rattle.std.proofs.Common.{◌≡◌, ◌≢◌, ◌+◌, ◌<ℤ◌, ◌≤ℤ◌, ◌+ℤ◌, ◌-ℤ◌, ◌++◌, ◌∷◌, pos, get_or, drop, FitsSigned, to_z, of_z, w64, rules, sym, ap, ◌∙◌, subst, arith}
 use Rattle.std.specs.List.{Contains}
 use Rattle.std.proofs.lemmas.Int.{ints, to_z-of_z}

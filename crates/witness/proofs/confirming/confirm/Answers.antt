@@ -1,4 +1,4 @@
--- what an order shows
+-- the result of an order
 use Rattle.std.proofs.Common.{refl, sym, subst}
 use Rattle.witness.specs.Fates.{AreFates}
 use Rattle.witness.specs.Placing.{ArePlaced}

@@ -1,4 +1,4 @@
--- what the empty queue has
+-- the contents of the empty queue
 use Rattle.std.proofs.Common.{◌↔◌, [], ◌++◌, IsTrue, sym, ◌∙◌, subst}
 use Rattle.std.proofs.lemmas.Bool.{true≢false, eqb-true}
 use Rattle.models.specs.Objects.{unordered_queue}

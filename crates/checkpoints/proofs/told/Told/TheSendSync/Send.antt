@@ -1,4 +1,4 @@
--- It owns nothing, so it may go to another thread.
+-- It owns nothing, so it can be sent to another thread.
 use denote.Param.Send.{IsSend, owning_send}
 use Rattle.checkpoints.specs.contracts.told.Told.{the_row, the_type}
 

@@ -29,7 +29,7 @@ prepare_serve-requires-clause-versions c =
     let a = c.self.inside in
     versions_fit (machine_of a.monitor a.source a.schedule a.store a.tickets.items) c.in_ok-ticket.ticket.now.op.key c.self.invariant.now
 
--- what the serve comes to, at the entry of the ticket's thread
+-- the outcome of the serve, at the entry of the ticket's thread
 pub invariant_of-self-2 : goal.invariant_of-self-2
 invariant_of-self-2 c =
     let a = c.self.inside in

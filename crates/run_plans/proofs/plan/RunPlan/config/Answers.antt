@@ -6,7 +6,7 @@ use Rattle.run_plans.proofs.Limited.{limited}
 use Rattle.harness.specs.Setups.{setup_of, IsSetup}
 use Rattle.run_plans.proofs.plan.RunPlan.config.Goals as goal
 
--- the generator gives so many items of the mix of the children, which are those of the keys
+-- the generator gives n items of the mix of the children, which are those of the keys
 pub returns-clause-planned : goal.returns-clause-planned
 returns-clause-planned c =
     let plan = c.args.self in

@@ -1,4 +1,4 @@
--- what `==` says of the two sets
+-- the meaning of `==` for the two sets
 use Rattle.std.proofs.Common.{◌∙◌, sym}
 use Rattle.std.specs.Cmp.Lexicographic.{pointwise_decides}
 use Rattle.std.proofs.lemmas.Bool.Decides.{Decides-int_eq}

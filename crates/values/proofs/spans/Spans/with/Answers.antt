@@ -1,4 +1,4 @@
--- a value that a span has is there already; any other is joined with what is beside it
+-- a value that a span has is there already; any other is joined with its neighbours
 use Rattle.std.proofs.Common.{◌≡◌, ◌+◌, ◌++◌, ◌∷◌, ◌%◌, ◌^◌, ℕ, sym, ◌∙◌, subst, ap, to_z, of_z, w64, IfOk, take, drop, FitsSigned, rules, arith}
 use Rattle.std.proofs.lemmas.Int.{ints, to_z-of_z}
 use Rattle.values.specs.declared.span_row.Span.{Span}
@@ -35,7 +35,7 @@ end_of-behind-requires-clause-behind c =
     (apart_behind c.self.inside.spans c.place_of-at.result (c.self.invariant.apart))
     (c.starts_by.ensures.later c.if-starts_by.false)
 
--- what was made of the old spans
+-- the new row made of the old spans
 apart : (c : In_ok-spans) → StandApart c.self.inside.spans
 apart c = c.self.invariant.apart
 
