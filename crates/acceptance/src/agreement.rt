@@ -67,8 +67,16 @@ impl Request {
             ModelKind::Register | ModelKind::WideRegister | ModelKind::CasRegister => Name::Read,
             ModelKind::Mutex if first => Name::Acquire,
             ModelKind::Mutex => Name::Release,
-            ModelKind::FifoQueue | ModelKind::UnorderedQueue if first => Name::Enqueue,
-            ModelKind::FifoQueue | ModelKind::UnorderedQueue => Name::Dequeue,
+            ModelKind::FifoQueue
+            | ModelKind::UnorderedQueue
+            | ModelKind::WideFifoQueue
+            | ModelKind::WideUnorderedQueue => {
+                if first {
+                    Name::Enqueue
+                } else {
+                    Name::Dequeue
+                }
+            }
             ModelKind::Set | ModelKind::WideSet if first => Name::Add,
             ModelKind::Set | ModelKind::WideSet => Name::Read,
         };
@@ -193,6 +201,8 @@ fn plain_kind(kind: ModelKind) -> Option<ModelKind> {
     match kind {
         ModelKind::WideRegister => Some(ModelKind::Register),
         ModelKind::WideSet => Some(ModelKind::Set),
+        ModelKind::WideFifoQueue => Some(ModelKind::FifoQueue),
+        ModelKind::WideUnorderedQueue => Some(ModelKind::UnorderedQueue),
         _ => None,
     }
 }

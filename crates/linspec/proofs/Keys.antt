@@ -3,11 +3,11 @@ use Rattle.std.proofs.Common.{◌≡◌, ◌≢◌, ◌↔◌, ℕ, ◌⊎◌, i
 use Rattle.std.specs.List.{Contains}
 use Rattle.std.proofs.lemmas.Bool.{cases_eq, eq-eqb, ne_eqb}
 use Rattle.models.specs.declared.model_kind.ModelKind.{ModelKind}
-use Rattle.models.specs.declared.model_kind.ModelKind.TheVariants.{Register, CasRegister, Mutex, FifoQueue, Set, UnorderedQueue, WideRegister, WideSet}
+use Rattle.models.specs.declared.model_kind.ModelKind.TheVariants.{Register, CasRegister, Mutex, FifoQueue, Set, UnorderedQueue, WideRegister, WideSet, WideFifoQueue, WideUnorderedQueue}
 use Rattle.models.specs.declared.operation.Op.{Op}
 use Rattle.models.specs.declared.finding.Found.{Found}
 use Rattle.models.specs.declared.any_state.AnyState.{AnyState}
-use Rattle.models.specs.declared.any_state.AnyState.TheVariants.{Register as OfRegister, CasRegister as OfCasRegister, Mutex as OfMutex, FifoQueue as OfFifoQueue, Set as OfSet, UnorderedQueue as OfUnorderedQueue, WideRegister as OfWideRegister, WideSet as OfWideSet}
+use Rattle.models.specs.declared.any_state.AnyState.TheVariants.{Register as OfRegister, CasRegister as OfCasRegister, Mutex as OfMutex, FifoQueue as OfFifoQueue, Set as OfSet, UnorderedQueue as OfUnorderedQueue, WideRegister as OfWideRegister, WideSet as OfWideSet, WideFifoQueue as OfWideFifoQueue, WideUnorderedQueue as OfWideUnorderedQueue}
 use Rattle.models.specs.AnyState.{any}
 use Rattle.models.specs.Objects.{object_of}
 use Rattle.events.specs.Events.{Mark}
@@ -77,6 +77,8 @@ any_step Set Set s u e op found v st = (v, same_steps (object_of Set).State (obj
 any_step UnorderedQueue UnorderedQueue s u e op found v st = (v, same_steps (object_of UnorderedQueue).State (object_of UnorderedQueue).Steps s u op found v (let q : s ≡ u = cc in q) st, refl)
 any_step WideRegister WideRegister s u e op found v st = (v, same_steps (object_of WideRegister).State (object_of WideRegister).Steps s u op found v (let q : s ≡ u = cc in q) st, refl)
 any_step WideSet WideSet s u e op found v st = (v, same_steps (object_of WideSet).State (object_of WideSet).Steps s u op found v (let q : s ≡ u = cc in q) st, refl)
+any_step WideFifoQueue WideFifoQueue s u e op found v st = (v, same_steps (object_of WideFifoQueue).State (object_of WideFifoQueue).Steps s u op found v (let q : s ≡ u = cc in q) st, refl)
+any_step WideUnorderedQueue WideUnorderedQueue s u e op found v st = (v, same_steps (object_of WideUnorderedQueue).State (object_of WideUnorderedQueue).Steps s u op found v (let q : s ≡ u = cc in q) st, refl)
 any_step _ _ s u e op found v st = cc
 
 pub any_kind : (a : AnyState) → (kind : ModelKind) × (s : (object_of kind).State) × (a ≡ any kind s)
@@ -88,6 +90,8 @@ any_kind (OfSet s) = (Set, s, refl)
 any_kind (OfUnorderedQueue s) = (UnorderedQueue, s, refl)
 any_kind (OfWideRegister s) = (WideRegister, s, refl)
 any_kind (OfWideSet s) = (WideSet, s, refl)
+any_kind (OfWideFifoQueue s) = (WideFifoQueue, s, refl)
+any_kind (OfWideUnorderedQueue s) = (WideUnorderedQueue, s, refl)
 
 module _ (kinds : ℕ → ModelKind) where
   -- each state that is kept is that of its key

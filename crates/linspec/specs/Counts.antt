@@ -1,7 +1,7 @@
 -- Promise: the count that the budget of a key limits, by the kind of its object (this project's own)
 use Rattle.std.specs.Prelude.{ℕ, Bool, List}
 use Rattle.models.specs.declared.model_kind.ModelKind.{ModelKind}
-use Rattle.models.specs.declared.model_kind.ModelKind.TheVariants.{Register, CasRegister, Mutex, FifoQueue, Set, UnorderedQueue, WideRegister, WideSet}
+use Rattle.models.specs.declared.model_kind.ModelKind.TheVariants.{Register, CasRegister, Mutex, FifoQueue, Set, UnorderedQueue, WideRegister, WideSet, WideFifoQueue, WideUnorderedQueue}
 use Rattle.models.specs.declared.operation.Op.{Op}
 use Rattle.models.specs.Objects.{object_of}
 use Rattle.events.specs.Events.{Mark}
@@ -19,6 +19,8 @@ CountsMoreThanBy counts Set = HasMoreThanBy counts (object_of Set)
 CountsMoreThanBy counts UnorderedQueue = HasMoreThanBy counts (object_of UnorderedQueue)
 CountsMoreThanBy counts WideRegister = HasMoreLeanEndsThan
 CountsMoreThanBy counts WideSet = λ marks n. ⊥
+CountsMoreThanBy counts WideFifoQueue = HasMoreThanBy counts (object_of WideFifoQueue)
+CountsMoreThanBy counts WideUnorderedQueue = HasMoreThanBy counts (object_of WideUnorderedQueue)
 
 -- crashed reads are set aside
 abbrev pub CountsMoreThan : ModelKind → List Mark → ℕ → Type 0

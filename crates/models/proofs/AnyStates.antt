@@ -4,9 +4,9 @@ use Rattle.std.specs.declared.alloc.AllocError.{AllocError}
 use Rattle.models.specs.declared.operation.Op.{Op}
 use Rattle.models.specs.declared.finding.Found.{Found}
 use Rattle.models.specs.declared.model_kind.ModelKind.{ModelKind}
-use Rattle.models.specs.declared.model_kind.ModelKind.TheVariants.{Register, CasRegister, Mutex, FifoQueue, Set, UnorderedQueue, WideRegister, WideSet}
+use Rattle.models.specs.declared.model_kind.ModelKind.TheVariants.{Register, CasRegister, Mutex, FifoQueue, Set, UnorderedQueue, WideRegister, WideSet, WideFifoQueue, WideUnorderedQueue}
 use Rattle.models.specs.declared.any_state.AnyState.{AnyState}
-use Rattle.models.specs.declared.any_state.AnyState.TheVariants.{Register as OfRegister, CasRegister as OfCasRegister, Mutex as OfMutex, FifoQueue as OfFifoQueue, Set as OfSet, UnorderedQueue as OfUnorderedQueue, WideRegister as OfWideRegister, WideSet as OfWideSet}
+use Rattle.models.specs.declared.any_state.AnyState.TheVariants.{Register as OfRegister, CasRegister as OfCasRegister, Mutex as OfMutex, FifoQueue as OfFifoQueue, Set as OfSet, UnorderedQueue as OfUnorderedQueue, WideRegister as OfWideRegister, WideSet as OfWideSet, WideFifoQueue as OfWideFifoQueue, WideUnorderedQueue as OfWideUnorderedQueue}
 use Rattle.models.specs.Objects.{IsOneOf, table_of, object_of}
 use Rattle.models.specs.AnyState.{any, kind_of_state, outcomes_of, AreOwnOutcomes}
 
@@ -24,6 +24,8 @@ own_at Set s op r h = h
 own_at UnorderedQueue s op r h = h
 own_at WideRegister s op r h = h
 own_at WideSet s op r h = h
+own_at WideFifoQueue s op r h = h
+own_at WideUnorderedQueue s op r h = h
 
 -- a fact about the state's own kind holds for any kind whose state it is
 pub outcomes-own : (a : AnyState) (op : Op) (r : Result (Vec (AnyState × Found) Global) AllocError)
@@ -68,6 +70,8 @@ is_own (OfSet s) = (s, refl)
 is_own (OfUnorderedQueue s) = (s, refl)
 is_own (OfWideRegister s) = (s, refl)
 is_own (OfWideSet s) = (s, refl)
+is_own (OfWideFifoQueue s) = (s, refl)
+is_own (OfWideUnorderedQueue s) = (s, refl)
 
 pub kind_of_state-any : (kind : ModelKind) (s : (object_of kind).State) → kind_of_state (any kind s) ≡ kind
 kind_of_state-any Register s = refl
@@ -78,3 +82,5 @@ kind_of_state-any Set s = refl
 kind_of_state-any UnorderedQueue s = refl
 kind_of_state-any WideRegister s = refl
 kind_of_state-any WideSet s = refl
+kind_of_state-any WideFifoQueue s = refl
+kind_of_state-any WideUnorderedQueue s = refl

@@ -3,9 +3,9 @@ use Rattle.std.specs.Prelude.{◌≡◌, List, map}
 use Rattle.models.specs.declared.operation.Op.{Op}
 use Rattle.models.specs.declared.finding.Found.{Found}
 use Rattle.models.specs.declared.model_kind.ModelKind.{ModelKind}
-use Rattle.models.specs.declared.model_kind.ModelKind.TheVariants.{Register, CasRegister, Mutex, FifoQueue, Set, UnorderedQueue, WideRegister, WideSet}
+use Rattle.models.specs.declared.model_kind.ModelKind.TheVariants.{Register, CasRegister, Mutex, FifoQueue, Set, UnorderedQueue, WideRegister, WideSet, WideFifoQueue, WideUnorderedQueue}
 use Rattle.models.specs.declared.any_state.AnyState.{AnyState}
-use Rattle.models.specs.declared.any_state.AnyState.TheVariants.{Register as OfRegister, CasRegister as OfCasRegister, Mutex as OfMutex, FifoQueue as OfFifoQueue, Set as OfSet, UnorderedQueue as OfUnorderedQueue, WideRegister as OfWideRegister, WideSet as OfWideSet}
+use Rattle.models.specs.declared.any_state.AnyState.TheVariants.{Register as OfRegister, CasRegister as OfCasRegister, Mutex as OfMutex, FifoQueue as OfFifoQueue, Set as OfSet, UnorderedQueue as OfUnorderedQueue, WideRegister as OfWideRegister, WideSet as OfWideSet, WideFifoQueue as OfWideFifoQueue, WideUnorderedQueue as OfWideUnorderedQueue}
 use Rattle.models.specs.Objects.{table_of, object_of}
 
 -- the state of the object of this kind
@@ -18,6 +18,8 @@ any Set s = OfSet s
 any UnorderedQueue s = OfUnorderedQueue s
 any WideRegister s = OfWideRegister s
 any WideSet s = OfWideSet s
+any WideFifoQueue s = OfWideFifoQueue s
+any WideUnorderedQueue s = OfWideUnorderedQueue s
 
 abbrev pub kind_of_state : AnyState → ModelKind
 kind_of_state (OfRegister s) = Register
@@ -28,6 +30,8 @@ kind_of_state (OfSet s) = Set
 kind_of_state (OfUnorderedQueue s) = UnorderedQueue
 kind_of_state (OfWideRegister s) = WideRegister
 kind_of_state (OfWideSet s) = WideSet
+kind_of_state (OfWideFifoQueue s) = WideFifoQueue
+kind_of_state (OfWideUnorderedQueue s) = WideUnorderedQueue
 
 -- the outcomes of the operation in the state, as the kind's table lists them, each state as one of any kind
 abbrev pub outcomes_of : (kind : ModelKind) → (object_of kind).State → Op → List (AnyState × Found)
@@ -44,3 +48,5 @@ AreOwnOutcomes (OfSet s) op outcomes = outcomes ≡ outcomes_of Set s op
 AreOwnOutcomes (OfUnorderedQueue s) op outcomes = outcomes ≡ outcomes_of UnorderedQueue s op
 AreOwnOutcomes (OfWideRegister s) op outcomes = outcomes ≡ outcomes_of WideRegister s op
 AreOwnOutcomes (OfWideSet s) op outcomes = outcomes ≡ outcomes_of WideSet s op
+AreOwnOutcomes (OfWideFifoQueue s) op outcomes = outcomes ≡ outcomes_of WideFifoQueue s op
+AreOwnOutcomes (OfWideUnorderedQueue s) op outcomes = outcomes ≡ outcomes_of WideUnorderedQueue s op

@@ -13,7 +13,7 @@ use Rattle.models.specs.declared.finding.Found.TheVariants.{Unit as Done, Reg, I
 use Rattle.models.specs.declared.finding.Answer.{Answer}
 use Rattle.models.specs.declared.finding.Answer.TheVariants.{Nothing, Number, Numbers, Many}
 use Rattle.models.specs.declared.model_kind.ModelKind.{ModelKind}
-use Rattle.models.specs.declared.model_kind.ModelKind.TheVariants.{Register, CasRegister, Mutex, FifoQueue, Set as SetOfNumbers, UnorderedQueue, WideRegister, WideSet}
+use Rattle.models.specs.declared.model_kind.ModelKind.TheVariants.{Register, CasRegister, Mutex, FifoQueue, Set as SetOfNumbers, UnorderedQueue, WideRegister, WideSet, WideFifoQueue, WideUnorderedQueue}
 use Rattle.values.specs.Members.{put_in}
 use Rattle.values.specs.Multisets.{with_one, without_one, values_of}
 
@@ -96,13 +96,38 @@ unordered_apply Enqueue (Int v) s = (with_one v s, Done) ∷ []
 unordered_apply Dequeue Nil s = taken_from s (values_of s)
 unordered_apply _ _ s = []
 
--- the table of each kind. A register is nil at first, a mutex free, the queues and the set are empty
-abbrev pub table_of : ModelKind → Table
-table_of Register = record {
+-- the tables of a register, which is nil at first, of a queue, of a queue without an order, and of a set, which are empty
+abbrev pub register_table : Table
+register_table = record {
   State = Option ℤ;
   start = None;
   apply = λ op s. register_apply op.name op.part s;
 }
+
+abbrev pub queue_table : Table
+queue_table = record {
+  State = List ℤ;
+  start = [];
+  apply = λ op s. queue_apply op.name op.part s;
+}
+
+abbrev pub unordered_table : Table
+unordered_table = record {
+  State = List ℤ;
+  start = [];
+  apply = λ op s. unordered_apply op.name op.part s;
+}
+
+abbrev pub set_table : Table
+set_table = record {
+  State = List ℤ;
+  start = [];
+  apply = λ op s. set_apply op.name op.part s;
+}
+
+-- the table of each kind. A mutex is free at first
+abbrev pub table_of : ModelKind → Table
+table_of Register = register_table
 table_of CasRegister = record {
   State = Option ℤ;
   start = None;
@@ -113,31 +138,13 @@ table_of Mutex = record {
   start = false;
   apply = λ op s. mutex_apply op.name op.part s;
 }
-table_of FifoQueue = record {
-  State = List ℤ;
-  start = [];
-  apply = λ op s. queue_apply op.name op.part s;
-}
-table_of SetOfNumbers = record {
-  State = List ℤ;
-  start = [];
-  apply = λ op s. set_apply op.name op.part s;
-}
-table_of UnorderedQueue = record {
-  State = List ℤ;
-  start = [];
-  apply = λ op s. unordered_apply op.name op.part s;
-}
-table_of WideRegister = record {
-  State = Option ℤ;
-  start = None;
-  apply = λ op s. register_apply op.name op.part s;
-}
-table_of WideSet = record {
-  State = List ℤ;
-  start = [];
-  apply = λ op s. set_apply op.name op.part s;
-}
+table_of FifoQueue = queue_table
+table_of SetOfNumbers = set_table
+table_of UnorderedQueue = unordered_table
+table_of WideRegister = register_table
+table_of WideSet = set_table
+table_of WideFifoQueue = queue_table
+table_of WideUnorderedQueue = unordered_table
 
 -- the object of each kind is that of its table. A wide kind has the table of its plain kind: only the count differs
 abbrev pub object_of : ModelKind → Object

@@ -14,8 +14,10 @@ use crate::operation::Op;
 use crate::register::Register;
 use crate::set::Set;
 use crate::unordered_queue::UnorderedQueue;
+use crate::wide_fifo_queue::WideFifoQueue;
 use crate::wide_register::WideRegister;
 use crate::wide_set::WideSet;
+use crate::wide_unordered_queue::WideUnorderedQueue;
 use crate::{each_kind, of_kind};
 use std::alloc::{AllocError, Global};
 use values::{Items, Multiset, Spans};
@@ -30,6 +32,8 @@ pub enum AnyState {
     UnorderedQueue(Multiset),
     WideRegister(Option<i64>),
     WideSet(Spans),
+    WideFifoQueue(Items),
+    WideUnorderedQueue(Multiset),
 }
 
 macro_rules! drop_of {

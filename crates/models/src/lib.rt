@@ -21,8 +21,10 @@ mod outcomes;
 pub mod register;
 pub mod set;
 pub mod unordered_queue;
+pub mod wide_fifo_queue;
 pub mod wide_register;
 pub mod wide_set;
+pub mod wide_unordered_queue;
 
 pub use any_state::AnyState;
 pub use cas_register::CasRegister;
@@ -35,5 +37,7 @@ pub use operation::{Key, Name, Op, Part};
 pub use register::Register;
 pub use set::Set;
 pub use unordered_queue::UnorderedQueue;
+pub use wide_fifo_queue::WideFifoQueue;
 pub use wide_register::WideRegister;
 pub use wide_set::WideSet;
+pub use wide_unordered_queue::WideUnorderedQueue;

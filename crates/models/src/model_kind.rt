@@ -22,6 +22,10 @@ pub enum ModelKind {
     WideRegister,
     /// A set of which nothing is counted.
     WideSet,
+    /// A queue of which only equal values are counted.
+    WideFifoQueue,
+    /// A queue without an order of which nothing is counted.
+    WideUnorderedQueue,
 }
 
 /// The list of the kinds: `each_kind!(callback; args)` is `callback!(args; KIND "name", ..)`. KIND is the kind's variant in
@@ -41,7 +45,9 @@ macro_rules! each_kind {
             Set "set",
             UnorderedQueue "unordered-queue",
             WideRegister "wide-register",
-            WideSet "wide-set"
+            WideSet "wide-set",
+            WideFifoQueue "wide-fifo-queue",
+            WideUnorderedQueue "wide-unordered-queue"
         }
     };
 }

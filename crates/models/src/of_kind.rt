@@ -12,8 +12,10 @@ use crate::operation::Op;
 use crate::register::Register;
 use crate::set::Set;
 use crate::unordered_queue::UnorderedQueue;
+use crate::wide_fifo_queue::WideFifoQueue;
 use crate::wide_register::WideRegister;
 use crate::wide_set::WideSet;
+use crate::wide_unordered_queue::WideUnorderedQueue;
 use std::alloc::{AllocError, Global};
 use values::{Items, Multiset, Spans};
 
@@ -111,6 +113,28 @@ impl OfKind for WideSet {
 
     fn into_any(state: Spans) -> AnyState {
         AnyState::WideSet(state)
+    }
+}
+
+impl OfKind for WideFifoQueue {
+    ghost use Rattle.models.specs.AnyState.{any};
+    ghost use Rattle.models.specs.declared.model_kind.ModelKind.TheVariants.{WideFifoQueue as OfThisKind};
+
+    ghost as_any = { λ state. any OfThisKind state };
+
+    fn into_any(state: Items) -> AnyState {
+        AnyState::WideFifoQueue(state)
+    }
+}
+
+impl OfKind for WideUnorderedQueue {
+    ghost use Rattle.models.specs.AnyState.{any};
+    ghost use Rattle.models.specs.declared.model_kind.ModelKind.TheVariants.{WideUnorderedQueue as OfThisKind};
+
+    ghost as_any = { λ state. any OfThisKind state };
+
+    fn into_any(state: Multiset) -> AnyState {
+        AnyState::WideUnorderedQueue(state)
     }
 }
 

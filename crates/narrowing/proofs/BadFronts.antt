@@ -4,7 +4,7 @@ use Rattle.std.specs.List.{Contains}
 use Rattle.std.proofs.lemmas.Bool.{cases_Bool, true≢false, not-true}
 use Rattle.std.proofs.lemmas.List.Elements.{Contains-append_left, Contains-append_right, Contains-push_cases, filter-append}
 use Rattle.models.specs.declared.model_kind.ModelKind.{ModelKind}
-use Rattle.models.specs.declared.model_kind.ModelKind.TheVariants.{Register, CasRegister, Mutex, FifoQueue, Set, UnorderedQueue, WideRegister, WideSet}
+use Rattle.models.specs.declared.model_kind.ModelKind.TheVariants.{Register, CasRegister, Mutex, FifoQueue, Set, UnorderedQueue, WideRegister, WideSet, WideFifoQueue, WideUnorderedQueue}
 use Rattle.models.specs.Objects.{Object, object_of, ReadsLeave}
 use Rattle.models.specs.Reads.{register_reads, cas_register_reads, mutex_reads, queue_reads, set_reads, unordered_reads}
 use Rattle.events.specs.Events.{Mark, Entry, marks, IsFront}
@@ -87,6 +87,8 @@ kind_reads Set = set_reads
 kind_reads UnorderedQueue = unordered_reads
 kind_reads WideRegister = register_reads
 kind_reads WideSet = set_reads
+kind_reads WideFifoQueue = queue_reads
+kind_reads WideUnorderedQueue = unordered_reads
 
 module _ (out : ℕ → Bool) (o : Object) (entries : List Entry) (last : Entry) (well : AreWellFormed (marks entries)) where
   module _ (before after : List Entry) (whole : before ++ last ∷ after ≡ entries) where

@@ -31,7 +31,7 @@ macro_rules! kinds {
     };
 }
 
-const KINDS: [ModelKind; 8] = each_kind!(kinds;);
+const KINDS: [ModelKind; 10] = each_kind!(kinds;);
 
 // Whether objects of this kind have operations of this name.
 fn has_operation(kind: ModelKind, name: Name) -> bool {
@@ -41,7 +41,10 @@ fn has_operation(kind: ModelKind, name: Name) -> bool {
         }
         ModelKind::CasRegister => matches!(name, Name::Read | Name::Write | Name::Cas),
         ModelKind::Mutex => matches!(name, Name::Acquire | Name::Release),
-        ModelKind::FifoQueue | ModelKind::UnorderedQueue => {
+        ModelKind::FifoQueue
+        | ModelKind::UnorderedQueue
+        | ModelKind::WideFifoQueue
+        | ModelKind::WideUnorderedQueue => {
             matches!(name, Name::Enqueue | Name::Dequeue)
         }
         ModelKind::Set | ModelKind::WideSet => matches!(name, Name::Add | Name::Read),
@@ -86,6 +89,8 @@ fn wide_kind(monitor: &Monitor, key: Key) -> Option<ModelKind> {
     match kind_of(monitor, key)? {
         ModelKind::Register => Some(ModelKind::WideRegister),
         ModelKind::Set => Some(ModelKind::WideSet),
+        ModelKind::FifoQueue => Some(ModelKind::WideFifoQueue),
+        ModelKind::UnorderedQueue => Some(ModelKind::WideUnorderedQueue),
         _ => None,
     }
 }

@@ -3,7 +3,7 @@ use Rattle.std.proofs.Common.{refl, ℕ, zero, suc, ◌+◌, ◌≤◌, Bool, tr
 use Rattle.std.specs.Prelude.{nat_eq, if◌then◌else◌}
 use Rattle.std.proofs.lemmas.Bool.Decides.{nat_tests}
 use Rattle.models.specs.declared.model_kind.ModelKind.{ModelKind}
-use Rattle.models.specs.declared.model_kind.ModelKind.TheVariants.{Register, CasRegister, Mutex, FifoQueue, UnorderedQueue, WideRegister, WideSet, Set}
+use Rattle.models.specs.declared.model_kind.ModelKind.TheVariants.{Register, CasRegister, Mutex, FifoQueue, UnorderedQueue, WideRegister, WideSet, WideFifoQueue, WideUnorderedQueue, Set}
 use Rattle.generators.specs.declared.item.Item.{Item}
 use Rattle.generators.specs.Generators.{Generator, these, AllItemsOf, Each}
 use Rattle.test_store.specs.Store.{IsCount, AreOnce, AreBelow}
@@ -29,6 +29,8 @@ key_passes (IsPresent n) UnorderedQueue key = ((tt, (tt, (tt, tt))), ((tt, tt), 
 key_passes (IsPresent n) Set key = ((tt, (tt, (tt, tt))), ((tt, tt), tt))
 key_passes (IsPresent n) WideRegister key = ((tt, tt), ((tt, (tt, (tt, tt))), tt))
 key_passes (IsPresent n) WideSet key = ((tt, (tt, (tt, tt))), ((tt, tt), tt))
+key_passes (IsPresent n) WideFifoQueue key = ((tt, (tt, (tt, tt))), ((tt, tt), tt))
+key_passes (IsPresent n) WideUnorderedQueue key = ((tt, (tt, (tt, tt))), ((tt, tt), tt))
 key_passes IsInTables Register key = ((tt, tt), ((tt, (tt, (tt, tt))), tt))
 key_passes IsInTables CasRegister key = ((tt, tt), ((tt, (tt, (tt, tt))), ((tt, (tt, (tt, tt))), tt)))
 key_passes IsInTables Mutex key = ((tt, tt), ((tt, tt), tt))
@@ -37,6 +39,8 @@ key_passes IsInTables UnorderedQueue key = ((tt, (tt, (tt, tt))), ((tt, tt), tt)
 key_passes IsInTables Set key = ((tt, (tt, (tt, tt))), ((tt, tt), tt))
 key_passes IsInTables WideRegister key = ((tt, tt), ((tt, (tt, (tt, tt))), tt))
 key_passes IsInTables WideSet key = ((tt, (tt, (tt, tt))), ((tt, tt), tt))
+key_passes IsInTables WideFifoQueue key = ((tt, (tt, (tt, tt))), ((tt, tt), tt))
+key_passes IsInTables WideUnorderedQueue key = ((tt, (tt, (tt, tt))), ((tt, tt), tt))
 
 keys_pass : (test : Test) (kind : ModelKind) (n : ℕ) → AllItemsOf (Passes test) (these (on_keys kind n))
 keys_pass test kind zero = tt

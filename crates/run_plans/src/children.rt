@@ -43,7 +43,10 @@ fn add_children(
             children.push(plain(alloc, key, Name::Acquire)?)?;
             children.push(plain(alloc, key, Name::Release)?)?;
         }
-        ModelKind::FifoQueue | ModelKind::UnorderedQueue => {
+        ModelKind::FifoQueue
+        | ModelKind::UnorderedQueue
+        | ModelKind::WideFifoQueue
+        | ModelKind::WideUnorderedQueue => {
             children.push(numbers(alloc, key, Name::Enqueue)?)?;
             children.push(plain(alloc, key, Name::Dequeue)?)?;
         }

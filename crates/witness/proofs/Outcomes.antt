@@ -5,7 +5,7 @@ use Rattle.std.proofs.lemmas.List.{length-append, length-map}
 use Rattle.models.specs.declared.operation.Op.{Op}
 use Rattle.models.specs.declared.finding.Found.{Found}
 use Rattle.models.specs.declared.model_kind.ModelKind.{ModelKind}
-use Rattle.models.specs.declared.model_kind.ModelKind.TheVariants.{Register, CasRegister, Mutex, FifoQueue, Set, UnorderedQueue, WideRegister, WideSet}
+use Rattle.models.specs.declared.model_kind.ModelKind.TheVariants.{Register, CasRegister, Mutex, FifoQueue, Set, UnorderedQueue, WideRegister, WideSet, WideFifoQueue, WideUnorderedQueue}
 use Rattle.models.specs.declared.any_state.AnyState.{AnyState}
 use Rattle.models.specs.AnyState.{any, outcomes_of}
 use Rattle.models.specs.Objects.{IsOneOf, table_of, object_of}
@@ -15,7 +15,7 @@ use Rattle.witness.specs.declared.calls.Call.{Call}
 use Rattle.witness.specs.declared.misfit.Misfit.{Misfit}
 use Rattle.witness.specs.declared.misfit.Misfit.TheVariants.{CannotTakePlace, AnotherAnswer}
 use Rattle.witness.specs.Calls.{FitsIf, CanRun, unanswered}
-use Rattle.witness.specs.Taking.{LeadsTo, HaltsIn, Takes}
+use Rattle.witness.specs.Taking.{HasOrder, LeadsTo, HaltsIn, Takes}
 
 few : {X : Type 0} (xs : List X) → (IsTrue false ↔ (1 < length xs)) → length xs ≤ 1
 few xs h = not_more (length xs) (λ l. true≢false (sym (h.1 l)))
@@ -25,15 +25,17 @@ few xs h = not_more (length xs) (λ l. true≢false (sym (h.1 l)))
     not_more (suc zero) h = omega arith
     not_more (suc (suc n)) h = absurd (h (omega arith))
 
-pub one_at_most : (kind : ModelKind) → kind ≢ UnorderedQueue → (op : Op) (s : (table_of kind).State) → length ((table_of kind).apply op s) ≤ 1
+pub one_at_most : (kind : ModelKind) → HasOrder kind → (op : Op) (s : (table_of kind).State) → length ((table_of kind).apply op s) ≤ 1
 one_at_most Register ne op s = few ((table_of Register).apply op s) (register_alone op s 1 (omega arith)).0
 one_at_most CasRegister ne op s = few ((table_of CasRegister).apply op s) (cas_register_alone op s 1 (omega arith)).0
 one_at_most Mutex ne op s = few ((table_of Mutex).apply op s) (mutex_alone op s 1 (omega arith)).0
 one_at_most FifoQueue ne op s = few ((table_of FifoQueue).apply op s) (queue_alone op s 1 (omega arith)).0
 one_at_most Set ne op s = few ((table_of Set).apply op s) (set_alone op s 1 (omega arith)).0
-one_at_most UnorderedQueue ne op s = absurd (ne refl)
+one_at_most UnorderedQueue ne op s = absurd (ne.0 refl)
 one_at_most WideRegister ne op s = few ((table_of WideRegister).apply op s) (register_alone op s 1 (omega arith)).0
 one_at_most WideSet ne op s = few ((table_of WideSet).apply op s) (set_alone op s 1 (omega arith)).0
+one_at_most WideFifoQueue ne op s = few ((table_of WideFifoQueue).apply op s) (queue_alone op s 1 (omega arith)).0
+one_at_most WideUnorderedQueue ne op s = absurd (ne.1 refl)
 
 -- a state has one form in each kind
 same_state : (kind : ModelKind) (s t : (object_of kind).State) → any kind s ≡ any kind t → s ≡ t
@@ -45,6 +47,8 @@ same_state Set s t e = cc
 same_state UnorderedQueue s t e = cc
 same_state WideRegister s t e = cc
 same_state WideSet s t e = cc
+same_state WideFifoQueue s t e = cc
+same_state WideUnorderedQueue s t e = cc
 
 module _ (kind : ModelKind) (s : (object_of kind).State) (c : Call) where
   -- no outcome
@@ -88,7 +92,7 @@ settle : (kind : ModelKind) (s : (object_of kind).State) (c : Call) (x : AnyStat
 settle kind s c x (Ok next) one h = let t = one_taken kind s c x one h.1 in (t.0, h.0 ∙ t.1, t.2)
 settle kind s c x (Err why) one h = subst (HaltsIn (object_of kind) s c) (sym h.0) (one_stands kind s c x one, one_unfit kind s c x one h.1)
 
-pub taken : (kind : ModelKind) (s : (object_of kind).State) (c : Call) → kind ≢ UnorderedQueue → (front : List (AnyState × Found)) (last : Option (AnyState × Found)) (r : Result AnyState Misfit)
+pub taken : (kind : ModelKind) (s : (object_of kind).State) (c : Call) → HasOrder kind → (front : List (AnyState × Found)) (last : Option (AnyState × Found)) (r : Result AnyState Misfit)
     → MatchOption last (outcomes_of kind s c.op ≡ []) (λ x. outcomes_of kind s c.op ≡ front ++ x ∷ [])
     → MatchOption last (r ≡ Err CannotTakePlace) (λ x. MatchResult r (λ next. (next ≡ x.0) × FitsIf x.1 c.answer) (λ why. (why ≡ AnotherAnswer) × ¬ FitsIf x.1 c.answer))
     → Takes kind s c r

@@ -1,6 +1,7 @@
 -- Invariant: one call in a state in which it has one outcome at most
-use Rattle.std.specs.Prelude.{◌≡◌, ◌↔◌, List, [], ◌∷◌, ◌++◌, Result, Ok, Err}
+use Rattle.std.specs.Prelude.{◌≡◌, ◌≢◌, ◌↔◌, List, [], ◌∷◌, ◌++◌, Result, Ok, Err}
 use Rattle.models.specs.declared.model_kind.ModelKind.{ModelKind}
+use Rattle.models.specs.declared.model_kind.ModelKind.TheVariants.{UnorderedQueue, WideUnorderedQueue}
 use Rattle.models.specs.declared.any_state.AnyState.{AnyState}
 use Rattle.models.specs.AnyState.{any}
 use Rattle.models.specs.Objects.{Object, object_of}
@@ -8,6 +9,10 @@ use Rattle.witness.specs.declared.calls.Call.{Call}
 use Rattle.witness.specs.declared.misfit.Misfit.{Misfit}
 use Rattle.witness.specs.declared.misfit.Misfit.TheVariants.{CannotTakePlace, AnotherAnswer}
 use Rattle.witness.specs.Calls.{CanRun, unanswered}
+
+-- an operation of an object of this kind has one outcome at most: it is no queue without an order
+abbrev pub HasOrder : ModelKind → Type 0
+HasOrder kind = (kind ≢ UnorderedQueue) × (kind ≢ WideUnorderedQueue)
 
 -- in the state s the call leads to t alone
 abbrev pub LeadsTo : (o : Object) → o.State → Call → o.State → Type 0

@@ -1,8 +1,8 @@
 //! Whether calls can take place one after another.
-ghost use Rattle.std.specs.Prelude.{◌≢◌, IfOk, MatchOption};
-ghost use Rattle.models.specs.declared.model_kind.ModelKind.{ModelKind};
+ghost use Rattle.std.specs.Prelude.{IfOk, MatchOption};
 ghost use Rattle.models.specs.Objects.{object_of};
 ghost use Rattle.witness.specs.Calls.{CanRun, IsHalt};
+ghost use Rattle.witness.specs.Taking.{HasOrder};
 
 use crate::calls::Call;
 use crate::misfit::Halt;
@@ -11,9 +11,9 @@ use crate::taking::take_call;
 use models::{AnyState, ModelKind};
 use std::alloc::{AllocError, Global};
 
-// Where the calls come to a halt, if they do, of any kind but the queue without an order: so each call has one outcome at most.
+// Where the calls come to a halt, if they do, of any kind but a queue without an order: so each call has one outcome at most.
 fn halt_in_turn(alloc: Global, kind: ModelKind, calls: &[Call]) -> Result<Option<Halt>, AllocError>
-    requires { kind ≢ ModelKind.UnorderedQueue }
+    requires { HasOrder kind }
     ensures { let o = object_of kind in IfOk result (λ first.
         MatchOption first (CanRun o calls.now o.start) (λ halt. IsHalt o calls.now halt.at halt.why)) }
 {
@@ -40,7 +40,7 @@ pub fn first_halt(
         MatchOption first (CanRun o calls.now o.start) (λ halt. IsHalt o calls.now halt.at halt.why)) }
 {
     match kind {
-        ModelKind::UnorderedQueue => queue_halt(alloc, calls),
+        ModelKind::UnorderedQueue | ModelKind::WideUnorderedQueue => queue_halt(alloc, calls),
         _ => halt_in_turn(alloc, kind, calls),
     }
 }

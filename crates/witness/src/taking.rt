@@ -1,11 +1,11 @@
 //! One call in a state in which it has one outcome at most.
-ghost use Rattle.std.specs.Prelude.{◌≡◌, ◌≢◌, ◌↔◌, Err, IsTrue, IfOk, MatchOption, MatchResult};
+ghost use Rattle.std.specs.Prelude.{◌≡◌, ◌↔◌, Err, IsTrue, IfOk, MatchOption, MatchResult};
 ghost use Rattle.models.specs.declared.model_kind.ModelKind.{ModelKind};
 ghost use Rattle.models.specs.Objects.{object_of};
 ghost use Rattle.models.specs.AnyState.{any};
 ghost use Rattle.witness.specs.declared.misfit.Misfit.{Misfit};
 ghost use Rattle.witness.specs.Calls.{FitsIf};
-ghost use Rattle.witness.specs.Taking.{Takes};
+ghost use Rattle.witness.specs.Taking.{HasOrder, Takes};
 
 use crate::calls::Call;
 use crate::misfit::Misfit;
@@ -47,7 +47,7 @@ pub(crate) fn take_call(
     state: &AnyState,
     call: &Call,
 ) -> Result<Result<AnyState, Misfit>, AllocError>
-    ensures { (kind : ModelKind) (s : (object_of kind).State) → kind ≢ ModelKind.UnorderedQueue
+    ensures { (kind : ModelKind) (s : (object_of kind).State) → HasOrder kind
         → state.now ≡ any kind s → IfOk result (Takes kind s call.now) }
 {
     let mut outcomes = state.apply(alloc, &call.op)?;

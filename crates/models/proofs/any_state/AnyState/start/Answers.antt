@@ -1,4 +1,4 @@
-use Rattle.models.specs.declared.model_kind.ModelKind.TheVariants.{Register, CasRegister, Mutex, FifoQueue, Set, UnorderedQueue, WideRegister, WideSet}
+use Rattle.models.specs.declared.model_kind.ModelKind.TheVariants.{Register, CasRegister, Mutex, FifoQueue, Set, UnorderedQueue, WideRegister, WideSet, WideFifoQueue, WideUnorderedQueue}
 use Rattle.models.proofs.AnyStates.{start_at}
 use Rattle.models.proofs.any_state.AnyState.start.Goals as goal
 
@@ -24,4 +24,8 @@ pub returns-in-WideRegister : goal.returns-in-WideRegister
 returns-in-WideRegister c = start_at WideRegister c.start-in-WideRegister.result c.args.kind c.start-in-WideRegister.ensures c.in-WideRegister.is
 
 pub returns-in-WideSet : goal.returns-in-WideSet
+pub returns-in-WideFifoQueue : goal.returns-in-WideFifoQueue
+pub returns-in-WideUnorderedQueue : goal.returns-in-WideUnorderedQueue
 returns-in-WideSet c = start_at WideSet c.start-in-WideSet.result c.args.kind c.start-in-WideSet.ensures c.in-WideSet.is
+returns-in-WideFifoQueue c = start_at WideFifoQueue c.start-in-WideFifoQueue.result c.args.kind c.start-in-WideFifoQueue.ensures c.in-WideFifoQueue.is
+returns-in-WideUnorderedQueue c = start_at WideUnorderedQueue c.start-in-WideUnorderedQueue.result c.args.kind c.start-in-WideUnorderedQueue.ensures c.in-WideUnorderedQueue.is
