@@ -1,10 +1,13 @@
 //! Judges of the history of a key of any kind.
 ghost use Rattle.std.specs.Prelude.{◌≡◌, IfOk};
 ghost use Rattle.models.specs.Objects.{object_of, of_table};
+ghost use Rattle.models.specs.declared.model_kind.ModelKind.TheVariants.{WideRegister as OfWideRegister, WideSet as OfWideSet};
 ghost use Rattle.linspec.specs.Counts.{CountsMoreThan};
 ghost use Rattle.frontier.specs.AnyFrontier.{any_view_of, kind_of_frontier};
 ghost use Rattle.frontier.specs.Kept.{view_of};
 ghost use Rattle.judging.specs.Meaning.{Commits, IsCopy, IsStart, Observes, Prepares, mark_by};
+ghost use Rattle.wide_register.specs.Views.{view_of as wide_register_view_of};
+ghost use Rattle.wide_set.specs.Views.{view_of as wide_set_view_of};
 
 use crate::frontier::Frontier;
 use events::EventKind;
@@ -82,8 +85,8 @@ macro_rules! observe_of {
     ($any:expr, $id:expr, $event:expr, $op:expr; $($K:ident $name:literal),*) => {
         match $any {
             $(AnyFrontier::$K(frontier) => frontier.observe($id, $event, $op),)*
-            AnyFrontier::WideRegister(judge) => judge.observe($id, $event, $op),
-            AnyFrontier::WideSet(judge) => judge.observe($id, $event, $op),
+            AnyFrontier::WideRegister(judge) => observe_wide_register(judge, $id, $event, $op),
+            AnyFrontier::WideSet(judge) => observe_wide_set(judge, $id, $event, $op),
         }
     };
 }
@@ -92,8 +95,8 @@ macro_rules! prepare_of {
     ($any:expr, $id:expr, $event:expr, $op:expr; $($K:ident $name:literal),*) => {
         match $any {
             $(AnyFrontier::$K(frontier) => frontier.prepare($id, $event, $op),)*
-            AnyFrontier::WideRegister(judge) => judge.prepare($id, $event, $op),
-            AnyFrontier::WideSet(judge) => judge.prepare($id, $event, $op),
+            AnyFrontier::WideRegister(judge) => prepare_wide_register(judge, $id, $event, $op),
+            AnyFrontier::WideSet(judge) => prepare_wide_set(judge, $id, $event, $op),
         }
     };
 }
@@ -124,6 +127,62 @@ fn copied<M: SeqObject>(frontier: &Frontier<M>) -> Result<Box<Frontier<M>>, Allo
         IfOk result (λ f. IsCopy (view_of object frontier.now) (view_of object f.value)) }
 {
     Ok(Box::new(frontier.allocator(), frontier.copy()?)?)
+}
+
+// Prepares an event of a wide register; apart, so that the code for the plain kinds stays so short that it is laid into its callers.
+#[inline(never)]
+fn prepare_wide_register(
+    judge: &mut WideRegister,
+    id: u32,
+    kind: EventKind,
+    op: &Op,
+) -> Result<Step, AllocError>
+    ensures { Prepares (wide_register_view_of judge.old) (wide_register_view_of judge.new) (CountsMoreThan OfWideRegister) (object_of OfWideRegister)
+        (mark_by id kind op.now) result }
+{
+    judge.prepare(id, kind, op)
+}
+
+// Prepares an event of a wide set, likewise.
+#[inline(never)]
+fn prepare_wide_set(
+    judge: &mut WideSet,
+    id: u32,
+    kind: EventKind,
+    op: &Op,
+) -> Result<Step, AllocError>
+    ensures { Prepares (wide_set_view_of judge.old) (wide_set_view_of judge.new) (CountsMoreThan OfWideSet) (object_of OfWideSet)
+        (mark_by id kind op.now) result }
+{
+    judge.prepare(id, kind, op)
+}
+
+// An event of a wide register, likewise.
+#[inline(never)]
+fn observe_wide_register(
+    judge: &mut WideRegister,
+    id: u32,
+    kind: EventKind,
+    op: &Op,
+) -> Result<Step, AllocError>
+    ensures { Observes (wide_register_view_of judge.old) (wide_register_view_of judge.new) (CountsMoreThan OfWideRegister) (object_of OfWideRegister)
+        (mark_by id kind op.now) result }
+{
+    judge.observe(id, kind, op)
+}
+
+// An event of a wide set, likewise.
+#[inline(never)]
+fn observe_wide_set(
+    judge: &mut WideSet,
+    id: u32,
+    kind: EventKind,
+    op: &Op,
+) -> Result<Step, AllocError>
+    ensures { Observes (wide_set_view_of judge.old) (wide_set_view_of judge.new) (CountsMoreThan OfWideSet) (object_of OfWideSet)
+        (mark_by id kind op.now) result }
+{
+    judge.observe(id, kind, op)
 }
 
 impl AnyFrontier {

@@ -19,7 +19,7 @@ pub returns-in-UnorderedQueue-clause-observed : goal.returns-in-UnorderedQueue-c
 returns-in-UnorderedQueue-clause-observed c = rw c.in-UnorderedQueue.is (rw (← c.deref_mut-in-UnorderedQueue.ensures.value) c.observe-in-UnorderedQueue.ensures)
 
 pub returns-in-WideRegister-clause-observed : goal.returns-in-WideRegister-clause-observed
-returns-in-WideRegister-clause-observed c = rw c.in-WideRegister.is (rw (← c.deref_mut-in-WideRegister.ensures.value) c.observe-in-WideRegister.ensures)
+returns-in-WideRegister-clause-observed c = rw c.in-WideRegister.is (rw (← c.deref_mut-in-WideRegister.ensures.value) c.observe_wide_register.ensures)
 
 pub returns-in-WideSet-clause-observed : goal.returns-in-WideSet-clause-observed
-returns-in-WideSet-clause-observed c = rw c.in-WideSet.is (rw (← c.deref_mut-in-WideSet.ensures.value) c.observe-in-WideSet.ensures)
+returns-in-WideSet-clause-observed c = rw c.in-WideSet.is (rw (← c.deref_mut-in-WideSet.ensures.value) c.observe_wide_set.ensures)

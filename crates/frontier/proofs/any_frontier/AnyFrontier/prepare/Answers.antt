@@ -19,7 +19,7 @@ pub returns-in-UnorderedQueue-clause-prepared : goal.returns-in-UnorderedQueue-c
 returns-in-UnorderedQueue-clause-prepared c = rw c.in-UnorderedQueue.is (rw (← c.deref_mut-in-UnorderedQueue.ensures.value) c.prepare-in-UnorderedQueue.ensures)
 
 pub returns-in-WideRegister-clause-prepared : goal.returns-in-WideRegister-clause-prepared
-returns-in-WideRegister-clause-prepared c = rw c.in-WideRegister.is (rw (← c.deref_mut-in-WideRegister.ensures.value) c.prepare-in-WideRegister.ensures)
+returns-in-WideRegister-clause-prepared c = rw c.in-WideRegister.is (rw (← c.deref_mut-in-WideRegister.ensures.value) c.prepare_wide_register.ensures)
 
 pub returns-in-WideSet-clause-prepared : goal.returns-in-WideSet-clause-prepared
-returns-in-WideSet-clause-prepared c = rw c.in-WideSet.is (rw (← c.deref_mut-in-WideSet.ensures.value) c.prepare-in-WideSet.ensures)
+returns-in-WideSet-clause-prepared c = rw c.in-WideSet.is (rw (← c.deref_mut-in-WideSet.ensures.value) c.prepare_wide_set.ensures)
