@@ -82,10 +82,7 @@ none_tried k m before after c e =
     grind arith
 
 pub invoke_cost : (k : Kept) (id : ℕ) (op : Op) (before after : ℕ) → IsCounted k (Invoked id op) before after → after ≡ before
-invoke_cost k id op before after c = none_tried k (Invoked id op) before after c (⊎_elim
-    (λ d. subst (λ x. AreTries k.calls.items x c.tries) d.1 c.are_tries)
-    (λ d. subst (λ x. AreTries k.calls.items x c.tries) d.1 c.are_tries)
-    c.is_deed)
+invoke_cost k id op before after c = none_tried k (Invoked id op) before after c (subst (λ x. AreTries k.calls.items x c.tries) c.is_deed c.are_tries)
 
 pub fail_cost : (k : Kept) (id : ℕ) (before after : ℕ) → IsCounted k (Failed id) before after → after ≡ before
 fail_cost k id before after c = none_tried k (Failed id) before after c (subst (λ x. AreTries k.calls.items x c.tries) c.is_deed c.are_tries)

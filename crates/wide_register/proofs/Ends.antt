@@ -1,5 +1,5 @@
--- the end of a row
-use Rattle.std.proofs.Common.{◌≡◌, ◌↔◌, ℕ, ◌<◌, ℤ, ⊎_elim, Bool, true, false, IsTrue, not, nat_eq, nat_lt, ◌&&◌, ◌||◌, List, [], ◌∷◌, refl, sym, ap, ◌∙◌, subst, arith}
+-- what the end of a row says
+use Rattle.std.proofs.Common.{◌≡◌, ◌↔◌, ℕ, ◌<◌, ℤ, ◌⊎◌, inl, inr, ⊎_elim, Option, Some, None, Bool, true, false, IsTrue, not, nat_eq, nat_lt, ◌&&◌, ◌||◌, List, [], ◌∷◌, refl, sym, ap, ◌∙◌, subst, arith}
 use Rattle.std.specs.List.{Contains, list_any}
 use Rattle.std.specs.Ordering.{int_eq}
 use Rattle.std.proofs.lemmas.Bool.{cases_Bool, true≢false, and_parts, and_from}
@@ -9,9 +9,11 @@ use Rattle.linspec.proofs.Lists.{Contains-nil, Contains-head, Contains-tail, Con
 use Rattle.linspec.specs.LeanEnds.{LeanEnd, IsPutBehind, IsPutBefore, IsWithout, IsWithRead}
 use Rattle.lean_ends.proofs.Left.{at_most_each_other}
 use Rattle.wide_register.specs.declared.calls.Call.{Call}
-use Rattle.wide_register.specs.declared.row.Found.{Found}
+use Rattle.wide_register.specs.declared.row.Passed.{Passed}
 use Rattle.wide_register.specs.declared.row.Row.{Row}
-use Rattle.wide_register.specs.Facts.{HasDoor, end_of}
+use Rattle.wide_register.specs.declared.calls.What.{What}
+use Rattle.wide_register.specs.declared.calls.What.TheVariants.{Writes, Reads}
+use Rattle.wide_register.specs.Facts.{CanFind, HasDoor, can_find, end_of, is_read, is_state}
 
 module _ {X : Type 0} (p : X → Bool) where
   pub any_from : (xs : List X) → IsTrue (list_any p xs) → (x : X) × Contains xs x × IsTrue (p x)
@@ -55,6 +57,29 @@ not_to : (b : Bool) → ¬ IsTrue b → IsTrue (not b)
 not_to true h = absurd (h refl)
 not_to false h = refl
 
+or_from : (a b : Bool) → IsTrue (a || b) → IsTrue a ⊎ IsTrue b
+or_from true b h = inl refl
+or_from false b h = inr h
+
+or_left : (a b : Bool) → IsTrue a → IsTrue (a || b)
+or_left true b h = refl
+or_left false b h = absurd (true≢false (sym h))
+
+or_right : (a b : Bool) → IsTrue b → IsTrue (a || b)
+or_right true b h = refl
+or_right false b h = h
+
+pub state_from : (s : Option ℤ) (v : ℤ) → IsTrue (is_state s v) → s ≡ Some v
+state_from None v h = absurd (true≢false (sym h))
+state_from (Some w) v h = ap Some ((Decides-int_eq w v).0 h)
+
+pub state_to : (s : Option ℤ) (v : ℤ) → s ≡ Some v → IsTrue (is_state s v)
+state_to s v e = subst (λ t. IsTrue (is_state t v)) (sym e) ((Decides-int_eq v v).1 refl)
+
+pub read_from : (w : What) → IsTrue (is_read w) → w ≡ Reads
+read_from Reads h = refl
+read_from (Writes v) h = absurd (true≢false (sym h))
+
 module _ (calls : List Call) (row : Row) where
   abbrev e : LeanEnd
   e = end_of calls row
@@ -86,20 +111,33 @@ module _ (calls : List Call) (row : Row) where
       (not_to _ (λ n. h.3.1 (subst (Contains row.needed.items) (sym h.2) (needed_from i n))))
 
   abbrev pub Finds : ℕ → ℤ → Type 0
-  Finds r v = Contains row.finds.items (record { read = r; value = v })
+  Finds r v = (c : Call) × Contains calls c × (c.id ≡ r) × (c.what ≡ Reads) × CanFind row v c.since
+
+  can_find_from : (v : ℤ) (t : ℕ) → IsTrue (can_find row v t) → CanFind row v t
+  can_find_from v t h = ⊎_elim
+      (λ k.
+      let j = any_from (λ (p : Passed). int_eq p.value v && nat_lt t p.gap) row.passed.items k in
+      let b = and_parts _ _ j.2 in
+      inl (j.0, j.1, (Decides-int_eq j.0.value v).0 b.0, lt_from t j.0.gap b.1))
+      (λ k. inr (state_from row.state v k))
+      (or_from _ _ h)
+
+  can_find_to : (v : ℤ) (t : ℕ) → CanFind row v t → IsTrue (can_find row v t)
+  can_find_to v t h = ⊎_elim
+      (λ k. or_left _ _ (any_to (λ (p : Passed). int_eq p.value v && nat_lt t p.gap) row.passed.items k.0 k.1 (and_from _ _ ((Decides-int_eq k.0.value v).1 k.2) (lt_to t k.0.gap k.3))))
+      (λ k. or_right _ _ (state_to row.state v k))
+      h
 
   pub finds_from : (r : ℕ) (v : ℤ) → IsTrue (e.finds r v) → Finds r v
   finds_from r v h =
-      let k = any_from (λ (f : Found). nat_eq f.read r && int_eq f.value v) row.finds.items h in
-      let b = and_parts _ _ k.2 in
-      let x : k.0.read ≡ r = eq_from k.0.read r b.0 in
-      let y : k.0.value ≡ v = (Decides-int_eq k.0.value v).0 b.1 in
-      let same : k.0 ≡ record { read = r; value = v } = ap (λ i. record { read = i; value = k.0.value }) x ∙ ap (λ w. record { read = r; value = w }) y in
-      subst (Contains row.finds.items) same k.1
+      let k = any_from (λ (c : Call). (nat_eq c.id r && is_read c.what) && can_find row v c.since) calls h in
+      let a = and_parts _ _ k.2 in
+      let b = and_parts _ _ a.0 in
+      (k.0, k.1, eq_from k.0.id r b.0, read_from k.0.what b.1, can_find_from v k.0.since a.1)
 
   pub finds_to : (r : ℕ) (v : ℤ) → Finds r v → IsTrue (e.finds r v)
-  finds_to r v h = any_to (λ (f : Found). nat_eq f.read r && int_eq f.value v) row.finds.items (record { read = r; value = v }) h
-      (and_from _ _ (eq_to r r refl) ((Decides-int_eq v v).1 refl))
+  finds_to r v k = any_to (λ (c : Call). (nat_eq c.id r && is_read c.what) && can_find row v c.since) calls k.0 k.1
+      (and_from _ _ (and_from _ _ (eq_to k.0.id r k.2) (ap is_read k.3)) (can_find_to v k.0.since k.4))
 
 -- ends that say the same are the same
 abbrev Alike : (ℕ → Bool) → (ℕ → Bool) → Type 0

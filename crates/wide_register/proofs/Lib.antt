@@ -11,9 +11,12 @@ pub mod Steps
 pub mod Judging
 pub mod Costs
 pub mod Retained
-pub mod Finding
+pub mod Trimming
 pub mod Keeping
 pub mod Making
 pub mod Copies
 pub mod Gathering
+pub mod Changes
+pub mod Inserting
+pub mod Noting
 pub mod Crossing

@@ -15,7 +15,7 @@ use Rattle.wide_register.specs.declared.calls.What.TheVariants.{Writes, Reads}
 use Rattle.wide_register.specs.declared.next.Deed.{Deed}
 use Rattle.wide_register.specs.declared.next.Deed.TheVariants.{EndsWrite, EndsRead}
 use Rattle.wide_register.specs.declared.row.Row.{Row}
-use Rattle.wide_register.specs.Facts.{AreCalls, Has, HasCall, HasDoor, HasNextBy, HasPuts, IsDeed, IsNextBy, IsPutOf, IsWithoutId, end_of, is_other}
+use Rattle.wide_register.specs.Facts.{AreCalls, CanFind, Has, HasCall, HasDoor, HasNextBy, HasPuts, IsDeed, IsNextBy, IsPutOf, IsWithoutId, end_of, is_other}
 use Rattle.wide_register.proofs.Ends.{needed_from, needed_to, door_from, door_to, finds_from, finds_to, without_once, behind_once, before_once}
 use Rattle.wide_register.proofs.Moves.{same_call, without_is, is_behind, is_before, is_read, is_write}
 use Rattle.wide_register.proofs.Others.{filtered}
@@ -43,13 +43,13 @@ module _ (marks : List Mark) (well : AreWellFormed marks) (calls : List Call) (a
     abbrev Puts : ℕ → ℤ → Type 0 → LeanEnd → Type 0
     Puts w v before f = (g : LeanEnd) × (IsPutBehind marks e w v g ⊎ (before × IsPutBefore marks e w v g)) × IsWithout g out f
 
-    put_each : (c : Call) (v : ℤ) (before : Type 0) → (before → IsTrue (e.door c.id)) → (new : Row) → IsPutOf calls now c v out before row new → Puts c.id v before (end_of others new)
+    put_each : (c : Call) (v : ℤ) (before : Type 0) → (before → IsTrue (e.door c.id)) → (new : Row) → IsPutOf now c v out before row new → Puts c.id v before (end_of others new)
     put_each c v before door new p = ⊎_elim
         (λ q. (let g = is_behind marks well calls are row low left out others (filtered out calls) c.id v new q in (g.0, inl g.1, g.2)))
         (λ q. (let g = is_before marks well calls are row low left out others (filtered out calls) c.id v new (door q.0) q.1 in (g.0, inr (q.0, g.1), g.2)))
         p
 
-    put_all : (c : Call) (v : ℤ) (before : Type 0) → (made : List Row) → HasPuts calls now c v out before row made → (f : LeanEnd) → Puts c.id v before f → Has made (λ new. end_of others new ≡ f)
+    put_all : (c : Call) (v : ℤ) (before : Type 0) → (made : List Row) → HasPuts now c v out before row made → (f : LeanEnd) → Puts c.id v before f → Has made (λ new. end_of others new ≡ f)
     put_all c v before made h f p = ⊎_elim
         (λ b.
         let m = h.0 in
@@ -83,19 +83,27 @@ module _ (marks : List Mark) (well : AreWellFormed marks) (calls : List Call) (a
         b
 
   -- the ok of a read that answers v
-  module _ (r : Call) (v : ℤ) (h : Contains calls r) where
+  module _ (r : Call) (v : ℤ) (h : Contains calls r) (is : r.what ≡ Reads) where
     abbrev rest : List Call
     rest = filter (is_other r.id) calls
 
+    finds_of : CanFind row v r.since → IsTrue (e.finds r.id v)
+    finds_of k = finds_to calls row r.id v (r, h, refl, is, k)
+
+    of_finds : IsTrue (e.finds r.id v) → CanFind row v r.since
+    of_finds k =
+        let f = finds_from calls row r.id v k in
+        subst (λ (c : Call). CanFind row v c.since) (same_call calls are.once f.0 r f.1 h f.2) f.4
+
     read_each : (new : Row) → IsNextBy calls now (EndsRead r v) row new → EndsReadBy marks e r.id v (end_of rest new)
     read_each new n = ⊎_elim
-        (λ k. inl (finds_to calls row r.id v k.0, without_is r.id calls rest (filtered r.id calls) row new k.1))
+        (λ k. inl (finds_of k.0, without_is r.id calls rest (filtered r.id calls) row new k.1))
         (λ k.
         let c = k.1.0 in
         let i : Contains calls c = k.1.1 in
         let p = put_each r.id c v (HasDoor row r × HasDoor row c) (λ d. door_of c i d.1) new k.1.3 in
         inr (
-          (λ d. k.0 (finds_from calls row r.id v d)),
+          (λ d. k.0 (of_finds d)),
           (
             c.id,
             p.0,
@@ -110,7 +118,7 @@ module _ (marks : List Mark) (well : AreWellFormed marks) (calls : List Call) (a
     read_all : (made : List Row) → HasNextBy calls now (EndsRead r v) row made → (f : LeanEnd) → EndsReadBy marks e r.id v f → Has made (λ new. end_of rest new ≡ f)
     read_all made n f b = ⊎_elim
         (λ k.
-        let m = n.0 (finds_from calls row r.id v k.0) in
+        let m = n.0 (of_finds k.0) in
         (m.0, m.1, without_once e (end_of rest m.0) f r.id (without_is r.id calls rest (filtered r.id calls) row m.0 m.2) k.1))
         (λ k.
         let x = k.1.0 in
@@ -118,7 +126,7 @@ module _ (marks : List Mark) (well : AreWellFormed marks) (calls : List Call) (a
         let c = are.all x (Writes v) k.1.2 in
         let same : c.0.id ≡ x = c.2 in
         put_all r.id c.0 v (HasDoor row r × HasDoor row c.0) made
-        (n.1 (λ d. k.0 (finds_to calls row r.id v d)) c.0 c.1 (c.3, (λ d. k.1.3 (needed_to calls row x (subst (Contains row.needed.items) same d)))))
+        (n.1 (λ d. k.0 (finds_of d)) c.0 c.1 (c.3, (λ d. k.1.3 (needed_to calls row x (subst (Contains row.needed.items) same d)))))
         f (
           g,
           ⊎_elim
@@ -173,7 +181,7 @@ module _ (marks : List Mark) (well : AreWellFormed marks) (calls : List Call) (a
         let c = k.0 in
         let v = k.1 in
         let h : HasCall calls id Reads c = k.2 in
-        let ends = read_each c v h.0 new (subst (λ x. IsNextBy calls now x row new) k.4 n) in
+        let ends = read_each c v h.0 h.2 new (subst (λ x. IsNextBy calls now x row new) k.4 n) in
         inr (inr (v, a_read c h, k.3, subst (λ i. EndsReadBy marks e i v (end_of (filter (is_other i) calls) new)) h.1 ends)))
         (λ k. absurd (subst (λ x. IsNextBy calls now x row new) k.0 n))
         d2)
@@ -218,7 +226,7 @@ module _ (marks : List Mark) (well : AreWellFormed marks) (calls : List Call) (a
         let q : Number j.0 ≡ Number v = sym j.2 ∙ k.3 in
         let same : j.0 ≡ v = cc in
         let b' : EndsReadBy marks e c.id v f = subst (λ i. EndsReadBy marks e i v f) (sym h.1) (subst (λ w. EndsReadBy marks e id w f) same j.3) in
-        subst (λ i. Has made (λ new. end_of (filter (is_other i) calls) new ≡ f)) h.1 (read_all c v h.0 made n' f b'))
+        subst (λ i. Has made (λ new. end_of (filter (is_other i) calls) new ≡ f)) h.1 (read_all c v h.0 h.2 made n' f b'))
         b1)
         b)
         (λ k. ⊎_elim

@@ -9,10 +9,10 @@ use Rattle.wide_register.specs.declared.calls.Call.{Call}
 use Rattle.wide_register.specs.declared.calls.What.{What}
 use Rattle.wide_register.specs.declared.calls.What.TheVariants.{Writes, Reads}
 use Rattle.wide_register.specs.declared.row.Row.{Row}
-use Rattle.wide_register.specs.Facts.{calls_with, crashed, end_of, is_other, is_read, outlives}
+use Rattle.wide_register.specs.Facts.{CanFind, calls_with, crashed, end_of, is_other, is_read, outlives}
 use Rattle.wide_register.proofs.Ends.{door_from, door_to, needed_from, needed_to, finds_from, finds_to, same_end}
 use Rattle.wide_register.proofs.Lists.{was_in, passes, stays_in}
-use Rattle.wide_register.proofs.Moves.{AreOthers}
+use Rattle.wide_register.proofs.Moves.{AreOthers, found_before, found_after}
 
 pub other_from : (id : ℕ) (c : Call) → is_other id c ≡ true → c.id ≢ id
 other_from id c h e = grind (arith, nat_tests)
@@ -22,8 +22,8 @@ other_to id c h = grind (arith, nat_tests)
 
 pub filtered : (id : ℕ) (calls : List Call) → AreOthers id calls (filter (is_other id) calls)
 filtered id calls = record {
-  was = λ c h. (c, was_in (is_other id) calls c h, refl, refl, other_from id c (passes (is_other id) calls c h));
-  is = λ c h ne. (c, stays_in (is_other id) calls c h (other_to id c ne), refl, refl);
+  was = λ c h. (c, was_in (is_other id) calls c h, refl, refl, other_from id c (passes (is_other id) calls c h), refl);
+  is = λ c h ne. (c, stays_in (is_other id) calls c h (other_to id c ne), refl, refl, refl);
 }
 
 -- elements of a mapped list
@@ -64,14 +64,19 @@ without_read id calls reads = record {
       let was = was_in (outlives id) calls k.0 k.1 in
       let i : k.0.id ≡ c.id = ap (λ (x : Call). x.id) k.2 in
       let s : k.0.since ≡ c.since = ap (λ (x : Call). x.since) k.2 in
-      (k.0, was, i, s, (λ e. outlives_read id k.0 (reads k.0 was (i ∙ e)) (passes (outlives id) calls k.0 k.1) (i ∙ e))));
-  is = λ c h ne. (crashed id c, map_to (crashed id) (filter (outlives id) calls) c (stays_in (outlives id) calls c h (outlives_to id c ne)), refl, refl);
+      (k.0, was, i, s, (λ e. outlives_read id k.0 (reads k.0 was (i ∙ e)) (passes (outlives id) calls k.0 k.1) (i ∙ e)), ap (λ (x : Call). x.what) k.2));
+  is = λ c h ne. (crashed id c, map_to (crashed id) (filter (outlives id) calls) c (stays_in (outlives id) calls c h (outlives_to id c ne)), refl, refl, refl);
 }
 
 -- those have the doors of these
 pub record HaveDoors (calls those : List Call) (row : Row) : Type 0 where
   pub was : (c : Call) → Contains those c → c.since < row.door → (b : Call) × Contains calls b × (b.id ≡ c.id) × (b.since ≡ c.since)
   pub is : (c : Call) → Contains calls c → (b : Call) × Contains those b × (b.id ≡ c.id) × (b.since ≡ c.since)
+
+-- each read of those is one of these
+abbrev pub HaveReadsOf : List Call → List Call → Type 0
+HaveReadsOf calls those =
+    (c : Call) → Contains those c → c.what ≡ Reads → (b : Call) × Contains calls b × (b.id ≡ c.id) × (b.what ≡ Reads) × (b.since ≡ c.since)
 
 module _ (calls those : List Call) (row : Row) (doors : HaveDoors calls those row) where
   pub door_alike : (new : Row) → new.door ≡ row.door → new.needed.items ≡ row.needed.items → (i : ℕ) → IsTrue ((end_of those new).door i) ↔ IsTrue ((end_of calls row).door i)
@@ -86,14 +91,20 @@ module _ (calls those : List Call) (row : Row) (doors : HaveDoors calls those ro
         door_to those new i (b.0, b.1, b.2 ∙ k.2, (subst (λ s. b.0.since < s) (sym d) early, (λ m. k.3.1 (subst (Contains row.needed.items) b.2 (subst (λ l. Contains l b.0.id) n m))))))),
   )
 
-  pub same_row : (new : Row) → new.state ≡ row.state → new.door ≡ row.door → new.needed.items ≡ row.needed.items → new.finds.items ≡ row.finds.items → end_of those new ≡ end_of calls row
-  same_row new s d n f = same_end (end_of those new) (end_of calls row) s
-      (λ i. ((λ h. needed_to calls row i (subst (λ l. Contains l i) n (needed_from those new i h))), (λ h. needed_to those new i (subst (λ l. Contains l i) (sym n) (needed_from calls row i h)))))
-      (door_alike new d n)
-      (λ r v. (
-        (λ h. finds_to calls row r v (subst (λ l. Contains l (record { read = r; value = v })) f (finds_from those new r v h))),
-        (λ h. finds_to those new r v (subst (λ l. Contains l (record { read = r; value = v })) (sym f) (finds_from calls row r v h))),
-      ))
+  -- no read is new, and none is gone
+  module _ (was : HaveReadsOf calls those) (is : HaveReadsOf those calls) where
+    pub same_row : (new : Row) → new.state ≡ row.state → new.door ≡ row.door → new.needed.items ≡ row.needed.items → new.passed.items ≡ row.passed.items → end_of those new ≡ end_of calls row
+    same_row new s d n f = same_end (end_of those new) (end_of calls row) s
+        (λ i. ((λ h. needed_to calls row i (subst (λ l. Contains l i) n (needed_from those new i h))), (λ h. needed_to those new i (subst (λ l. Contains l i) (sym n) (needed_from calls row i h)))))
+        (door_alike new d n)
+        (λ r v. (
+          (λ h. (let k = finds_from those new r v h in
+              let b = was k.0 k.1 k.3 in
+              finds_to calls row r v (b.0, b.1, b.2 ∙ k.2, b.3, subst (CanFind row v) (sym b.4) (found_before row new s f v k.0.since k.4)))),
+          (λ h. (let k = finds_from calls row r v h in
+              let b = is k.0 k.1 k.3 in
+              finds_to those new r v (b.0, b.1, b.2 ∙ k.2, b.3, subst (CanFind new v) (sym b.4) (found_after row new s f v k.0.since k.4)))),
+        ))
 
 -- an operation is invoked
 pub with_new : (calls : List Call) (now id : ℕ) (what : Option What) (row : Row) → row.door ≤ now → HaveDoors calls (calls_with calls now id what) row
@@ -122,3 +133,18 @@ with_crash id calls row none = record {
   where
     same_id : (id : ℕ) (c : Call) → is_other id c ≡ false → c.id ≡ id
     same_id id c n = grind (arith, nat_tests)
+
+-- a crash leaves the reads, but the one that has crashed
+pub read_was_there : (id : ℕ) (calls : List Call) → HaveReadsOf calls (map (crashed id) (filter (outlives id) calls))
+read_was_there id calls c h q =
+    let j = map_from (crashed id) (filter (outlives id) calls) c h in
+    (j.0, was_in (outlives id) calls j.0 j.1, ap (λ (x : Call). x.id) j.2, ap (λ (x : Call). x.what) j.2 ∙ q, ap (λ (x : Call). x.since) j.2)
+
+pub read_outlives : (id : ℕ) (calls : List Call) → ((c : Call) → Contains calls c → c.id ≡ id → c.what ≢ Reads) → HaveReadsOf (map (crashed id) (filter (outlives id) calls)) calls
+read_outlives id calls none c h q = (
+  crashed id c,
+  map_to (crashed id) (filter (outlives id) calls) c (stays_in (outlives id) calls c h (outlives_to id c (λ e. none c h e q))),
+  refl,
+  q,
+  refl,
+)

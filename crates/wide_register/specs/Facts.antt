@@ -9,11 +9,14 @@ use Rattle.models.specs.declared.operation.Part.TheVariants.{Nil, Int}
 use Rattle.wide_register.specs.declared.calls.Call.{Call}
 use Rattle.wide_register.specs.declared.calls.What.{What}
 use Rattle.wide_register.specs.declared.calls.What.TheVariants.{Writes, Reads}
-use Rattle.wide_register.specs.declared.row.Found.{Found}
+use Rattle.wide_register.specs.declared.row.Passed.{Passed}
 use Rattle.wide_register.specs.declared.row.Row.{Row}
 use Rattle.wide_register.specs.declared.next.Deed.{Deed}
-use Rattle.wide_register.specs.declared.next.Deed.TheVariants.{Keeps, Begins, Leaves, Fails, EndsWrite, EndsRead, Dies}
+use Rattle.wide_register.specs.declared.next.Deed.TheVariants.{Keeps, Leaves, Fails, EndsWrite, EndsRead, Dies}
+use Rattle.std.specs.Global.{Vec}
 use Rattle.wide_register.specs.declared.kept.Kept.{Kept}
+use Rattle.wide_register.specs.declared.kept.Change.{Change}
+use Rattle.wide_register.specs.declared.gather.Halves.{Halves}
 use Rattle.models.specs.declared.finding.Answer.{Answer}
 use Rattle.models.specs.declared.finding.Answer.TheVariants.{Nothing, Number}
 use Rattle.events.specs.Events.{Mark}
@@ -29,10 +32,9 @@ what_by Write (Int v) = Some (Writes v)
 what_by Read Nil = Some Reads
 what_by _ _ = None
 
--- the value is found by an open read that was invoked before the gap
-abbrev pub IsFoundBy : List Call → ℕ → ℤ → Found → Type 0
-IsFoundBy calls gap v f =
-    (f.value ≡ v) × ((c : Call) × Contains calls c × (c.what ≡ Reads) × (c.since < gap) × (c.id ≡ f.read))
+abbrev pub is_read : What → Bool
+is_read Reads = true
+is_read (Writes v) = false
 
 -- the operation may still take place just before the last write
 abbrev pub HasDoor : Row → Call → Type 0
@@ -43,38 +45,67 @@ pub record IsFirst (row : Row) : Type 0 where
   pub state : row.state ≡ None
   pub needed : row.needed.items ≡ []
   pub door : row.door ≡ 0
-  pub finds : row.finds.items ≡ []
+  pub passed : row.passed.items ≡ []
 
 -- the rows are the same
 pub record IsSame (row new : Row) : Type 0 where
   pub state : new.state ≡ row.state
   pub needed : new.needed.items ≡ row.needed.items
   pub door : new.door ≡ row.door
-  pub finds : new.finds.items ≡ row.finds.items
+  pub passed : new.passed.items ≡ row.passed.items
 
 -- the operation is done, or out
 pub record IsWithoutId (id : ℕ) (row new : Row) : Type 0 where
   pub state : new.state ≡ row.state
   pub needed : (i : ℕ) → Contains new.needed.items i ↔ (Contains row.needed.items i × (i ≢ id))
   pub door : new.door ≡ row.door
-  pub finds : (f : Found) → Contains new.finds.items f ↔ (Contains row.finds.items f × (f.read ≢ id))
+  pub passed : new.passed.items ≡ row.passed.items
 
--- a read begins: it may find the state
-pub record IsBegun (id : ℕ) (row new : Row) : Type 0 where
+-- the value stood at a gap that is later than the moment
+abbrev pub StoodAfter : List Passed → ℤ → ℕ → Type 0
+StoodAfter passed v t = (p : Passed) × Contains passed p × (p.value ≡ v) × (t < p.gap)
+
+-- an open read that was invoked at the moment may find the value in the row: it stood at a later gap, or is the state
+abbrev pub CanFind : Row → ℤ → ℕ → Type 0
+CanFind row v t = StoodAfter row.passed.items v t ⊎ (row.state ≡ Some v)
+
+-- the value stands among these at as late a gap
+abbrev pub IsPassedIn : List Passed → Passed → Type 0
+IsPassedIn those p = (q : Passed) × Contains those q × (q.value ≡ p.value) × (p.gap ≤ q.gap)
+
+-- the least gap that is later than the same of these moments; 0 if it is later than none
+pub record IsLeastGap (moments : List ℕ) (gap least : ℕ) : Type 0 where
+  pub most : least ≤ gap
+  pub later : (t : ℕ) → Contains moments t → t < gap → t < least
+  pub last : (least ≡ 0) ⊎ ((t : ℕ) × Contains moments t × (least ≡ t + 1))
+
+-- the same value, at the least gap that is later than the same of these moments
+abbrev pub IsCut : List ℕ → Passed → Passed → Type 0
+IsCut moments p q = (q.value ≡ p.value) × IsLeastGap moments p.gap q.gap
+
+-- reads that were invoked at these moments may find the same in both rows
+pub record FindTheSame (moments : List ℕ) (row new : Row) : Type 0 where
   pub state : new.state ≡ row.state
   pub needed : new.needed.items ≡ row.needed.items
   pub door : new.door ≡ row.door
-  pub finds : (f : Found) → Contains new.finds.items f
-      ↔ (Contains row.finds.items f ⊎ ((f.read ≡ id) × (row.state ≡ Some f.value)))
+  pub finds : (v : ℤ) (t : ℕ) → Contains moments t → CanFind new v t ↔ CanFind row v t
 
--- the write takes place at the gap, and leaves this state behind all; the operation that is done by it is out
-pub record IsPut (calls : List Call) (write : ℕ) (v : ℤ) (gap : ℕ) (state : Option ℤ) (out : ℕ) (row new : Row)
-    : Type 0 where
+-- each gap is the least that is later than the same of these moments, and the state is not told again
+abbrev pub HasLeastGaps : List ℕ → Row → Type 0
+HasLeastGaps moments row =
+    (p : Passed) → Contains row.passed.items p → (row.state ≢ Some p.value) × ((t : ℕ) × Contains moments t × (p.gap ≡ t + 1))
+
+-- when the open reads were invoked
+abbrev pub moments_of : List Call → List ℕ
+moments_of calls = map (λ (c : Call). c.since) (filter (λ (c : Call). is_read c.what) calls)
+
+-- the write takes place, before the gap this value may be found from then on, and this state is left behind all; the operation that is
+-- done by it is out
+pub record IsPut (write : ℕ) (value : Option ℤ) (gap : ℕ) (state : Option ℤ) (out : ℕ) (row new : Row) : Type 0 where
   pub state_is : new.state ≡ state
   pub needed : (i : ℕ) → Contains new.needed.items i ↔ (((i ≡ write) ⊎ Contains row.needed.items i) × (i ≢ out))
   pub door : new.door ≡ gap
-  pub finds : (f : Found) → Contains new.finds.items f
-      ↔ ((Contains row.finds.items f ⊎ IsFoundBy calls gap v f) × (f.read ≢ out))
+  pub passed : (v : ℤ) (t : ℕ) → StoodAfter new.passed.items v t ↔ (StoodAfter row.passed.items v t ⊎ ((value ≡ Some v) × (t < gap)))
 
 -- the operation may still take place in the history, and does this
 abbrev pub IsCall : List Mark → ℕ → What → Type 0
@@ -90,6 +121,14 @@ pub record AreCalls (calls : List Call) (marks : List Mark) : Type 0 where
   pub all : (id : ℕ) (what : What) → IsCall marks id what
       → (c : Call) × Contains calls c × (c.id ≡ id) × (c.what ≡ what)
 
+abbrev pub is_state : Option ℤ → ℤ → Bool
+is_state None v = false
+is_state (Some w) v = int_eq w v
+
+-- the same of a row as can be computed
+abbrev pub can_find : Row → ℤ → ℕ → Bool
+can_find row v t = list_any (λ (p : Passed). int_eq p.value v && nat_lt t p.gap) row.passed.items || is_state row.state v
+
 -- the end that a row stands for
 abbrev pub end_of : List Call → Row → LeanEnd
 end_of calls row = record {
@@ -97,18 +136,10 @@ end_of calls row = record {
   needed = λ i. list_any (nat_eq i) row.needed.items;
   door = λ i. list_any (λ (c : Call). nat_eq c.id i && nat_lt c.since row.door) calls
       && not (list_any (nat_eq i) row.needed.items);
-  finds = λ r v. list_any (λ (f : Found). nat_eq f.read r && int_eq f.value v) row.finds.items;
+  finds = λ r v. list_any (λ (c : Call). (nat_eq c.id r && is_read c.what) && can_find row v c.since) calls;
 }
 
--- the kept facts are those of the history
-pub record AreFacts (k : Kept) (marks : List Mark) : Type 0 where
-  pub well : AreWellFormed marks
-  pub now : k.moment ≡ length marks
-  pub calls : AreCalls k.calls.items marks
-  pub doors : (row : Row) → Contains k.rows.items row → row.door ≤ k.moment
-  pub ends : AreLeanEnds marks (map (end_of k.calls.items) k.rows.items)
-
--- a row that needs the operation needs the second row's if it is open, and may be passed by it only if the second row may
+-- a row that needs the operation needs another one's if it is open, and may be passed by it only where the other one may
 pub record FitsAt (row other : Row) (c : Call) : Type 0 where
   pub needed : Contains row.needed.items c.id → c.is_open ≡ true → Contains other.needed.items c.id
   pub door : HasDoor row c → c.since < other.door
@@ -117,7 +148,7 @@ pub record FitsAt (row other : Row) (c : Call) : Type 0 where
 pub record IsAtMostBy (calls : List Call) (row other : Row) : Type 0 where
   pub state : row.state ≡ other.state
   pub needed : (i : ℕ) → Contains other.needed.items i → Contains row.needed.items i
-  pub finds : (f : Found) → Contains row.finds.items f → Contains other.finds.items f
+  pub passed : (p : Passed) → Contains row.passed.items p → IsPassedIn other.passed.items p
   pub fits : (c : Call) → Contains calls c → FitsAt row other c
 
 -- the row is at most one of these
@@ -129,63 +160,85 @@ abbrev pub AreApart : List Call → List Row → Type 0
 AreApart calls rows =
     Pairwise (λ a b. (¬ IsAtMostBy calls a b) × (¬ IsAtMostBy calls b a)) rows
 
+-- what is kept is that of the history
+pub record AreFacts (k : Kept) (marks : List Mark) : Type 0 where
+  pub well : AreWellFormed marks
+  pub now : k.moment ≡ length marks
+  pub calls : AreCalls k.calls.items marks
+  pub doors : (row : Row) → Contains k.rows.items row → row.door ≤ k.moment
+  pub gaps : (row : Row) → Contains k.rows.items row → HasLeastGaps (moments_of k.calls.items) row
+  pub apart : AreApart k.calls.items k.rows.items
+  pub ends : AreLeanEnds marks (map (end_of k.calls.items) k.rows.items)
+
 -- those that are at most the row are left out
 pub record AreLeftOut (calls : List Call) (row : Row) (rows left : List Row) : Type 0 where
   pub each : (r : Row) → Contains left r → Contains rows r × (¬ IsAtMostBy calls r row)
   pub others : (r : Row) → Contains rows r → Contains left r ⊎ IsAtMostBy calls r row
   pub apart : AreApart calls rows → AreApart calls left
 
+-- the operation is open
+abbrev pub IsOpenIn : List Call → ℕ → Type 0
+IsOpenIn calls id = (c : Call) × Contains calls c × (c.id ≡ id) × (c.is_open ≡ true)
+
+-- the rows, split by whether they need the operation
+pub record AreHalves (id : ℕ) (rows : List Row) (halves : Halves) : Type 0 where
+  pub with' : (r : Row) → Contains halves.with.items r → Contains rows r × Contains r.needed.items id
+  pub without : (r : Row) → Contains halves.without.items r → Contains rows r × (¬ Contains r.needed.items id)
+  pub all : (r : Row) → Contains rows r → Contains halves.with.items r ⊎ Contains halves.without.items r
+
 -- a write of the value that did not take place yet
 abbrev pub IsFree : Row → ℤ → Call → Type 0
 IsFree row v c = (c.what ≡ Writes v) × (¬ Contains row.needed.items c.id)
 
 -- the write takes place behind all others, or if it may, just before the last write
-abbrev pub IsPutOf : List Call → ℕ → Call → ℤ → ℕ → Type 0 → Row → Row → Type 0
-IsPutOf calls now w v out before row new =
-    IsPut calls w.id v now (Some v) out row new
-    ⊎ (before × IsPut calls w.id v row.door row.state out row new)
+abbrev pub IsPutOf : ℕ → Call → ℤ → ℕ → Type 0 → Row → Row → Type 0
+IsPutOf now w v out before row new =
+    IsPut w.id row.state now (Some v) out row new
+    ⊎ (before × IsPut w.id (Some v) row.door row.state out row new)
 
 -- one of these rows is so
 abbrev pub Has : List Row → (Row → Type 0) → Type 0
 Has made P = (new : Row) × Contains made new × P new
 
-abbrev pub HasPuts : List Call → ℕ → Call → ℤ → ℕ → Type 0 → Row → List Row → Type 0
-HasPuts calls now w v out before row made =
-    Has made (IsPut calls w.id v now (Some v) out row)
-    × (before → Has made (IsPut calls w.id v row.door row.state out row))
+abbrev pub HasPuts : ℕ → Call → ℤ → ℕ → Type 0 → Row → List Row → Type 0
+HasPuts now w v out before row made =
+    Has made (IsPut w.id row.state now (Some v) out row)
+    × (before → Has made (IsPut w.id (Some v) row.door row.state out row))
 
-abbrev pub found_by : Call → ℤ → Found
-found_by r v = record { read = r.id; value = v }
+-- the write is done: it took place already, or takes place now
+abbrev pub IsWritten : ℕ → Call → ℤ → Row → Row → Type 0
+IsWritten now w v row new =
+    (Contains row.needed.items w.id × IsWithoutId w.id row new)
+    ⊎ ((¬ Contains row.needed.items w.id) × IsPutOf now w v w.id (HasDoor row w) row new)
+
+abbrev pub HasWritten : ℕ → Call → ℤ → Row → List Row → Type 0
+HasWritten now w v row made =
+    (Contains row.needed.items w.id → Has made (IsWithoutId w.id row))
+    × ((¬ Contains row.needed.items w.id) → HasPuts now w v w.id (HasDoor row w) row made)
 
 -- the effect of the deed on the row
 abbrev pub IsNextBy : List Call → ℕ → Deed → Row → Row → Type 0
 IsNextBy calls now Keeps row new = IsSame row new
-IsNextBy calls now (Begins id) row new = IsBegun id row new
 IsNextBy calls now (Leaves id) row new = IsWithoutId id row new
 IsNextBy calls now (Fails id) row new = (¬ Contains row.needed.items id) × IsWithoutId id row new
-IsNextBy calls now (EndsWrite w v) row new =
-    (Contains row.needed.items w.id × IsWithoutId w.id row new)
-    ⊎ ((¬ Contains row.needed.items w.id) × IsPutOf calls now w v w.id (HasDoor row w) row new)
+IsNextBy calls now (EndsWrite w v) row new = IsWritten now w v row new
 IsNextBy calls now (EndsRead r v) row new =
-    (Contains row.finds.items (found_by r v) × IsWithoutId r.id row new)
-    ⊎ ((¬ Contains row.finds.items (found_by r v))
-    × ((c : Call) × Contains calls c × IsFree row v c × IsPutOf calls now c v r.id (HasDoor row r × HasDoor row c) row new))
+    (CanFind row v r.since × IsWithoutId r.id row new)
+    ⊎ ((¬ CanFind row v r.since)
+    × ((c : Call) × Contains calls c × IsFree row v c × IsPutOf now c v r.id (HasDoor row r × HasDoor row c) row new))
 IsNextBy calls now Dies row new = ⊥
 
 -- all that the deed makes of the row is among these
 abbrev pub HasNextBy : List Call → ℕ → Deed → Row → List Row → Type 0
 HasNextBy calls now Keeps row made = Has made (IsSame row)
-HasNextBy calls now (Begins id) row made = Has made (IsBegun id row)
 HasNextBy calls now (Leaves id) row made = Has made (IsWithoutId id row)
 HasNextBy calls now (Fails id) row made =
     (¬ Contains row.needed.items id) → Has made (IsWithoutId id row)
-HasNextBy calls now (EndsWrite w v) row made =
-    (Contains row.needed.items w.id → Has made (IsWithoutId w.id row))
-    × ((¬ Contains row.needed.items w.id) → HasPuts calls now w v w.id (HasDoor row w) row made)
+HasNextBy calls now (EndsWrite w v) row made = HasWritten now w v row made
 HasNextBy calls now (EndsRead r v) row made =
-    (Contains row.finds.items (found_by r v) → Has made (IsWithoutId r.id row))
-    × ((¬ Contains row.finds.items (found_by r v)) → (c : Call) → Contains calls c → IsFree row v c
-    → HasPuts calls now c v r.id (HasDoor row r × HasDoor row c) row made)
+    (CanFind row v r.since → Has made (IsWithoutId r.id row))
+    × ((¬ CanFind row v r.since) → (c : Call) → Contains calls c → IsFree row v c
+    → HasPuts now c v r.id (HasDoor row r × HasDoor row c) row made)
 HasNextBy calls now Dies row made = Unit {0}
 
 -- the operation with this id may still take place, and does this
@@ -201,9 +254,7 @@ IsDeedOfAnswer read answer deed =
 
 -- the deed is that of the mark
 abbrev pub IsDeed : List Call → Mark → Deed → Type 0
-IsDeed calls (Invoked id op) deed =
-    ((what_by op.name op.part ≡ Some Reads) × (deed ≡ Begins id))
-    ⊎ ((what_by op.name op.part ≢ Some Reads) × (deed ≡ Keeps))
+IsDeed calls (Invoked id op) deed = deed ≡ Keeps
 IsDeed calls (Returned id answer) deed =
     ((c : Call) × (v : ℤ) × HasCall calls id (Writes v) c × (deed ≡ EndsWrite c v))
     ⊎ ((c : Call) × HasCall calls id Reads c × (answer ≡ Nothing) × (deed ≡ Leaves id))
@@ -224,10 +275,6 @@ abbrev pub calls_with : List Call → ℕ → ℕ → Option What → List Call
 calls_with calls now id None = calls
 calls_with calls now id (Some what) = calls ++ record { id = id; what = what; since = now; is_open = true } ∷ []
 
-abbrev pub is_read : What → Bool
-is_read Reads = true
-is_read (Writes v) = false
-
 abbrev pub outlives : ℕ → Call → Bool
 outlives id c = not (nat_eq c.id id) || not (is_read c.what)
 
@@ -241,17 +288,51 @@ calls_after calls now (Returned id answer) = filter (is_other id) calls
 calls_after calls now (Failed id) = filter (is_other id) calls
 calls_after calls now (Crashed id) = map (crashed id) (filter (outlives id) calls)
 
+-- the deed makes the row of one of these, as far as reads that were invoked at these moments may tell
+abbrev pub IsMadeOf : Kept → List ℕ → Deed → Row → Type 0
+IsMadeOf k moments deed r =
+    (row : Row) × Contains k.rows.items row × (made : Row) × IsNextBy k.calls.items k.moment deed row made
+    × FindTheSame moments made r
+
+-- of all that the deed makes of these rows, as far as such reads may tell, there is one that is so
+abbrev pub AreAllMade : Kept → List ℕ → Deed → (Row → Type 0) → Type 0
+AreAllMade k moments deed P =
+    (row : Row) → Contains k.rows.items row → (made : List Row) × HasNextBy k.calls.items k.moment deed row made
+    × ((m : Row) → Contains made m → (r : Row) × FindTheSame moments m r × P r)
+
 -- the mark makes the second of the first
 pub record IsAfter (m : Mark) (k new : Kept) : Type 0 where
   pub moment : new.moment ≡ k.moment + 1
   pub calls : new.calls.items ≡ calls_after k.calls.items k.moment m
   pub deed : Deed
   pub is_deed : IsDeed k.calls.items m deed
-  pub each : (r : Row) → Contains new.rows.items r
-      → (row : Row) × Contains k.rows.items row × IsNextBy k.calls.items k.moment deed row r
-  pub all : (row : Row) → Contains k.rows.items row → (made : List Row) × HasNextBy k.calls.items k.moment deed row made
-      × ((r : Row) → Contains made r → IsKeptIn new.calls.items new.rows.items r)
-  pub apart : AreApart new.calls.items new.rows.items
+  pub each : (r : Row) → Contains new.rows.items r → IsMadeOf k (moments_of new.calls.items) deed r
+  pub all : AreAllMade k (moments_of new.calls.items) deed (IsKeptIn new.calls.items new.rows.items)
+  pub apart : AreApart k.calls.items k.rows.items → AreApart new.calls.items new.rows.items
+  pub gaps : ((row : Row) → Contains k.rows.items row → HasLeastGaps (moments_of k.calls.items) row)
+      → (r : Row) → Contains new.rows.items r → HasLeastGaps (moments_of new.calls.items) r
+
+-- these are the rows after the deed
+pub record AreRowsAfter (k : Kept) (later : List Call) (deed : Deed) (rows : List Row) : Type 0 where
+  pub each : (r : Row) → Contains rows r → IsMadeOf k (moments_of later) deed r
+  pub all : AreAllMade k (moments_of later) deed (IsKeptIn later rows)
+  pub apart : AreApart later rows
+  pub gaps : (r : Row) → Contains rows r → HasLeastGaps (moments_of later) r
+
+-- the rows after the mark, or none if they stay as they are
+abbrev pub AreChanged : Mark → Kept → List Call → Option (Vec Row) → Type 0
+AreChanged m k later None =
+    IsDeed k.calls.items m Keeps × ((c : Call) → Contains k.calls.items c → Contains later c)
+AreChanged m k later (Some rows) = (deed : Deed) × IsDeed k.calls.items m deed × AreRowsAfter k later deed rows.items
+
+-- the rows of a change, or those that stay
+abbrev pub rows_of : Option (Vec Row) → Vec Row → Vec Row
+rows_of None rows = rows
+rows_of (Some rows) old = rows
+
+-- what is kept once the change is carried out
+abbrev pub changed : Change → Kept → Kept
+changed c k = record { moment = c.moment; calls = c.calls; rows = rows_of c.rows k.rows }
 
 -- the kept facts are the same
 pub record AreSame (k new : Kept) : Type 0 where

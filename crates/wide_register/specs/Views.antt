@@ -3,10 +3,11 @@ use Rattle.std.specs.Prelude.{◌≡◌, ◌⊎◌, Bool, true, false, IsTrue, O
 use Rattle.events.specs.declared.event.EventKind.{EventKind}
 use Rattle.events.specs.declared.event.EventKind.TheVariants.{Invoke, Ok, Fail, Info}
 use Rattle.wide_register.specs.declared.kept.Kept.{Kept}
+use Rattle.wide_register.specs.declared.kept.Change.{Change}
 use Rattle.judging.specs.declared.step.Step.{Step}
 use Rattle.judging.specs.declared.step.Step.TheVariants.{Alive, Dead}
 use Rattle.wide_register.specs.declared.judged.WideRegister.{WideRegister}
-use Rattle.wide_register.specs.Facts.{AreFacts}
+use Rattle.wide_register.specs.Facts.{AreFacts, changed}
 use Rattle.judging.specs.Meaning.{FrontierView}
 
 -- an ok and a fail can kill
@@ -28,10 +29,10 @@ IsStepLeft left kind step =
     ((step ≡ Dead) × (left.rows.items ≡ []) × IsTrue (kills kind))
     ⊎ ((step ≡ Alive) × (¬ ((left.rows.items ≡ []) × IsTrue (kills kind))))
 
--- the prepared history, or if there is none, the kept one
-abbrev pub next_of : Option Kept → Kept → Kept
+-- what is prepared, or if nothing is, what is kept
+abbrev pub next_of : Option Change → Kept → Kept
 next_of None kept = kept
-next_of (Some next) kept = next
+next_of (Some change) kept = changed change kept
 
 abbrev pub view_of : WideRegister → FrontierView
 view_of w = record {

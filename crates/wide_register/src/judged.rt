@@ -1,15 +1,15 @@
 //! Registers that are judged live.
-ghost use Rattle.std.specs.Prelude.{◌≡◌, ◌↔◌, ◌<◌, IfOk, IsTrue, length};
+ghost use Rattle.std.specs.Prelude.{◌≡◌, ◌↔◌, ◌<◌, [], IfOk, IsTrue, length};
 ghost use Rattle.models.specs.Objects.{object_of};
 ghost use Rattle.models.specs.declared.model_kind.ModelKind.TheVariants.{WideRegister as OfWideRegister};
 ghost use Rattle.events.specs.Events.{act_by, mark_by_act};
 ghost use Rattle.linspec.specs.Counts.{CountsMoreThan};
 ghost use Rattle.judging.specs.Meaning.{Commits, IsCopy, IsStart, Observes, Prepares, mark_by};
 ghost use Rattle.wide_register.specs.Counts.{IsCounted};
-ghost use Rattle.wide_register.specs.Facts.{IsDeed};
+ghost use Rattle.wide_register.specs.Facts.{IsDeed, changed};
 ghost use Rattle.wide_register.specs.Views.{IsStepLeft, is_an_ok, kills, view_of};
 
-use crate::kept::Kept;
+use crate::kept::{Change, Kept};
 use crate::next::{deed_of, tries_of};
 use events::EventKind;
 use judging::Step;
@@ -27,7 +27,7 @@ pub struct WideRegister {
     applied: u64,
     kept: Kept,
     /// What is prepared.
-    next: Option<Kept>,
+    next: Option<Change>,
 }
 
 // Whether an event of this kind is an ok.
@@ -44,11 +44,21 @@ fn can_kill(kind: EventKind) -> bool
     matches!(kind, EventKind::Ok | EventKind::Fail)
 }
 
-// The step that an event of this kind leaves.
-fn step_left(left: &Kept, kind: EventKind) -> Step
-    ensures { IsStepLeft left.now kind result }
+// Whether no row is left once the change is carried out.
+fn leaves_none(kept: &Kept, change: &Change) -> bool
+    ensures { IsTrue result ↔ ((changed change.now kept.now).rows.items ≡ []) }
 {
-    if left.rows.is_empty() && can_kill(kind) {
+    match &change.rows {
+        Some(rows) => rows.is_empty(),
+        None => kept.rows.is_empty(),
+    }
+}
+
+// What an event of this kind leaves.
+fn step_left(kept: &Kept, change: &Change, kind: EventKind) -> Step
+    ensures { IsStepLeft (changed change.now kept.now) kind result }
+{
+    if leaves_none(kept, change) && can_kill(kind) {
         Step::Dead
     } else {
         Step::Alive
@@ -100,11 +110,12 @@ impl WideRegister {
         is_ok(kind) && self.kept.rows.len() > self.budget as usize
     }
 
-    /// Prepares an event of an operation, and gives its answer. The id is the index of the operation's invocation. It is new if the event
-    /// is an invocation, and else is that of an open operation; the part of an ok is the answer. Over if the event is an ok and more lean
-    /// ends than the budget stand just before it: then nothing is prepared. An invocation and an info are answered Alive, since they kill
-    /// nothing. The register keeps its meaning until [`commit`](Self::commit); after `AllocError` no commit must follow. A change that was
-    /// prepared before is dropped. Costs O(pairs of new rows).
+    /// Prepares an event of an operation, and gives its answer. The id is the index of the operation's invocation, which is new if the event
+    /// is one, and else is that of an open operation; the part of an ok is the answer. Over if the event is an ok and more lean ends than the
+    /// budget stand just before it: then nothing is prepared. An invocation and an info are answered Alive, since they kill nothing. The
+    /// register stands for what it stood for until [`commit`](Self::commit); after `AllocError` no commit must follow. What was prepared before
+    /// is dropped. Takes the time of the rows that are made with the operations, and of the pairs of rows that need the same open writes; an
+    /// invocation takes the time of the operations.
     pub fn prepare(&mut self, id: u32, kind: EventKind, op: &Op) -> Result<Step, AllocError>
         ensures { Prepares (view_of self.old) (view_of self.new) (CountsMoreThan OfWideRegister) (object_of OfWideRegister)
             (mark_by id kind op.now) result }
@@ -114,8 +125,8 @@ impl WideRegister {
             return Ok(Step::Over);
         }
         self.applied = self.counted(id, kind, op);
-        let next = self.kept.after(self.alloc, id, kind, op)?;
-        let step = step_left(&next, kind);
+        let next = self.kept.change(self.alloc, id, kind, op)?;
+        let step = step_left(&self.kept, &next, kind);
         self.next = Some(next);
         Ok(step)
     }
@@ -125,7 +136,7 @@ impl WideRegister {
         ensures { Commits (view_of self.old) (view_of self.new) }
     {
         if let Some(next) = self.next.take() {
-            self.kept = next;
+            self.kept.carry_out(next);
         }
     }
 

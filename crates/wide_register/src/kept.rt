@@ -1,13 +1,13 @@
-//! The kept part of the history of a register.
-ghost use Rattle.std.specs.Prelude.{◌≡◌, ◌≢◌, ◌↔◌, ◌⊎◌, ◌+◌, [], List, map, IfOk, IsTrue, OnOk};
+//! What is kept of the history of a register.
+ghost use Rattle.std.specs.Prelude.{◌≡◌, ◌⊎◌, ◌+◌, [], map, IfOk, OnOk};
 ghost use Rattle.std.specs.List.{Contains, filter};
 ghost use Rattle.events.specs.Events.{act_by, mark_by_act};
-ghost use Rattle.wide_register.specs.Facts.{AreApart, AreFacts, AreSame, HasNextBy, IsAfter, IsKeptIn, IsNextBy};
-ghost use Rattle.wide_register.specs.Facts.{calls_after, calls_with, crashed, is_other, outlives, what_by};
+ghost use Rattle.wide_register.specs.Facts.{AreAllMade, AreChanged, AreFacts, AreRowsAfter, AreSame, FindTheSame, HasLeastGaps, IsAfter, IsMadeOf, changed};
+ghost use Rattle.wide_register.specs.Facts.{calls_after, calls_with, crashed, is_other, is_read, moments_of, outlives, what_by};
 ghost use Rattle.wide_register.specs.declared.row.Row.{Row};
 
 use crate::calls::{Call, What, what_of};
-use crate::left::keep_all;
+use crate::gather::gather;
 use crate::next::{Deed, deed_of, next_rows};
 use crate::row::Row;
 use events::EventKind;
@@ -20,6 +20,14 @@ pub struct Kept {
     pub moment: u64,
     pub calls: Vec<Call>,
     pub rows: Vec<Row>,
+}
+
+/// What an event makes of what is kept: the rows, unless they stay as they are.
+#[derive(Drop)]
+pub struct Change {
+    pub moment: u64,
+    pub calls: Vec<Call>,
+    pub rows: Option<Vec<Row>>,
 }
 
 // The same operations again.
@@ -80,6 +88,40 @@ fn calls_crashed(alloc: Global, calls: &[Call], id: u32) -> Result<Vec<Call>, Al
         }
     }
     Ok(left)
+}
+
+// Whether the operation is a read.
+fn reads(call: &Call) -> bool
+    ensures { result ≡ is_read call.now.what }
+{
+    matches!(call.what, What::Reads)
+}
+
+// When the open reads were invoked. Takes the time of the operations.
+fn moments_of(alloc: Global, calls: &[Call]) -> Result<Vec<u64>, AllocError>
+    ensures { IfOk result (λ moments. moments.items ≡ moments_of calls.now) }
+{
+    let mut moments = Vec::new(alloc);
+    for call in calls {
+        if reads(call) {
+            moments.push(call.since)?;
+        }
+    }
+    Ok(moments)
+}
+
+// Puts the rows behind the others, each as far as reads that were invoked at these moments may tell.
+fn join(rows: &mut Vec<Row>, mut more: Vec<Row>, moments: &[u64]) -> Result<(), AllocError>
+    ensures each { OnOk result ((r : Row) → Contains rows.new.items r → Contains rows.old.items r
+        ⊎ ((m : Row) × Contains more.items m × FindTheSame moments.now m r × HasLeastGaps moments.now r)) }
+    ensures old { OnOk result ((r : Row) → Contains rows.old.items r → Contains rows.new.items r) }
+    ensures all { OnOk result ((m : Row) → Contains more.items m → (r : Row) × FindTheSame moments.now m r × Contains rows.new.items r) }
+{
+    while let Some(mut row) = more.pop() {
+        row.trim(moments);
+        rows.push(row)?;
+    }
+    Ok(())
 }
 
 impl Kept {
@@ -145,41 +187,83 @@ impl Kept {
         Ok(calls)
     }
 
+    // All that the deed makes of the rows, as far as reads that were invoked at these moments may tell.
+    fn rows_made(&self, alloc: Global, deed: &Deed, moments: &[u64]) -> Result<Vec<Row>, AllocError>
+        ensures each { IfOk result (λ made. (r : Row) → Contains made.items r → IsMadeOf self.now moments.now deed.now r) }
+        ensures all { IfOk result (λ made. AreAllMade self.now moments.now deed.now (Contains made.items)) }
+        ensures least { IfOk result (λ made. (r : Row) → Contains made.items r → HasLeastGaps moments.now r) }
+    {
+        let mut made = Vec::new(alloc);
+        for row in &self.rows {
+            let next = next_rows(alloc, row, &self.calls, self.moment, deed)?;
+            join(&mut made, next, moments)?;
+        }
+        Ok(made)
+    }
+
     // The rows after the event.
     fn rows_after(&self, alloc: Global, deed: &Deed, later: &[Call]) -> Result<Vec<Row>, AllocError>
-        ensures each { IfOk result (λ left. (r : Row) → Contains left.items r → (row : Row) × Contains self.now.rows.items row
-            × IsNextBy self.now.calls.items self.now.moment deed.now row r) }
-        ensures all { IfOk result (λ left. (row : Row) → Contains self.now.rows.items row → (made : List Row)
-            × HasNextBy self.now.calls.items self.now.moment deed.now row made
-            × ((r : Row) → Contains made r → IsKeptIn later.now left.items r)) }
-        ensures apart { IfOk result (λ left. AreApart later.now left.items) }
+        ensures { IfOk result (λ left. AreRowsAfter self.now later.now deed.now left.items) }
     {
-        let mut left = Vec::new(alloc);
-        for row in &self.rows {
-            let made = next_rows(alloc, row, &self.calls, self.moment, deed)?;
-            keep_all(&mut left, later, made)?;
-        }
+        let moments = moments_of(alloc, later)?;
+        let made = self.rows_made(alloc, deed, &moments)?;
+        let left = gather(alloc, later, made)?;
         Ok(left)
     }
 
-    /// The kept part after the event of an operation. The id is that of the operation, and the part of an ok is the answer.
-    pub fn after(
+    // The rows after the event, unless they stay as they are.
+    fn rows_changed(
         &self,
         alloc: Global,
         id: u32,
         kind: EventKind,
         op: &Op,
-    ) -> Result<Kept, AllocError>
-        ensures { IfOk result (IsAfter (mark_by_act id id (act_by kind op.now)) self.now) }
+        later: &[Call],
+    ) -> Result<Option<Vec<Row>>, AllocError>
+        ensures { let mark = mark_by_act id id (act_by kind op.now) in IfOk result (λ rows.
+            later.now ≡ calls_after self.now.calls.items self.now.moment mark → AreChanged mark self.now later.now rows) }
+    {
+        if matches!(kind, EventKind::Invoke) {
+            return Ok(None);
+        }
+        let deed = deed_of(&self.calls, id, kind, op);
+        let rows = self.rows_after(alloc, &deed, later)?;
+        Ok(Some(rows))
+    }
+
+    /// What the event of an operation makes of what is kept. The id is that of the operation, and the part of an ok is the answer.
+    pub fn change(
+        &self,
+        alloc: Global,
+        id: u32,
+        kind: EventKind,
+        op: &Op,
+    ) -> Result<Change, AllocError>
+        ensures { IfOk result (λ c. IsAfter (mark_by_act id id (act_by kind op.now)) self.now (changed c self.now)) }
     {
         let moment = self.next_moment()?;
         let calls = self.calls_after(alloc, id, kind, op)?;
-        let deed = deed_of(&self.calls, id, kind, op);
-        let rows = self.rows_after(alloc, &deed, &calls)?;
-        Ok(Kept {
+        let rows = self.rows_changed(alloc, id, kind, op, &calls)?;
+        Ok(Change {
             moment,
             calls,
             rows,
         })
+    }
+
+    /// Carries out the change. Takes no memory.
+    pub fn carry_out(&mut self, change: Change)
+        ensures { self.new ≡ changed change self.old }
+    {
+        let Change {
+            moment,
+            calls,
+            rows,
+        } = change;
+        self.moment = moment;
+        self.calls = calls;
+        if let Some(rows) = rows {
+            self.rows = rows;
+        }
     }
 }

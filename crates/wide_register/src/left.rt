@@ -1,13 +1,13 @@
 //! Rows that are at most another one are left out.
 ghost use Rattle.std.specs.Prelude.{◌≡◌, ◌↔◌, ◌⊎◌, ℕ, IsTrue, OnOk};
 ghost use Rattle.std.specs.List.{Contains};
-ghost use Rattle.wide_register.specs.Facts.{AreApart, AreLeftOut, FitsAt, IsAtMostBy, IsKeptIn};
+ghost use Rattle.wide_register.specs.Facts.{AreApart, AreLeftOut, FitsAt, IsAtMostBy, IsKeptIn, IsPassedIn};
 ghost use Rattle.wide_register.specs.declared.calls.Call.{Call};
-ghost use Rattle.wide_register.specs.declared.row.Found.{Found};
+ghost use Rattle.wide_register.specs.declared.row.Passed.{Passed};
 ghost use Rattle.wide_register.specs.declared.row.Row.{Row};
 
 use crate::calls::Call;
-use crate::row::{Found, Row, has_found, has_id};
+use crate::row::{Passed, Row, has_id, place_of};
 use std::alloc::AllocError;
 
 // Whether each of these ids is among those.
@@ -22,12 +22,24 @@ fn has_ids(those: &[u32], these: &[u32]) -> bool
     true
 }
 
-// Whether each read that may find a value here may find it there.
-fn has_finds(those: &[Found], these: &[Found]) -> bool
-    ensures { IsTrue result ↔ ((f : Found) → Contains these.now f → Contains those.now f) }
+// Whether the value stands here at as late a gap. It most likely is at this place.
+fn has_passed_at(those: &[Passed], at: usize, passed: Passed) -> bool
+    ensures { IsTrue result ↔ IsPassedIn those.now passed }
 {
-    for found in these {
-        if !has_found(those, *found) {
+    if at < those.len() && those[at].value == passed.value && passed.gap <= those[at].gap {
+        return true;
+    }
+    those.iter().any(|other| other.value == passed.value && passed.gap <= other.gap)
+}
+
+// Whether each value stands there at as late a gap.
+fn has_passed(those: &[Passed], these: &[Passed]) -> bool
+    ensures { IsTrue result ↔ ((p : Passed) → Contains these.now p → IsPassedIn those.now p) }
+{
+    let mut at = 0;
+    for passed in these {
+        at = place_of(those, at, passed.value);
+        if !has_passed_at(those, at, *passed) {
             return false;
         }
     }
@@ -39,10 +51,14 @@ fn has_finds(those: &[Found], these: &[Found]) -> bool
 fn fits(call: &Call, row: &Row, other: &Row) -> bool
     ensures { IsTrue result ↔ FitsAt row.now other.now call.now }
 {
+    let may = call.since >= row.door || call.since < other.door;
+    if may && !call.is_open {
+        return true;
+    }
     if has_id(&row.needed, call.id) {
         !call.is_open || has_id(&other.needed, call.id)
     } else {
-        call.since >= row.door || call.since < other.door
+        may
     }
 }
 
@@ -68,7 +84,7 @@ pub fn is_at_most(calls: &[Call], row: &Row, other: &Row) -> bool
     if !has_ids(&row.needed, &other.needed) {
         return false;
     }
-    if !has_finds(&other.finds, &row.finds) {
+    if !has_passed(&other.passed, &row.passed) {
         return false;
     }
     all_fit(calls, row, other)

@@ -5,6 +5,7 @@
 #![tactic(auto)]
 
 mod calls;
+mod gather;
 pub mod judged;
 mod kept;
 mod left;

@@ -3,13 +3,13 @@ ghost use Rattle.std.specs.Prelude.{◌≡◌, ◌≤◌, ◌↔◌, ◌⊎◌, 
 ghost use Rattle.std.specs.List.{Contains};
 ghost use Rattle.models.specs.Objects.{answer_of};
 ghost use Rattle.events.specs.Events.{act_by, mark_by_act};
-ghost use Rattle.events.specs.Events.Mark.{Crashed, Invoked, Returned};
+ghost use Rattle.events.specs.Events.Mark.{Crashed, Returned};
 ghost use Rattle.wide_register.specs.Counts.{AreTries};
-ghost use Rattle.wide_register.specs.Facts.{Has, HasDoor, HasNextBy, HasPuts, IsDeed, IsDeedOfAnswer, IsFree, IsNextBy, IsPut, IsPutOf, IsWithoutId};
+ghost use Rattle.wide_register.specs.Facts.{Has, HasDoor, HasNextBy, HasPuts, HasWritten, IsDeed, IsDeedOfAnswer, IsFree, IsNextBy, IsPut, IsPutOf, IsWithoutId, IsWritten};
 ghost use Rattle.wide_register.specs.declared.row.Row.{Row};
 
-use crate::calls::{Call, What, call_of, what_of};
-use crate::row::{Found, Row, has_found, has_id};
+use crate::calls::{Call, What, call_of};
+use crate::row::{Row, has_id};
 use events::EventKind;
 use models::{Op, Part};
 use std::alloc::{AllocError, Global};
@@ -19,8 +19,6 @@ use std::alloc::{AllocError, Global};
 pub enum Deed {
     /// It stays.
     Keeps,
-    /// A read with this id begins.
-    Begins(u32),
     /// The operation with this id is out.
     Leaves(u32),
     /// It is out, and must not have taken place.
@@ -33,17 +31,7 @@ pub enum Deed {
     Dies,
 }
 
-// The effect of an invocation on each row.
-fn deed_of_invoke(calls: &[Call], id: u32, op: &Op) -> Deed
-    ensures { IsDeed calls.now (Invoked id op.now) result }
-{
-    match what_of(op.name, &op.part) {
-        Some(What::Reads) => Deed::Begins(id),
-        _ => Deed::Keeps,
-    }
-}
-
-// The effect of the answer of a read on each row.
+// What the answer of a read makes of each row.
 fn deed_of_answer(read: Call, part: &Part) -> Deed
     ensures { IsDeedOfAnswer read (answer_of part.now) result }
 {
@@ -85,7 +73,7 @@ pub fn deed_of(calls: &[Call], id: u32, kind: EventKind, op: &Op) -> Deed
     ensures { IsDeed calls.now (mark_by_act id id (act_by kind op.now)) result }
 {
     match kind {
-        EventKind::Invoke => deed_of_invoke(calls, id, op),
+        EventKind::Invoke => Deed::Keeps,
         EventKind::Ok => deed_of_ok(calls, id, &op.part),
         EventKind::Fail => Deed::Fails(id),
         EventKind::Info => deed_of_info(calls, id),
@@ -103,7 +91,6 @@ fn is_free(row: &Row, call: &Call, value: i64) -> bool
 fn put_both(
     made: &mut Vec<Row>,
     row: &Row,
-    calls: &[Call],
     moment: u64,
     write: u32,
     value: i64,
@@ -111,16 +98,16 @@ fn put_both(
     may_before: bool,
 ) -> Result<(), AllocError>
     ensures each { OnOk result ((new : Row) → Contains made.new.items new → Contains made.old.items new
-        ⊎ IsPut calls.now write value moment (Some value) done row.now new
-        ⊎ (IsTrue may_before × IsPut calls.now write value row.now.door row.now.state done row.now new)) }
+        ⊎ IsPut write row.now.state moment (Some value) done row.now new
+        ⊎ (IsTrue may_before × IsPut write (Some value) row.now.door row.now.state done row.now new)) }
     ensures old { OnOk result ((new : Row) → Contains made.old.items new → Contains made.new.items new) }
-    ensures behind { OnOk result (Has made.new.items (IsPut calls.now write value moment (Some value) done row.now)) }
+    ensures behind { OnOk result (Has made.new.items (IsPut write row.now.state moment (Some value) done row.now)) }
     ensures before { OnOk result (IsTrue may_before
-        → Has made.new.items (IsPut calls.now write value row.now.door row.now.state done row.now)) }
+        → Has made.new.items (IsPut write (Some value) row.now.door row.now.state done row.now)) }
 {
-    made.push(row.put(calls, write, value, moment, Some(value), done)?)?;
+    made.push(row.put(write, row.state, moment, Some(value), done)?)?;
     if may_before {
-        made.push(row.put(calls, write, value, row.door, row.state, done)?)?;
+        made.push(row.put(write, Some(value), row.door, row.state, done)?)?;
     }
     Ok(())
 }
@@ -153,14 +140,12 @@ fn fail(alloc: Global, row: &Row, id: u32) -> Result<Vec<Row>, AllocError>
 fn end_write(
     alloc: Global,
     row: &Row,
-    calls: &[Call],
     moment: u64,
     write: &Call,
     value: i64,
 ) -> Result<Vec<Row>, AllocError>
-    ensures each { IfOk result (λ made. (new : Row) → Contains made.items new
-        → IsNextBy calls.now moment (Deed.EndsWrite write.now value) row.now new) }
-    ensures all { IfOk result (λ made. HasNextBy calls.now moment (Deed.EndsWrite write.now value) row.now made.items) }
+    ensures each { IfOk result (λ made. (new : Row) → Contains made.items new → IsWritten moment write.now value row.now new) }
+    ensures all { IfOk result (λ made. HasWritten moment write.now value row.now made.items) }
 {
     let needed = has_id(&row.needed, write.id);
     if needed {
@@ -171,7 +156,7 @@ fn end_write(
     let may_before = row.has_door(write);
     let mut made = Vec::new(alloc);
     put_both(
-        &mut made, row, calls, moment, write.id, value, write.id, may_before,
+        &mut made, row, moment, write.id, value, write.id, may_before,
     )?;
     Ok(made)
 }
@@ -193,15 +178,15 @@ fn write_for_read(
     value: i64,
 ) -> Result<Vec<Row>, AllocError>
     ensures each { IfOk result (λ made. (new : Row) → Contains made.items new → (c : Call) × Contains calls.now c × IsFree row.now value c
-        × IsPutOf calls.now moment c value read.now.id (HasDoor row.now read.now × HasDoor row.now c) row.now new) }
+        × IsPutOf moment c value read.now.id (HasDoor row.now read.now × HasDoor row.now c) row.now new) }
     ensures all { IfOk result (λ made. (c : Call) → Contains calls.now c → IsFree row.now value c
-        → HasPuts calls.now moment c value read.now.id (HasDoor row.now read.now × HasDoor row.now c) row.now made.items) }
+        → HasPuts moment c value read.now.id (HasDoor row.now read.now × HasDoor row.now c) row.now made.items) }
 {
     let mut made = Vec::new(alloc);
     for call in calls {
         if is_free(row, call, value) {
             let both = have_door(row, read, call);
-            put_both(&mut made, row, calls, moment, call.id, value, read.id, both)?;
+            put_both(&mut made, row, moment, call.id, value, read.id, both)?;
         }
     }
     Ok(made)
@@ -220,11 +205,7 @@ fn end_read(
         → IsNextBy calls.now moment (Deed.EndsRead read.now value) row.now new) }
     ensures all { IfOk result (λ made. HasNextBy calls.now moment (Deed.EndsRead read.now value) row.now made.items) }
 {
-    let found = Found {
-        read: read.id,
-        value,
-    };
-    let may_find = has_found(&row.finds, found);
+    let may_find = row.may_answer(read, value);
     if may_find {
         let out = row.without(read.id)?;
         let made = one(alloc, out)?;
@@ -251,11 +232,6 @@ pub fn next_rows(
             let alone_same = one(alloc, same)?;
             Ok(alone_same)
         }
-        Deed::Begins(id) => {
-            let begun = row.with_read(*id)?;
-            let alone_begun = one(alloc, begun)?;
-            Ok(alone_begun)
-        }
         Deed::Leaves(id) => {
             let out = row.without(*id)?;
             let alone_out = one(alloc, out)?;
@@ -266,7 +242,7 @@ pub fn next_rows(
             Ok(failed)
         }
         Deed::EndsWrite(write, value) => {
-            let written = end_write(alloc, row, calls, moment, write, *value)?;
+            let written = end_write(alloc, row, moment, write, *value)?;
             Ok(written)
         }
         Deed::EndsRead(read, value) => {

@@ -1,27 +1,29 @@
 //! Lean ends as they are kept.
-ghost use Rattle.std.specs.Prelude.{◌≡◌, ◌<◌, ◌↔◌, ◌⊎◌, ℕ, IfOk, IsTrue, OnOk};
-ghost use Rattle.std.specs.List.{Contains};
-ghost use Rattle.wide_register.specs.Facts.{HasDoor, IsBegun, IsFirst, IsFoundBy, IsPut, IsSame, IsWithoutId};
-ghost use Rattle.wide_register.specs.declared.row.Found.{Found};
+ghost use Rattle.std.specs.Prelude.{◌≡◌, ◌≢◌, ◌+◌, ◌<◌, ◌≤◌, ◌↔◌, ◌⊎◌, ℕ, ℤ, Some, IfOk, IsTrue, OnOk, false, length};
+ghost use Rattle.std.specs.List.{AllZip, Contains};
+ghost use Rattle.wide_register.specs.Facts.{CanFind, FindTheSame, HasDoor, HasLeastGaps, IsCut, IsFirst, IsLeastGap, IsPut, IsSame, IsWithoutId, StoodAfter};
+ghost use Rattle.wide_register.specs.declared.row.Passed.{Passed};
 
-use crate::calls::{Call, What};
+use crate::calls::Call;
 use std::alloc::{AllocError, Global};
 
-/// A value that an open read may find.
+/// A value that stood at a gap: each open read that was invoked before the gap, so that fewer marks came before its invocation, may
+/// find it.
 #[derive(Clone, Copy, PartialEq, Eq)]
-pub struct Found {
-    pub read: u32,
+pub struct Passed {
     pub value: i64,
+    pub gap: u64,
 }
 
-/// A lean end: the state, the open and crashed writes that took place, and what each open read may find. An operation that is not
-/// among these writes may still take place just before the last write if fewer marks than `door` came before its invocation.
+/// A lean end: the state, which each open read may find, the open and crashed writes that took place, and what else the open reads may
+/// find, each value once, with its latest gap, the greatest value first. An operation that is not among these writes may still take place
+/// just before the last write if fewer marks than `door` came before its invocation.
 #[derive(Drop)]
 pub struct Row {
     pub state: Option<i64>,
     pub needed: Vec<u32>,
     pub door: u64,
-    pub finds: Vec<Found>,
+    pub passed: Vec<Passed>,
 }
 
 // Whether the id is among these. Takes their time.
@@ -31,51 +33,120 @@ pub fn has_id(ids: &[u32], id: u32) -> bool
     ids.contains(&id)
 }
 
-// Whether the read may find the value. Costs O(finds).
-pub fn has_found(finds: &[Found], found: Found) -> bool
-    ensures { IsTrue result ↔ Contains finds.now found }
+/// The first place from this one on of a value that is not greater. Takes the time of the places before it.
+pub fn place_of(passed: &[Passed], from: usize, value: i64) -> usize
+    ensures { from ≤ length passed.now → result ≤ length passed.now }
 {
-    finds.contains(&found)
-}
-
-// Whether the operation is a read that was invoked before the gap.
-fn may_find(call: &Call, gap: u64) -> bool
-    ensures { IsTrue result ↔ ((call.now.what ≡ What.Reads) × (call.now.since < gap)) }
-{
-    matches!(call.what, What::Reads) && call.since < gap
-}
-
-// The read may find the value, too. Costs O(finds).
-fn note(finds: &mut Vec<Found>, found: Found) -> Result<(), AllocError>
-    ensures { OnOk result ((f : Found) → Contains finds.new.items f ↔ (Contains finds.old.items f ⊎ (found ≡ f))) }
-{
-    if !has_found(finds, found) {
-        finds.push(found)?;
+    let mut at = from;
+    while at < passed.len() && passed[at].value > value {
+        at += 1;
     }
+    at
+}
+
+// Whether it is this value that stood.
+fn is_of(one: &Passed, value: i64) -> bool
+    ensures { IsTrue result ↔ (one.now.value ≡ value) }
+{
+    one.value == value
+}
+
+// Whether the value stands at this place; if so, it stood at the gap, too.
+fn is_raised(passed: &mut [Passed], at: usize, gap: u64, value: i64) -> bool
+    ensures raised { IsTrue result → (v : ℤ) (t : ℕ) → StoodAfter passed.new v t
+        ↔ (StoodAfter passed.old v t ⊎ ((value ≡ v) × (t < gap))) }
+    ensures other { result ≡ false → passed.new ≡ passed.old }
+{
+    if at >= passed.len() || !is_of(&passed[at], value) {
+        return false;
+    }
+    if passed[at].gap < gap {
+        passed[at].gap = gap;
+    }
+    true
+}
+
+// The value stood at the gap, too. Takes the time of what is found.
+fn note(passed: &mut Vec<Passed>, gap: u64, value: i64) -> Result<(), AllocError>
+    ensures { OnOk result ((v : ℤ) (t : ℕ) → StoodAfter passed.new.items v t
+        ↔ (StoodAfter passed.old.items v t ⊎ ((value ≡ v) × (t < gap)))) }
+{
+    let at = place_of(passed, 0, value);
+    if is_raised(passed, at, gap, value) {
+        return Ok(());
+    }
+    passed.insert(at, Passed { value, gap })?;
     Ok(())
 }
 
-// Each open read that was invoked before the gap may find the value. Costs O(operations + finds).
-fn find_value(
-    finds: &mut Vec<Found>,
-    calls: &[Call],
-    gap: u64,
-    value: i64,
-) -> Result<(), AllocError>
-    ensures { OnOk result ((f : Found) → Contains finds.new.items f
-        ↔ (Contains finds.old.items f ⊎ IsFoundBy calls.now gap value f)) }
+// The same of a value, if there is one.
+fn note_any(passed: &mut Vec<Passed>, gap: u64, value: Option<i64>) -> Result<(), AllocError>
+    ensures { OnOk result ((v : ℤ) (t : ℕ) → StoodAfter passed.new.items v t
+        ↔ (StoodAfter passed.old.items v t ⊎ ((value ≡ Some v) × (t < gap)))) }
 {
-    for call in calls {
-        if may_find(call, gap) {
-            note(
-                finds,
-                Found {
-                    read: call.id,
-                    value,
-                },
-            )?;
+    match value {
+        Some(value) => {
+            note(passed, gap, value)?;
+            Ok(())
         }
+        None => Ok(()),
     }
+}
+
+// The least gap that is later than the moment too, if the gap is.
+fn least_with(least: u64, moment: u64, gap: u64) -> u64
+    ensures { ((moment < gap) × (least ≤ moment) × (result ≡ moment + 1))
+        ⊎ ((moment < gap → moment < least) × (result ≡ least)) }
+{
+    if moment < gap && least <= moment {
+        moment + 1
+    } else {
+        least
+    }
+}
+
+// The least gap that is later than the same of these moments; 0 if it is later than none. Takes the time of the moments.
+fn least_gap(moments: &[u64], gap: u64) -> u64
+    ensures { IsLeastGap moments.now gap result }
+{
+    let mut least = 0;
+    for moment in moments {
+        least = least_with(least, *moment, gap);
+    }
+    least
+}
+
+// Each gap becomes the least one that is later than the same of these moments.
+fn cut_gaps(passed: &mut [Passed], moments: &[u64])
+    ensures { AllZip (IsCut moments.now) passed.old passed.new }
+{
+    for one in passed.iter_mut() {
+        one.gap = least_gap(moments, one.gap);
+    }
+}
+
+// Whether it says more than the state: it stood at a gap, and is not the state.
+fn says_more(one: &Passed, state: Option<i64>) -> bool
+    ensures { IsTrue result ↔ ((0 < one.now.gap) × (state ≢ Some one.now.value)) }
+{
+    one.gap > 0 && state != Some(one.value)
+}
+
+// What stood at no gap is out, and so is the state.
+fn leave_out_known(passed: &mut Vec<Passed>, state: Option<i64>)
+    ensures { (p : Passed) → Contains passed.new.items p ↔ (Contains passed.old.items p × (0 < p.gap) × (state ≢ Some p.value)) }
+{
+    passed.retain(|one| says_more(one, state));
+}
+
+// The write is among those that took place, unless it is done.
+fn need(needed: &mut Vec<u32>, write: u32, done: u32) -> Result<(), AllocError>
+    ensures { OnOk result ((i : ℕ) → i ≢ done → Contains needed.new.items i ↔ ((i ≡ write) ⊎ Contains needed.old.items i)) }
+{
+    if write == done {
+        return Ok(());
+    }
+    needed.push(write)?;
     Ok(())
 }
 
@@ -88,7 +159,7 @@ impl Row {
             state: None,
             needed: Vec::new(alloc),
             door: 0,
-            finds: Vec::new(alloc),
+            passed: Vec::new(alloc),
         }
     }
 
@@ -100,7 +171,7 @@ impl Row {
             state: self.state,
             needed: self.needed.clone()?,
             door: self.door,
-            finds: self.finds.clone()?,
+            passed: self.passed.clone()?,
         })
     }
 
@@ -116,7 +187,6 @@ impl Row {
         ensures { IsWithoutId id self.old self.new }
     {
         self.needed.retain(|other| *other != id);
-        self.finds.retain(|found| found.read != id);
     }
 
     /// The row without the operation. Costs O(its lists).
@@ -128,35 +198,44 @@ impl Row {
         Ok(row)
     }
 
-    /// The row as the read begins, which may find the state. Costs O(its lists).
-    pub fn with_read(&self, id: u32) -> Result<Row, AllocError>
-        ensures { IfOk result (IsBegun id self.now) }
+    /// Whether the open read may find the value.
+    pub fn may_answer(&self, read: &Call, value: i64) -> bool
+        ensures { IsTrue result ↔ CanFind self.now value read.now.since }
     {
-        let mut row = self.copy()?;
-        if let Some(value) = row.state {
-            row.finds.push(Found { read: id, value })?;
-        }
-        Ok(row)
+        self.state == Some(value)
+            || self
+                .passed
+                .iter()
+                .any(|passed| passed.value == value && read.since < passed.gap)
     }
 
-    /// The row as the write takes place at this gap, and leaves this state behind all, without the operation that is done by it. Costs
-    /// O(its lists + operations), each with the finds.
+    /// What no read that was invoked at one of these moments may find is out, and each gap is the least that is later than the same of
+    /// them. Takes the time of what is found with the moments, and no memory.
+    pub fn trim(&mut self, moments: &[u64])
+        ensures same { FindTheSame moments.now self.old self.new }
+        ensures least { HasLeastGaps moments.now self.new }
+    {
+        cut_gaps(&mut self.passed, moments);
+        leave_out_known(&mut self.passed, self.state);
+    }
+
+    /// The row as the write takes place at this gap, before which this value may be found from then on, and leaves this state behind all,
+    /// without the operation that is done by it. Takes the time of its lists.
     pub fn put(
         &self,
-        calls: &[Call],
         write: u32,
-        value: i64,
+        value: Option<i64>,
         gap: u64,
         state: Option<i64>,
         done: u32,
     ) -> Result<Row, AllocError>
-        ensures { IfOk result (IsPut calls.now write value gap state done self.now) }
+        ensures { IfOk result (IsPut write value gap state done self.now) }
     {
         let mut row = self.copy()?;
         row.state = state;
         row.door = gap;
-        row.needed.push(write)?;
-        find_value(&mut row.finds, calls, gap, value)?;
+        need(&mut row.needed, write, done)?;
+        note_any(&mut row.passed, gap, value)?;
         row.leave(done);
         Ok(row)
     }

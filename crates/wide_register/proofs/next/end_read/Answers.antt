@@ -1,8 +1,7 @@
 use Rattle.std.proofs.Common.{◌≡◌, ◌∙◌, ℤ, inr, subst, sym, to_z, of_z, w64}
-use Rattle.std.specs.List.{Contains}
 use Rattle.std.proofs.lemmas.Bool.{true≢false}
 use Rattle.std.proofs.lemmas.Int.{to_z-of_z}
-use Rattle.wide_register.specs.Facts.{IsWithoutId, found_by}
+use Rattle.wide_register.specs.Facts.{CanFind, IsWithoutId}
 use Rattle.wide_register.proofs.Making.{AllRead, EachRead, has_alone}
 use Rattle.wide_register.proofs.next.end_read.Goals as goal
 
@@ -10,8 +9,7 @@ pub returns-then-may_find-clause-all : goal.returns-then-may_find-clause-all
 returns-then-may_find-clause-all c =
     let passed : ℤ = to_z w64 (of_z w64 c.args.value) in
     let same : passed ≡ c.args.value = to_z-of_z w64 c.args.value c.ranges.value in
-    let found : Contains c.args.row.now.finds.items (found_by c.args.read.now c.args.value) = subst (λ v. Contains c.args.row.now.finds.items (found_by c.args.read.now v)) same
-    (subst (λ l. Contains l (found_by c.args.read.now passed)) c.deref.ensures.value (c.has_found-may_find.ensures.0 c.if-may_find.true)) in (
+    let found : CanFind c.args.row.now c.args.value c.args.read.now.since = subst (λ v. CanFind c.args.row.now v c.args.read.now.since) same (c.may_answer-may_find.ensures.0 c.if-may_find.true) in (
       (λ n. has_alone (IsWithoutId c.args.read.now.id c.args.row.now) c.in_ok-made.made.items c.in_ok-out.out c.in_ok-made.ensures c.in_ok-out.ensures),
       (λ n. absurd (n found)),
     )
@@ -20,8 +18,7 @@ pub returns-clause-each : goal.returns-clause-each
 returns-clause-each c =
     let passed : ℤ = to_z w64 (of_z w64 c.args.value) in
     let same : passed ≡ c.args.value = to_z-of_z w64 c.args.value c.ranges.value in
-    let found = found_by c.args.read.now c.args.value in
-    let none : ¬ Contains c.args.row.now.finds.items found = (λ n. true≢false (sym (c.has_found-may_find.ensures.1 (subst (λ v. Contains c.deref.result.now (found_by c.args.read.now v)) (sym same) (subst (λ l. Contains l found) (sym c.deref.ensures.value) n))) ∙ c.if-may_find.false)) in
+    let none : ¬ CanFind c.args.row.now c.args.value c.args.read.now.since = (λ n. true≢false (sym (c.may_answer-may_find.ensures.1 (subst (λ v. CanFind c.args.row.now v c.args.read.now.since) (sym same) n)) ∙ c.if-may_find.false)) in
     let each = subst (λ v. EachRead c.args.calls.now c.args.moment c.args.row.now c.args.read.now v c.in_ok-written.written.items) same c.in_ok-written.ensures.each in
     λ new h. inr (none, each new h)
 
@@ -29,7 +26,6 @@ pub returns-clause-all : goal.returns-clause-all
 returns-clause-all c =
     let passed : ℤ = to_z w64 (of_z w64 c.args.value) in
     let same : passed ≡ c.args.value = to_z-of_z w64 c.args.value c.ranges.value in
-    let found = found_by c.args.read.now c.args.value in
-    let none : ¬ Contains c.args.row.now.finds.items found = (λ n. true≢false (sym (c.has_found-may_find.ensures.1 (subst (λ v. Contains c.deref.result.now (found_by c.args.read.now v)) (sym same) (subst (λ l. Contains l found) (sym c.deref.ensures.value) n))) ∙ c.if-may_find.false)) in
+    let none : ¬ CanFind c.args.row.now c.args.value c.args.read.now.since = (λ n. true≢false (sym (c.may_answer-may_find.ensures.1 (subst (λ v. CanFind c.args.row.now v c.args.read.now.since) (sym same) n)) ∙ c.if-may_find.false)) in
     let all = subst (λ v. AllRead c.args.calls.now c.args.moment c.args.row.now c.args.read.now v c.in_ok-written.written.items) same c.in_ok-written.ensures.all in
     ((λ f. absurd (none f)), (λ n. all))

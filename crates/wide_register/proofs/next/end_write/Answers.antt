@@ -18,25 +18,23 @@ pub returns-clause-each : goal.returns-clause-each
 returns-clause-each c =
     let passed : ℤ = to_z w64 (of_z w64 c.args.value) in
     let same : passed ≡ c.args.value = to_z-of_z w64 c.args.value c.ranges.value in
-    let calls = c.args.calls.now in
     let row = c.args.row.now in
     let write = c.args.write.now in
     let made = c.put_both.new.made.items in
-    write_each calls c.args.moment row write c.args.value
+    write_each c.args.moment row write c.args.value
     (λ n. true≢false (sym (c.has_id-needed.ensures.1 (subst (λ l. Contains l write.id) (sym c.deref.ensures.value) n)) ∙ c.if-needed.false))
     (IsTrue c.has_door-may_before.result) c.has_door-may_before.ensures.0 c.has_door-may_before.ensures.1 c.new-made.result.items made c.new-made.ensures.items
-    (subst (λ v. EachPut calls c.args.moment row c.new-made.result.items write.id v write.id (IsTrue c.has_door-may_before.result) made) same c.in_ok-put_both.ensures.each)
+    (subst (λ v. EachPut c.args.moment row c.new-made.result.items write.id v write.id (IsTrue c.has_door-may_before.result) made) same c.in_ok-put_both.ensures.each)
 
 pub returns-clause-all : goal.returns-clause-all
 returns-clause-all c =
     let passed : ℤ = to_z w64 (of_z w64 c.args.value) in
     let same : passed ≡ c.args.value = to_z-of_z w64 c.args.value c.ranges.value in
-    let calls = c.args.calls.now in
     let row = c.args.row.now in
     let write = c.args.write.now in
     let made = c.put_both.new.made.items in
-    write_all calls c.args.moment row write c.args.value
+    write_all c.args.moment row write c.args.value
     (λ n. true≢false (sym (c.has_id-needed.ensures.1 (subst (λ l. Contains l write.id) (sym c.deref.ensures.value) n)) ∙ c.if-needed.false))
     (IsTrue c.has_door-may_before.result) c.has_door-may_before.ensures.0 c.has_door-may_before.ensures.1 c.new-made.result.items made c.new-made.ensures.items
-    (subst (λ v. Has made (IsPut calls write.id v c.args.moment (Some v) write.id row)) same c.in_ok-put_both.ensures.behind)
-    (subst (λ v. IsTrue c.has_door-may_before.result → Has made (IsPut calls write.id v row.door row.state write.id row)) same c.in_ok-put_both.ensures.before)
+    (subst (λ v. Has made (IsPut write.id row.state c.args.moment (Some v) write.id row)) same c.in_ok-put_both.ensures.behind)
+    (subst (λ v. IsTrue c.has_door-may_before.result → Has made (IsPut write.id (Some v) row.door row.state write.id row)) same c.in_ok-put_both.ensures.before)

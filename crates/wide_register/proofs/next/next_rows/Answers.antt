@@ -3,17 +3,13 @@ use Rattle.std.specs.List.{Contains}
 use Rattle.std.proofs.lemmas.Int.{to_z-of_z}
 use Rattle.wide_register.specs.declared.next.Deed.TheVariants.{EndsRead, EndsWrite}
 use Rattle.wide_register.specs.declared.row.Row.{Row}
-use Rattle.wide_register.specs.Facts.{HasNextBy, IsBegun, IsNextBy, IsSame, IsWithoutId}
+use Rattle.wide_register.specs.Facts.{HasNextBy, IsNextBy, IsSame, IsWithoutId}
 use Rattle.wide_register.proofs.Making.{has_alone}
 use Rattle.wide_register.proofs.next.next_rows.Goals as goal
 
 pub returns-in_ok-alone_same-in-Keeps-clause-all : goal.returns-in_ok-alone_same-in-Keeps-clause-all
 returns-in_ok-alone_same-in-Keeps-clause-all c = subst (λ d. HasNextBy c.args.calls.now c.args.moment d c.args.row.now c.in_ok-alone_same-in-Keeps.alone_same.items) (sym c.in-Keeps.is)
     (has_alone (IsSame c.args.row.now) c.in_ok-alone_same-in-Keeps.alone_same.items c.in_ok-same-in-Keeps.same c.in_ok-alone_same-in-Keeps.ensures c.in_ok-same-in-Keeps.ensures)
-
-pub returns-in_ok-alone_begun-in-Begins-clause-all : goal.returns-in_ok-alone_begun-in-Begins-clause-all
-returns-in_ok-alone_begun-in-Begins-clause-all c = subst (λ d. HasNextBy c.args.calls.now c.args.moment d c.args.row.now c.in_ok-alone_begun-in-Begins.alone_begun.items) (sym c.in-Begins.is)
-    (has_alone (IsBegun c.in-Begins.id c.args.row.now) c.in_ok-alone_begun-in-Begins.alone_begun.items c.in_ok-begun-in-Begins.begun c.in_ok-alone_begun-in-Begins.ensures c.in_ok-begun-in-Begins.ensures)
 
 pub returns-in_ok-alone_out-in-Leaves-clause-all : goal.returns-in_ok-alone_out-in-Leaves-clause-all
 returns-in_ok-alone_out-in-Leaves-clause-all c = subst (λ d. HasNextBy c.args.calls.now c.args.moment d c.args.row.now c.in_ok-alone_out-in-Leaves.alone_out.items) (sym c.in-Leaves.is)

@@ -1,6 +1,8 @@
 use Rattle.std.proofs.Common.{◌∙◌, refl, rules, sym}
 use Rattle.std.proofs.lemmas.Bool.{true≢false}
 use Rattle.events.specs.Events.{Mark, act_by, mark_by_act}
+use Rattle.wide_register.specs.declared.kept.Kept.{Kept}
+use Rattle.wide_register.specs.Facts.{changed}
 use Rattle.wide_register.proofs.Judging.{answers, answers_over, costs_of, no_cost, not_over, prepared_as}
 use Rattle.wide_register.proofs.Steps.{facts_after}
 use Rattle.wide_register.proofs.judged.WideRegister.prepare.Goals as goal
@@ -24,7 +26,7 @@ returns c =
     let kind = c.args.kind in
     let op = c.args.op.now in
     let mark : Mark = mark_by_act id id (act_by kind op) in
-    let next = c.in_ok-next.next in
+    let next : Kept = changed c.in_ok-next.next w.kept in
     let step = c.step_left-step.result in
     prepared_as kind id op (record {
       step = answers w.budget w.kept next id op step kind c.in_ok-next.ensures (λ h. true≢false (sym (c.is_over.ensures.1 h) ∙ c.if-is_over.false)) c.step_left-step.ensures;

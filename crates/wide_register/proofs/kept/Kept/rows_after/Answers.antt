@@ -1,36 +1,8 @@
-use Rattle.std.proofs.Common.{subst}
-use Rattle.std.specs.List.{Contains}
-use Rattle.wide_register.specs.declared.row.Row.{Row}
-use Rattle.wide_register.specs.Facts.{HasNextBy, IsNextBy}
-use Rattle.wide_register.proofs.Gathering.{all_at_end, all_gathered, each_at_end, each_gathered}
+use Rattle.std.proofs.Common.{◌∙◌}
+use Rattle.wide_register.proofs.Gathering.{rows_after}
 use Rattle.wide_register.proofs.kept.Kept.rows_after.Goals as goal
 
-pub loop-row-preserved : goal.loop-row-preserved
-loop-row-preserved c =
-    let k = c.args.self.now in
-    let deed = c.args.deed.now in
-    let later = c.args.later.now in
-    let rows = k.rows.items in
-    let zs = c.deref-row-items.result.now in
-    let e = c.deref-row-items.ensures.value in
-    let i = c.loop-row.row-index in
-    let row = c.row-item.result in
-    let left = c.loop-row.left.items in
-    let new = c.keep_all.new.rows.items in
-    let made = c.in_ok-made.made.items in
-    let puts = c.in_ok-keep_all.ensures in
-    record {
-      each = each_gathered k deed later rows zs e i row c.loop-row-test.true c.row-item.is left new made c.loop-row.invariant.each
-          (subst (λ l. (r : Row) → Contains made r → IsNextBy l k.moment deed row r) c.deref.ensures.value c.in_ok-made.ensures.each) puts.each;
-      all = all_gathered k deed later rows zs e i row c.loop-row-test.true c.row-item.is left new made c.loop-row.invariant.all
-          (subst (λ l. HasNextBy l k.moment deed row made) c.deref.ensures.value c.in_ok-made.ensures.all) puts.old puts.kept;
-      apart = puts.apart c.loop-row.invariant.apart;
-    }
-
-pub returns-clause-each : goal.returns-clause-each
-returns-clause-each c = each_at_end c.args.self.now c.args.deed.now c.args.later.now c.args.self.now.rows.items c.deref-row-items.result.now c.deref-row-items.ensures.value c.loop-row.row-index
-    c.loop-row-test.false c.loop-row.left.items c.loop-row.invariant.each
-
-pub returns-clause-all : goal.returns-clause-all
-returns-clause-all c = all_at_end c.args.self.now c.args.deed.now c.args.later.now c.args.self.now.rows.items c.deref-row-items.result.now c.deref-row-items.ensures.value c.loop-row.row-index
-    c.loop-row-test.false c.loop-row.left.items c.loop-row.invariant.all
+pub returns : goal.returns
+returns c = rows_after c.args.self.now c.args.deed.now c.args.later.now _ c.in_ok-made.made.items c.in_ok-left.left.items
+    (c.deref.ensures.value ∙ c.in_ok-moments.ensures) c.in_ok-made.ensures.each c.in_ok-made.ensures.all c.in_ok-made.ensures.least
+    c.in_ok-left.ensures.each c.in_ok-left.ensures.kept c.in_ok-left.ensures.apart

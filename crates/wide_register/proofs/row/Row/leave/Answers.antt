@@ -1,6 +1,5 @@
 use Rattle.std.proofs.Common.{ℕ, [], refl, rules}
 use Rattle.std.proofs.lemmas.Fn.{filter_same}
-use Rattle.wide_register.specs.declared.row.Found.{Found}
 use Rattle.wide_register.proofs.Copies.{is_another, others_left}
 use Rattle.wide_register.proofs.row.Row.leave.Goals as goal
 
@@ -10,6 +9,5 @@ returns c = record {
   needed = others_left (λ (i : ℕ). i) c.args.id c.args.self.now.needed.items c.retain.new.self.items
       (filter_same _ (is_another (λ (i : ℕ). i) c.args.id [] []) _ (λ x b f' k. search rules) _ _ c.retain.ensures.filtered);
   door = refl;
-  finds = others_left (λ (f : Found). f.read) c.args.id c.args.self.now.finds.items c.retain-2.new.self.items
-      (filter_same _ (is_another (λ (f : Found). f.read) c.args.id [] []) _ (λ x b f' k. search rules) _ _ c.retain-2.ensures.filtered);
+  passed = refl;
 }

@@ -1,0 +1,130 @@
+//! Of many rows only those that need the same open writes are compared: of others none is at most another one.
+ghost use Rattle.std.specs.Prelude.{◌≡◌, ◌↔◌, ◌⊎◌, true, ℕ, IfOk, OnOk};
+ghost use Rattle.std.specs.List.{Contains};
+ghost use Rattle.wide_register.specs.Facts.{AreApart, AreHalves, IsKeptIn, IsOpenIn};
+ghost use Rattle.wide_register.specs.declared.row.Row.{Row};
+
+use crate::calls::{Call, What};
+use crate::left::keep_all;
+use crate::row::{Row, has_id};
+use std::alloc::{AllocError, Global};
+
+// So many rows are compared with one another.
+const FEW: usize = 8;
+
+// So many open writes at most tell rows apart.
+const MOST: usize = 48;
+
+// The operation tells rows apart if it is a write that is open.
+fn note_open(ids: &mut Vec<u32>, call: &Call) -> Result<(), AllocError>
+    ensures { OnOk result ((i : ℕ) → Contains ids.new.items i
+        → Contains ids.old.items i ⊎ ((call.now.id ≡ i) × (call.now.is_open ≡ true))) }
+{
+    if !call.is_open || call.what == What::Reads || ids.len() >= MOST {
+        return Ok(());
+    }
+    ids.push(call.id)?;
+    Ok(())
+}
+
+// Open writes by which rows are told apart: so many at most that a stack holds a call for each. Takes the time of the operations.
+fn tellers(alloc: Global, calls: &[Call]) -> Result<Vec<u32>, AllocError>
+    ensures { IfOk result (λ ids. (i : ℕ) → Contains ids.items i → IsOpenIn calls.now i) }
+{
+    let mut ids = Vec::new(alloc);
+    for call in calls {
+        note_open(&mut ids, call)?;
+    }
+    Ok(ids)
+}
+
+/// The rows that need an operation, and the others.
+#[derive(Drop)]
+pub struct Halves {
+    pub with: Vec<Row>,
+    pub without: Vec<Row>,
+}
+
+// Puts the row into its half.
+fn place(halves: &mut Halves, row: Row, id: u32) -> Result<(), AllocError>
+    ensures with_it { OnOk result ((r : Row) → Contains halves.new.with.items r
+        ↔ (Contains halves.old.with.items r ⊎ ((row ≡ r) × Contains row.needed.items id))) }
+    ensures without_it { OnOk result ((r : Row) → Contains halves.new.without.items r
+        ↔ (Contains halves.old.without.items r ⊎ ((row ≡ r) × (¬ Contains row.needed.items id)))) }
+    ensures placed { OnOk result (Contains halves.new.with.items row ⊎ Contains halves.new.without.items row) }
+{
+    let needed = has_id(&row.needed, id);
+    if needed {
+        halves.with.push(row)?;
+        return Ok(());
+    }
+    halves.without.push(row)?;
+    Ok(())
+}
+
+// Splits the rows by whether they need the operation.
+fn split(alloc: Global, mut rows: Vec<Row>, id: u32) -> Result<Halves, AllocError>
+    ensures { IfOk result (AreHalves id rows.items) }
+{
+    let mut halves = Halves {
+        with: Vec::new(alloc),
+        without: Vec::new(alloc),
+    };
+    while let Some(row) = rows.pop() {
+        place(&mut halves, row, id)?;
+    }
+    Ok(halves)
+}
+
+// Leaves out those that are at most another one, each compared with each.
+fn gather_few(alloc: Global, calls: &[Call], rows: Vec<Row>) -> Result<Vec<Row>, AllocError>
+    ensures each { IfOk result (λ left. (r : Row) → Contains left.items r → Contains rows.items r) }
+    ensures kept { IfOk result (λ left. (r : Row) → Contains rows.items r → IsKeptIn calls.now left.items r) }
+    ensures apart { IfOk result (λ left. AreApart calls.now left.items) }
+{
+    let mut left = Vec::new(alloc);
+    keep_all(&mut left, calls, rows)?;
+    Ok(left)
+}
+
+// Leaves out those that are at most another one. The ids, from `at` on, are of open operations. Takes the time of the rows with the ids, and of
+// the pairs of rows that need the same of them.
+fn gather_by(
+    alloc: Global,
+    calls: &[Call],
+    ids: &[u32],
+    at: usize,
+    rows: Vec<Row>,
+) -> Result<Vec<Row>, AllocError>
+    requires { (i : ℕ) → Contains ids.now i → IsOpenIn calls.now i }
+    ensures each { IfOk result (λ left. (r : Row) → Contains left.items r → Contains rows.items r) }
+    ensures kept { IfOk result (λ left. (r : Row) → Contains rows.items r → IsKeptIn calls.now left.items r) }
+    ensures apart { IfOk result (λ left. AreApart calls.now left.items) }
+{
+    if rows.len() <= FEW || at >= ids.len() {
+        return gather_few(alloc, calls, rows);
+    }
+    let id = ids[at];
+    let halves = split(alloc, rows, id)?;
+    let mut left = gather_by(alloc, calls, ids, at + 1, halves.with)?;
+    let mut others = gather_by(alloc, calls, ids, at + 1, halves.without)?;
+    left.append(&mut others)?;
+    Ok(left)
+}
+
+/// Leaves out those that are at most another one. Takes the time of the rows with the operations, and of the pairs of rows that need the same
+/// open writes.
+pub fn gather(alloc: Global, calls: &[Call], rows: Vec<Row>) -> Result<Vec<Row>, AllocError>
+    ensures each { IfOk result (λ left. (r : Row) → Contains left.items r → Contains rows.items r) }
+    ensures kept { IfOk result (λ left. (r : Row) → Contains rows.items r → IsKeptIn calls.now left.items r) }
+    ensures apart { IfOk result (λ left. AreApart calls.now left.items) }
+{
+    if rows.len() <= 1 {
+        return Ok(rows);
+    }
+    if rows.len() <= FEW {
+        return gather_few(alloc, calls, rows);
+    }
+    let ids = tellers(alloc, calls)?;
+    gather_by(alloc, calls, &ids, 0, rows)
+}
