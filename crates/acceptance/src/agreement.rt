@@ -70,13 +70,7 @@ impl Request {
             ModelKind::FifoQueue
             | ModelKind::UnorderedQueue
             | ModelKind::WideFifoQueue
-            | ModelKind::WideUnorderedQueue => {
-                if first {
-                    Name::Enqueue
-                } else {
-                    Name::Dequeue
-                }
-            }
+            | ModelKind::WideUnorderedQueue => { if first { Name::Enqueue } else { Name::Dequeue } }
             ModelKind::Set | ModelKind::WideSet if first => Name::Add,
             ModelKind::Set | ModelKind::WideSet => Name::Read,
         };

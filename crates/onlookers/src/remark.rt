@@ -44,9 +44,7 @@ fn has_operation(kind: ModelKind, name: Name) -> bool {
         ModelKind::FifoQueue
         | ModelKind::UnorderedQueue
         | ModelKind::WideFifoQueue
-        | ModelKind::WideUnorderedQueue => {
-            matches!(name, Name::Enqueue | Name::Dequeue)
-        }
+        | ModelKind::WideUnorderedQueue => { matches!(name, Name::Enqueue | Name::Dequeue) }
         ModelKind::Set | ModelKind::WideSet => matches!(name, Name::Add | Name::Read),
     }
 }

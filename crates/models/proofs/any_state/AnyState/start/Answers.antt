@@ -24,7 +24,9 @@ pub returns-in-WideRegister : goal.returns-in-WideRegister
 returns-in-WideRegister c = start_at WideRegister c.start-in-WideRegister.result c.args.kind c.start-in-WideRegister.ensures c.in-WideRegister.is
 
 pub returns-in-WideSet : goal.returns-in-WideSet
+
 pub returns-in-WideFifoQueue : goal.returns-in-WideFifoQueue
+
 pub returns-in-WideUnorderedQueue : goal.returns-in-WideUnorderedQueue
 returns-in-WideSet c = start_at WideSet c.start-in-WideSet.result c.args.kind c.start-in-WideSet.ensures c.in-WideSet.is
 returns-in-WideFifoQueue c = start_at WideFifoQueue c.start-in-WideFifoQueue.result c.args.kind c.start-in-WideFifoQueue.ensures c.in-WideFifoQueue.is
