@@ -62,9 +62,13 @@ impl Request {
         let first = numbers.below(2) == 0;
         let name = match kind {
             ModelKind::Register | ModelKind::WideRegister if first => Name::Write,
-            ModelKind::CasRegister if first => Name::Write,
-            ModelKind::CasRegister if numbers.below(2) == 0 => Name::Cas,
-            ModelKind::Register | ModelKind::WideRegister | ModelKind::CasRegister => Name::Read,
+            ModelKind::CasRegister | ModelKind::WideCasRegister if first => Name::Write,
+            ModelKind::CasRegister | ModelKind::WideCasRegister if numbers.below(2) == 0 =>
+                Name::Cas,
+            ModelKind::Register
+            | ModelKind::WideRegister
+            | ModelKind::CasRegister
+            | ModelKind::WideCasRegister => { Name::Read }
             ModelKind::Mutex if first => Name::Acquire,
             ModelKind::Mutex => Name::Release,
             ModelKind::FifoQueue
@@ -194,6 +198,7 @@ impl Seen {
 fn plain_kind(kind: ModelKind) -> Option<ModelKind> {
     match kind {
         ModelKind::WideRegister => Some(ModelKind::Register),
+        ModelKind::WideCasRegister => Some(ModelKind::CasRegister),
         ModelKind::WideSet => Some(ModelKind::Set),
         ModelKind::WideFifoQueue => Some(ModelKind::FifoQueue),
         ModelKind::WideUnorderedQueue => Some(ModelKind::UnorderedQueue),

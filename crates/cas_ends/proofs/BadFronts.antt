@@ -9,7 +9,7 @@ use Rattle.linspec.specs.Verdicts.{EndsShortestBadFront}
 use Rattle.linspec.proofs.Filters.{two_cuts}
 use Rattle.linspec.proofs.Fronts.{marks-append, IsLinearizable-front}
 use Rattle.linspec.specs.LeanEnds.{LeanEnd}
-use Rattle.cas_ends.specs.CasEnds.{IsCasEnd}
+use Rattle.linspec.specs.CasEnds.{IsCasEnd}
 use Rattle.cas_ends.proofs.Complete.{has_cas_end}
 use Rattle.cas_ends.proofs.Sound.{cas_end_is_left}
 

@@ -18,7 +18,7 @@ use Rattle.lean_ends.proofs.Steps.{no_read}
 use Rattle.lean_ends.proofs.Once.{one_op, sort_of}
 use Rattle.lean_ends.proofs.Makes.{some_with_read}
 use Rattle.lean_ends.proofs.Covers.{Extra}
-use Rattle.cas_ends.specs.CasEnds.{Becomes}
+use Rattle.linspec.specs.CasEnds.{Becomes}
 use Rattle.cas_ends.proofs.Steps.{run_same}
 use Rattle.cas_ends.proofs.Covers.{MayFind, Covers}
 

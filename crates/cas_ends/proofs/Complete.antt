@@ -14,7 +14,7 @@ use Rattle.linspec.proofs.Lists.{Contains-nil, Contains-head, snoc_cut}
 use Rattle.linspec.proofs.Marks.{IsLegalOrder-fewer, IsLegalOrder-cut}
 use Rattle.linspec.proofs.Fates.{returned_or_not}
 use Rattle.linspec.specs.LeanEnds.{LeanEnd, start}
-use Rattle.cas_ends.specs.CasEnds.{Becomes, BecomesBy, IsCasEnd}
+use Rattle.linspec.specs.CasEnds.{Becomes, BecomesBy, IsCasEnd}
 use Rattle.lean_ends.proofs.Splits.{UpToLast, up_to_last}
 use Rattle.cas_ends.proofs.Covers.{Covers}
 use Rattle.cas_ends.proofs.Events.{Leads, after_fail, after_crash}

@@ -11,7 +11,7 @@ use Rattle.linspec.proofs.Marks.{Run-cut}
 use Rattle.linspec.specs.LeanEnds.{IsWriteOf, MayRead, LeanEnd}
 use Rattle.lean_ends.proofs.Splits.{two_cuts}
 use Rattle.lean_ends.proofs.Covers.{Extra}
-use Rattle.cas_ends.specs.CasEnds.{Sets, IsCasOf}
+use Rattle.linspec.specs.CasEnds.{Sets, IsCasOf}
 use Rattle.cas_ends.proofs.Steps.{run_same}
 
 -- the read may stand where the value is v: no operation behind it precedes it

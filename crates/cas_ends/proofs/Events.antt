@@ -14,7 +14,7 @@ use Rattle.lean_ends.proofs.Makes.{some_without}
 use Rattle.lean_ends.proofs.Covers.{Extra}
 use Rattle.lean_ends.proofs.Ending.{write_was, read_was}
 use Rattle.lean_ends.proofs.Events.{front_well}
-use Rattle.cas_ends.specs.CasEnds.{Becomes}
+use Rattle.linspec.specs.CasEnds.{Becomes}
 use Rattle.cas_ends.proofs.Covers.{Covers}
 use Rattle.cas_ends.proofs.Ending.{find_was, covers_without}
 

@@ -9,7 +9,7 @@ use Rattle.linspec.proofs.Lists.{Contains-nil, Contains-head, Contains-tail, Con
 use Rattle.linspec.specs.LeanEnds.{LeanEnd, IsAtMost, IsPutBehind}
 use Rattle.lean_ends.proofs.Left.{at_most_each_other, at_most_itself}
 use Rattle.lean_ends.proofs.Makes.{some_behind}
-use Rattle.cas_ends.specs.CasEnds.{WalksBy, Walks, Front, IsLess, IsNext, AreLayers, stays, AreFronts}
+use Rattle.linspec.specs.CasEnds.{WalksBy, Walks, Front, IsLess, IsNext, AreLayers, stays, AreFronts}
 use Rattle.cas_ends.proofs.Makes.{some_set}
 use Rattle.cas_ends.proofs.Left.{at_most_then}
 

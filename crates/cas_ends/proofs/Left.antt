@@ -12,7 +12,7 @@ use Rattle.linspec.proofs.Lists.{Contains-nil, Contains-head, Contains-cons_case
 use Rattle.linspec.specs.LeanEnds.{LeanEnd, start, IsAtMost}
 use Rattle.lean_ends.proofs.Covers.{Extra}
 use Rattle.lean_ends.proofs.Left.{at_most_each_other, at_most_itself}
-use Rattle.cas_ends.specs.CasEnds.{AreLeftBy, AreLeftByAll, AreCasEnds}
+use Rattle.linspec.specs.CasEnds.{AreLeftBy, AreLeftByAll, AreCasEnds}
 use Rattle.cas_ends.proofs.Covers.{Covers}
 use Rattle.cas_ends.proofs.Complete.{AreComplete, complete_after, at_first, cut_behind}
 use Rattle.cas_ends.proofs.Stands.{IsLeft}

@@ -8,7 +8,7 @@ use Rattle.linspec.specs.MarkRule.{AreWellFormed}
 use Rattle.linspec.specs.LeanEnds.{LeanEnd, MayRead}
 use Rattle.lean_ends.proofs.Once.{may_read_or_not}
 use Rattle.lean_ends.proofs.Makes.{Decided, is_true}
-use Rattle.cas_ends.specs.CasEnds.{IsSetBehind}
+use Rattle.linspec.specs.CasEnds.{IsSetBehind}
 
 both : {P Q : Type 0} → Decided P → Decided Q → Decided (P × Q)
 both p q = ⊎_elim (λ a. ⊎_elim (λ b. inl (a, b)) (λ n. inr (λ h. n h.1)) q) (λ n. inr (λ h. n h.0)) p

@@ -18,7 +18,7 @@ use Rattle.lean_ends.proofs.Once.{read_no_write}
 use Rattle.lean_ends.proofs.Makes.{is_true, some_behind, some_before, some_without}
 use Rattle.lean_ends.proofs.Covers.{Extra}
 use Rattle.lean_ends.proofs.Events.{front_well}
-use Rattle.cas_ends.specs.CasEnds.{Sets, IsCasOf, MayCas, Walks}
+use Rattle.linspec.specs.CasEnds.{Sets, IsCasOf, MayCas, Walks}
 use Rattle.cas_ends.proofs.Steps.{step_view, run_same}
 use Rattle.cas_ends.proofs.Once.{cas_no_write}
 use Rattle.cas_ends.proofs.Makes.{some_set}

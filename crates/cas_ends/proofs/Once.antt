@@ -4,7 +4,7 @@ use Rattle.events.specs.Events.{Mark}
 use Rattle.linspec.specs.MarkRule.{AreWellFormed}
 use Rattle.linspec.specs.LeanEnds.{Reads, Writes, IsRead, IsWriteOf}
 use Rattle.lean_ends.proofs.Once.{one_op}
-use Rattle.cas_ends.specs.CasEnds.{Sets, IsCasOf}
+use Rattle.linspec.specs.CasEnds.{Sets, IsCasOf}
 use Rattle.cas_ends.proofs.Steps.{no_read_cas, no_write_cas, one_pair}
 
 module _ (marks : List Mark) (well : AreWellFormed marks) (id : ℕ) (a b : ℤ) (c : IsCasOf marks id a b) where

@@ -8,7 +8,7 @@ use Rattle.linspec.specs.Orders.{IsLinearizable, Pairwise}
 use Rattle.linspec.proofs.Counts.{no_longer_than}
 use Rattle.linspec.proofs.Lists.{Contains-nil, Contains-head, Contains-cons_cases, Pairwise-append, Pairwise-weaker}
 use Rattle.linspec.specs.LeanEnds.{LeanEnd, start}
-use Rattle.cas_ends.specs.CasEnds.{AreCasEnds, Front, IsLess, IsLayer, AreLayers, stays, AreSomeFronts, AreFronts, HasMoreFronts}
+use Rattle.linspec.specs.CasEnds.{AreCasEnds, Front, IsLess, IsLayer, AreLayers, stays, AreSomeFronts, AreFronts, HasMoreFronts}
 use Rattle.cas_ends.proofs.Left.{same_ends, some_is_left, once_by, one_start}
 use Rattle.cas_ends.proofs.Layers.{less_itself, less_then, less_each_other, there_still, stays_there, stays_of}
 

@@ -12,7 +12,7 @@ use Rattle.linspec.proofs.Lists.{Contains-nil}
 use Rattle.linspec.specs.LeanEnds.{Writes, Reads, IsWriteOf, MayRead, MayWrite, LeanEnd, IsPutBehind}
 use Rattle.lean_ends.proofs.Once.{read_no_write, same_value}
 use Rattle.lean_ends.proofs.Covers.{Extra}
-use Rattle.cas_ends.specs.CasEnds.{MayCas, IsSetBehind}
+use Rattle.linspec.specs.CasEnds.{MayCas, IsSetBehind}
 use Rattle.cas_ends.proofs.Steps.{no_read_cas, no_write_cas}
 use Rattle.cas_ends.proofs.Once.{cas_no_write}
 use Rattle.cas_ends.proofs.Covers.{MayFind, CoversSame, IsUpdate, Covers, find_push, extra_up, extra_down}

@@ -19,7 +19,7 @@ use Rattle.linspec.proofs.Open.{open_with_new, new_is_open}
 use Rattle.linspec.specs.LeanEnds.{Reads, IsWriteOf, IsRead, MayRead, MayWrite, LeanEnd, start, IsWithout, Begins}
 use Rattle.lean_ends.proofs.Events.{front_well}
 use Rattle.lean_ends.proofs.Stands.{MayCome}
-use Rattle.cas_ends.specs.CasEnds.{IsCasOf, MayCas, Walks, EndsWrite, EndsCas, EndsRead, Answers, Becomes, BecomesBy, IsCasEnd}
+use Rattle.linspec.specs.CasEnds.{IsCasOf, MayCas, Walks, EndsWrite, EndsCas, EndsRead, Answers, Becomes, BecomesBy, IsCasEnd}
 use Rattle.cas_ends.proofs.Steps.{step_view}
 use Rattle.cas_ends.proofs.Covers.{MayFind, IsUpdate}
 use Rattle.cas_ends.proofs.Puts.{no_read_update}

@@ -14,7 +14,7 @@ use Rattle.linspec.specs.LeanEnds.{Writes, IsWriteOf, IsRead, MayRead, MayWrite,
 use Rattle.lean_ends.proofs.Splits.{two_cuts}
 use Rattle.lean_ends.proofs.Orders.{IsLegalOrder-within, within_cases, within_it, within_others}
 use Rattle.lean_ends.proofs.Stands.{MayCome}
-use Rattle.cas_ends.specs.CasEnds.{IsCasOf, MayCas, IsSetBehind, SetsBehind, WalksBy}
+use Rattle.linspec.specs.CasEnds.{IsCasOf, MayCas, IsSetBehind, SetsBehind, WalksBy}
 use Rattle.cas_ends.proofs.Steps.{write_step, cas_step, write_anywhere}
 use Rattle.cas_ends.proofs.Once.{cas_no_read, cas_no_write}
 use Rattle.cas_ends.proofs.Covers.{MayFind, IsUpdate}

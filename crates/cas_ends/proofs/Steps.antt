@@ -13,7 +13,7 @@ use Rattle.models.proofs.Tables.{cas_takes_place}
 use Rattle.linspec.specs.Orders.{Taken, Run}
 use Rattle.linspec.specs.LeanEnds.{Writes, Reads}
 use Rattle.lean_ends.proofs.Steps.{no_read, one_value}
-use Rattle.cas_ends.specs.CasEnds.{Sets}
+use Rattle.linspec.specs.CasEnds.{Sets}
 
 -- a step is a read's, a write's or a cas's
 abbrev pub IsReadStep : Name → Part → Option ℤ → Found → Option ℤ → Type 0

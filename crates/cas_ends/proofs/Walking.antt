@@ -12,7 +12,7 @@ use Rattle.linspec.proofs.Lists.{Contains-head, Contains-tail, Pairwise-across}
 use Rattle.linspec.proofs.Marks.{Run-append}
 use Rattle.linspec.specs.LeanEnds.{MayWrite, LeanEnd}
 use Rattle.lean_ends.proofs.Makes.{some_behind}
-use Rattle.cas_ends.specs.CasEnds.{MayCas, SetsBehind, WritesBehind, WalksBy, Walks}
+use Rattle.linspec.specs.CasEnds.{MayCas, SetsBehind, WritesBehind, WalksBy, Walks}
 use Rattle.cas_ends.proofs.Steps.{step_view}
 use Rattle.cas_ends.proofs.Makes.{some_set}
 use Rattle.cas_ends.proofs.Covers.{CoversSame, Covers}

@@ -7,7 +7,7 @@ ghost use Rattle.linspec.specs.MarkRule.{AreWellFormed};
 ghost use Rattle.linspec.specs.Orders.{IsLinearizable};
 ghost use Rattle.linspec.specs.Verdicts.{EndsShortestBadFront};
 ghost use Rattle.linspec.specs.LeanEnds.{LeanEnd};
-ghost use Rattle.cas_ends.specs.CasEnds.{IsCasEnd, AreCasEnds, Front, AreFronts, HasMoreFronts};
+ghost use Rattle.linspec.specs.CasEnds.{IsCasEnd, AreCasEnds, Front, AreFronts, HasMoreFronts};
 
 /// A history of a register with compare and set is linearizable exactly if it has an end. Nothing is lost if ends that are at most another one
 /// are left out at each event.

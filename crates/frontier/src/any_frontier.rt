@@ -1,15 +1,17 @@
 //! Judges of the history of a key of any kind.
 ghost use Rattle.std.specs.Prelude.{◌≡◌, IfOk};
 ghost use Rattle.models.specs.Objects.{object_of, of_table};
-ghost use Rattle.models.specs.declared.model_kind.ModelKind.TheVariants.{WideRegister as OfWideRegister, WideSet as OfWideSet};
 ghost use Rattle.linspec.specs.Counts.{CountsMoreThan};
 ghost use Rattle.frontier.specs.AnyFrontier.{any_view_of, kind_of_frontier};
 ghost use Rattle.frontier.specs.Kept.{view_of};
 ghost use Rattle.judging.specs.Meaning.{Commits, IsCopy, IsStart, Observes, Prepares, mark_by};
-ghost use Rattle.wide_register.specs.Views.{view_of as wide_register_view_of};
-ghost use Rattle.wide_set.specs.Views.{view_of as wide_set_view_of};
 
 use crate::frontier::Frontier;
+use crate::wide::{
+    observe_wide_cas_register, observe_wide_fifo_queue, observe_wide_register, observe_wide_set,
+    observe_wide_unordered_queue, prepare_wide_cas_register, prepare_wide_fifo_queue,
+    prepare_wide_register, prepare_wide_set, prepare_wide_unordered_queue,
+};
 use events::EventKind;
 use judging::Step;
 use models::{
@@ -17,11 +19,14 @@ use models::{
     each_kind_with_ends,
 };
 use std::alloc::{AllocError, Global};
+use wide_cas_register::WideCasRegister;
+use wide_fifo_queue::WideFifoQueue;
 use wide_register::WideRegister;
 use wide_set::WideSet;
+use wide_unordered_queue::WideUnorderedQueue;
 
-/// The judge of one key's history, for a key whose kind of object is known only as the program runs: a [`Frontier`] of that kind, or a wide
-/// register or set.
+/// The judge of one key's history, for a key whose kind of object is known only as the program runs: a [`Frontier`] of that kind, or the
+/// judge of a wide kind.
 #[derive(Drop)]
 pub enum AnyFrontier {
     /// Of a register.
@@ -38,8 +43,14 @@ pub enum AnyFrontier {
     UnorderedQueue(Box<Frontier<UnorderedQueue>>),
     /// For a register whose lean ends are counted.
     WideRegister(Box<WideRegister>),
-    /// For a set, whose ends are not counted.
+    /// For a register with compare and set whose fronts are counted.
+    WideCasRegister(Box<WideCasRegister>),
+    /// For a set, of which nothing is counted.
     WideSet(Box<WideSet>),
+    /// For a queue of which only equal values are counted.
+    WideFifoQueue(Box<WideFifoQueue>),
+    /// For a queue without an order, of which nothing is counted.
+    WideUnorderedQueue(Box<WideUnorderedQueue>),
 }
 
 // The bodies below, for each kind of the list, and for the wide ones.
@@ -50,8 +61,17 @@ macro_rules! start_of {
             ModelKind::WideRegister => {
                 Ok(AnyFrontier::WideRegister(Box::new($alloc, WideRegister::start($alloc, $budget)?)?))
             }
+            ModelKind::WideCasRegister => {
+                Ok(AnyFrontier::WideCasRegister(Box::new($alloc, WideCasRegister::start($alloc, $budget)?)?))
+            }
             ModelKind::WideSet => {
                 Ok(AnyFrontier::WideSet(Box::new($alloc, WideSet::start($alloc, $budget))?))
+            }
+            ModelKind::WideFifoQueue => {
+                Ok(AnyFrontier::WideFifoQueue(Box::new($alloc, WideFifoQueue::start($alloc, $budget))?))
+            }
+            ModelKind::WideUnorderedQueue => {
+                Ok(AnyFrontier::WideUnorderedQueue(Box::new($alloc, WideUnorderedQueue::start($alloc, $budget))?))
             }
         }
     };
@@ -64,8 +84,17 @@ macro_rules! copy_of {
             AnyFrontier::WideRegister(judge) => {
                 Ok(AnyFrontier::WideRegister(Box::new(*Box::allocator(judge), judge.copy()?)?))
             }
+            AnyFrontier::WideCasRegister(judge) => {
+                Ok(AnyFrontier::WideCasRegister(Box::new(*Box::allocator(judge), judge.copy()?)?))
+            }
             AnyFrontier::WideSet(judge) => {
                 Ok(AnyFrontier::WideSet(Box::new(*Box::allocator(judge), judge.copy()?)?))
+            }
+            AnyFrontier::WideFifoQueue(judge) => {
+                Ok(AnyFrontier::WideFifoQueue(Box::new(*Box::allocator(judge), judge.copy()?)?))
+            }
+            AnyFrontier::WideUnorderedQueue(judge) => {
+                Ok(AnyFrontier::WideUnorderedQueue(Box::new(*Box::allocator(judge), judge.copy()?)?))
             }
         }
     };
@@ -76,7 +105,10 @@ macro_rules! applied_of {
         match $any {
             $(AnyFrontier::$K(frontier) => frontier.applied(),)*
             AnyFrontier::WideRegister(judge) => judge.applied(),
+            AnyFrontier::WideCasRegister(judge) => judge.applied(),
             AnyFrontier::WideSet(judge) => judge.applied(),
+            AnyFrontier::WideFifoQueue(judge) => judge.applied(),
+            AnyFrontier::WideUnorderedQueue(judge) => judge.applied(),
         }
     };
 }
@@ -86,7 +118,10 @@ macro_rules! observe_of {
         match $any {
             $(AnyFrontier::$K(frontier) => frontier.observe($id, $event, $op),)*
             AnyFrontier::WideRegister(judge) => observe_wide_register(judge, $id, $event, $op),
+            AnyFrontier::WideCasRegister(judge) => observe_wide_cas_register(judge, $id, $event, $op),
             AnyFrontier::WideSet(judge) => observe_wide_set(judge, $id, $event, $op),
+            AnyFrontier::WideFifoQueue(judge) => observe_wide_fifo_queue(judge, $id, $event, $op),
+            AnyFrontier::WideUnorderedQueue(judge) => observe_wide_unordered_queue(judge, $id, $event, $op),
         }
     };
 }
@@ -96,7 +131,10 @@ macro_rules! prepare_of {
         match $any {
             $(AnyFrontier::$K(frontier) => frontier.prepare($id, $event, $op),)*
             AnyFrontier::WideRegister(judge) => prepare_wide_register(judge, $id, $event, $op),
+            AnyFrontier::WideCasRegister(judge) => prepare_wide_cas_register(judge, $id, $event, $op),
             AnyFrontier::WideSet(judge) => prepare_wide_set(judge, $id, $event, $op),
+            AnyFrontier::WideFifoQueue(judge) => prepare_wide_fifo_queue(judge, $id, $event, $op),
+            AnyFrontier::WideUnorderedQueue(judge) => prepare_wide_unordered_queue(judge, $id, $event, $op),
         }
     };
 }
@@ -106,7 +144,10 @@ macro_rules! commit_of {
         match $any {
             $(AnyFrontier::$K(frontier) => frontier.commit(),)*
             AnyFrontier::WideRegister(judge) => judge.commit(),
+            AnyFrontier::WideCasRegister(judge) => judge.commit(),
             AnyFrontier::WideSet(judge) => judge.commit(),
+            AnyFrontier::WideFifoQueue(judge) => judge.commit(),
+            AnyFrontier::WideUnorderedQueue(judge) => judge.commit(),
         }
     };
 }
@@ -127,62 +168,6 @@ fn copied<M: SeqObject>(frontier: &Frontier<M>) -> Result<Box<Frontier<M>>, Allo
         IfOk result (λ f. IsCopy (view_of object frontier.now) (view_of object f.value)) }
 {
     Ok(Box::new(frontier.allocator(), frontier.copy()?)?)
-}
-
-// Prepares an event of a wide register; apart, so that the code for the plain kinds stays so short that it is laid into its callers.
-#[inline(never)]
-fn prepare_wide_register(
-    judge: &mut WideRegister,
-    id: u32,
-    kind: EventKind,
-    op: &Op,
-) -> Result<Step, AllocError>
-    ensures { Prepares (wide_register_view_of judge.old) (wide_register_view_of judge.new) (CountsMoreThan OfWideRegister) (object_of OfWideRegister)
-        (mark_by id kind op.now) result }
-{
-    judge.prepare(id, kind, op)
-}
-
-// Prepares an event of a wide set, likewise.
-#[inline(never)]
-fn prepare_wide_set(
-    judge: &mut WideSet,
-    id: u32,
-    kind: EventKind,
-    op: &Op,
-) -> Result<Step, AllocError>
-    ensures { Prepares (wide_set_view_of judge.old) (wide_set_view_of judge.new) (CountsMoreThan OfWideSet) (object_of OfWideSet)
-        (mark_by id kind op.now) result }
-{
-    judge.prepare(id, kind, op)
-}
-
-// An event of a wide register, likewise.
-#[inline(never)]
-fn observe_wide_register(
-    judge: &mut WideRegister,
-    id: u32,
-    kind: EventKind,
-    op: &Op,
-) -> Result<Step, AllocError>
-    ensures { Observes (wide_register_view_of judge.old) (wide_register_view_of judge.new) (CountsMoreThan OfWideRegister) (object_of OfWideRegister)
-        (mark_by id kind op.now) result }
-{
-    judge.observe(id, kind, op)
-}
-
-// An event of a wide set, likewise.
-#[inline(never)]
-fn observe_wide_set(
-    judge: &mut WideSet,
-    id: u32,
-    kind: EventKind,
-    op: &Op,
-) -> Result<Step, AllocError>
-    ensures { Observes (wide_set_view_of judge.old) (wide_set_view_of judge.new) (CountsMoreThan OfWideSet) (object_of OfWideSet)
-        (mark_by id kind op.now) result }
-{
-    judge.observe(id, kind, op)
 }
 
 impl AnyFrontier {

@@ -12,6 +12,7 @@ pub mod any_frontier;
 mod change;
 pub mod frontier;
 mod product_form;
+mod wide;
 
 pub use any_frontier::AnyFrontier;
 pub use frontier::Frontier;

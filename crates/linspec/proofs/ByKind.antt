@@ -2,7 +2,7 @@
 use Rattle.std.proofs.Common.{◌≡◌, ℕ, ◌+◌, List, [], ◌∷◌, length, arith}
 use Rattle.std.specs.List.{Contains}
 use Rattle.models.specs.declared.model_kind.ModelKind.{ModelKind}
-use Rattle.models.specs.declared.model_kind.ModelKind.TheVariants.{Register, CasRegister, Mutex, FifoQueue, Set, UnorderedQueue, WideRegister, WideSet, WideFifoQueue, WideUnorderedQueue}
+use Rattle.models.specs.declared.model_kind.ModelKind.TheVariants.{Register, CasRegister, Mutex, FifoQueue, Set, UnorderedQueue, WideRegister, WideCasRegister, WideSet, WideFifoQueue, WideUnorderedQueue}
 use Rattle.models.specs.Objects.{Object, object_of}
 use Rattle.events.specs.Events.{Mark}
 use Rattle.linspec.specs.Orders.{IsLinearizable}
@@ -29,9 +29,10 @@ counted_order FifoQueue = some_order (object_of FifoQueue)
 counted_order Set = some_order (object_of Set)
 counted_order UnorderedQueue = some_order (object_of UnorderedQueue)
 counted_order WideRegister = λ marks n h. h.0
+counted_order WideCasRegister = λ marks n h. h.0
 counted_order WideSet = λ marks n none. absurd none
-counted_order WideFifoQueue = some_order (object_of WideFifoQueue)
-counted_order WideUnorderedQueue = some_order (object_of WideUnorderedQueue)
+counted_order WideFifoQueue = λ marks n h. h.0
+counted_order WideUnorderedQueue = λ marks n none. absurd none
 
 -- no fewer are counted with crashed reads
 pub counted_with_reads : (kind : ModelKind) → CountsLess (CountsMoreThan kind) (CountsMoreThanWithReads kind)
@@ -42,6 +43,7 @@ counted_with_reads FifoQueue = less_with_reads (object_of FifoQueue)
 counted_with_reads Set = less_with_reads (object_of Set)
 counted_with_reads UnorderedQueue = less_with_reads (object_of UnorderedQueue)
 counted_with_reads WideRegister = λ marks n h. h
+counted_with_reads WideCasRegister = λ marks n h. h
 counted_with_reads WideSet = λ marks n none. absurd none
-counted_with_reads WideFifoQueue = less_with_reads (object_of WideFifoQueue)
-counted_with_reads WideUnorderedQueue = less_with_reads (object_of WideUnorderedQueue)
+counted_with_reads WideFifoQueue = λ marks n h. h
+counted_with_reads WideUnorderedQueue = λ marks n none. absurd none

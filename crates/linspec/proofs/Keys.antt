@@ -3,11 +3,11 @@ use Rattle.std.proofs.Common.{◌≡◌, ◌≢◌, ◌↔◌, ℕ, ◌⊎◌, i
 use Rattle.std.specs.List.{Contains}
 use Rattle.std.proofs.lemmas.Bool.{cases_eq, eq-eqb, ne_eqb}
 use Rattle.models.specs.declared.model_kind.ModelKind.{ModelKind}
-use Rattle.models.specs.declared.model_kind.ModelKind.TheVariants.{Register, CasRegister, Mutex, FifoQueue, Set, UnorderedQueue, WideRegister, WideSet, WideFifoQueue, WideUnorderedQueue}
+use Rattle.models.specs.declared.model_kind.ModelKind.TheVariants.{Register, CasRegister, Mutex, FifoQueue, Set, UnorderedQueue, WideRegister, WideCasRegister, WideSet, WideFifoQueue, WideUnorderedQueue}
 use Rattle.models.specs.declared.operation.Op.{Op}
 use Rattle.models.specs.declared.finding.Found.{Found}
 use Rattle.models.specs.declared.any_state.AnyState.{AnyState}
-use Rattle.models.specs.declared.any_state.AnyState.TheVariants.{Register as OfRegister, CasRegister as OfCasRegister, Mutex as OfMutex, FifoQueue as OfFifoQueue, Set as OfSet, UnorderedQueue as OfUnorderedQueue, WideRegister as OfWideRegister, WideSet as OfWideSet, WideFifoQueue as OfWideFifoQueue, WideUnorderedQueue as OfWideUnorderedQueue}
+use Rattle.models.specs.declared.any_state.AnyState.TheVariants.{Register as OfRegister, CasRegister as OfCasRegister, Mutex as OfMutex, FifoQueue as OfFifoQueue, Set as OfSet, UnorderedQueue as OfUnorderedQueue, WideRegister as OfWideRegister, WideCasRegister, WideSet as OfWideSet, WideFifoQueue as OfWideFifoQueue, WideUnorderedQueue as OfWideUnorderedQueue}
 use Rattle.models.specs.AnyState.{any}
 use Rattle.models.specs.Objects.{object_of}
 use Rattle.events.specs.Events.{Mark}
@@ -76,6 +76,7 @@ any_step FifoQueue FifoQueue s u e op found v st = (v, same_steps (object_of Fif
 any_step Set Set s u e op found v st = (v, same_steps (object_of Set).State (object_of Set).Steps s u op found v (let q : s ≡ u = cc in q) st, refl)
 any_step UnorderedQueue UnorderedQueue s u e op found v st = (v, same_steps (object_of UnorderedQueue).State (object_of UnorderedQueue).Steps s u op found v (let q : s ≡ u = cc in q) st, refl)
 any_step WideRegister WideRegister s u e op found v st = (v, same_steps (object_of WideRegister).State (object_of WideRegister).Steps s u op found v (let q : s ≡ u = cc in q) st, refl)
+any_step WideCasRegister WideCasRegister s u e op found v st = (v, same_steps (object_of WideCasRegister).State (object_of WideCasRegister).Steps s u op found v (let q : s ≡ u = cc in q) st, refl)
 any_step WideSet WideSet s u e op found v st = (v, same_steps (object_of WideSet).State (object_of WideSet).Steps s u op found v (let q : s ≡ u = cc in q) st, refl)
 any_step WideFifoQueue WideFifoQueue s u e op found v st = (v, same_steps (object_of WideFifoQueue).State (object_of WideFifoQueue).Steps s u op found v (let q : s ≡ u = cc in q) st, refl)
 any_step WideUnorderedQueue WideUnorderedQueue s u e op found v st = (v, same_steps (object_of WideUnorderedQueue).State (object_of WideUnorderedQueue).Steps s u op found v (let q : s ≡ u = cc in q) st, refl)
@@ -89,6 +90,7 @@ any_kind (OfFifoQueue s) = (FifoQueue, s, refl)
 any_kind (OfSet s) = (Set, s, refl)
 any_kind (OfUnorderedQueue s) = (UnorderedQueue, s, refl)
 any_kind (OfWideRegister s) = (WideRegister, s, refl)
+any_kind (OfWideCasRegister s) = (WideCasRegister, s, refl)
 any_kind (OfWideSet s) = (WideSet, s, refl)
 any_kind (OfWideFifoQueue s) = (WideFifoQueue, s, refl)
 any_kind (OfWideUnorderedQueue s) = (WideUnorderedQueue, s, refl)

@@ -2,6 +2,8 @@ pub mod Operations
 pub mod Orders
 pub mod Ends
 pub mod LeanEnds
+pub mod CasEnds
+pub mod Twins
 pub mod Counts
 pub mod Verdicts
 pub mod MarkRule

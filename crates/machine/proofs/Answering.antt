@@ -9,7 +9,7 @@ use Rattle.models.specs.declared.operation.Part.TheVariants.{Nil, Int, Pair}
 use Rattle.models.specs.declared.finding.Found.{Found}
 use Rattle.models.specs.declared.finding.Found.TheVariants.{Unit as Nothing, Reg, Item, Elements}
 use Rattle.models.specs.declared.model_kind.ModelKind.{ModelKind}
-use Rattle.models.specs.declared.model_kind.ModelKind.TheVariants.{Register, CasRegister, Mutex, FifoQueue, Set as SetOfNumbers, UnorderedQueue, WideRegister, WideSet, WideFifoQueue, WideUnorderedQueue}
+use Rattle.models.specs.declared.model_kind.ModelKind.TheVariants.{Register, CasRegister, Mutex, FifoQueue, Set as SetOfNumbers, UnorderedQueue, WideRegister, WideCasRegister, WideSet, WideFifoQueue, WideUnorderedQueue}
 use Rattle.models.specs.Objects.{IsOneOf, object_of, register_apply, cas_register_apply, mutex_apply, queue_apply, set_apply, taken_from, unordered_apply}
 use Rattle.values.specs.Multisets.{with_one, without_one, values_of}
 use Rattle.machine.specs.Trials.{Answers}
@@ -71,6 +71,7 @@ answers FifoQueue s t op found h = queue_answers op.name op.part s t found h
 answers SetOfNumbers s t op found h = set_answers op.name op.part s t found h
 answers UnorderedQueue s t op found h = unordered_answers op.name op.part s t found h
 answers WideRegister s t op found h = register_answers op.name op.part s t found h
+answers WideCasRegister s t op found h = cas_register_answers op.name op.part s t found h
 answers WideSet s t op found h = set_answers op.name op.part s t found h
 answers WideFifoQueue s t op found h = queue_answers op.name op.part s t found h
 answers WideUnorderedQueue s t op found h = unordered_answers op.name op.part s t found h

@@ -2,7 +2,7 @@
 use Rattle.std.proofs.Common.{ℕ, ℤ, inl, Option, Some, None, List, [], ◌∷◌, false, refl, arith}
 use Rattle.models.specs.declared.finding.Found.TheVariants.{Unit as Nothing}
 use Rattle.models.specs.declared.any_state.AnyState.TheVariants.{Register as OfRegister}
-use Rattle.models.specs.declared.model_kind.ModelKind.TheVariants.{Register, CasRegister, Mutex, FifoQueue, Set, UnorderedQueue, WideRegister, WideSet, WideFifoQueue, WideUnorderedQueue}
+use Rattle.models.specs.declared.model_kind.ModelKind.TheVariants.{Register, CasRegister, Mutex, FifoQueue, Set, UnorderedQueue, WideRegister, WideCasRegister, WideSet, WideFifoQueue, WideUnorderedQueue}
 use Rattle.events.specs.declared.event.Event.{Event}
 use Rattle.events.specs.declared.event.Fault.TheVariants.{Pause, LoseReplies}
 use Rattle.test_store.specs.declared.held.Held.{Held}
@@ -26,6 +26,7 @@ comes v FifoQueue s is = cc
 comes v Set s is = cc
 comes v UnorderedQueue s is = cc
 comes v WideRegister s is = cc
+comes v WideCasRegister s is = cc
 comes v WideSet s is = cc
 comes v WideFifoQueue s is = cc
 comes v WideUnorderedQueue s is = cc

@@ -4,9 +4,9 @@ use Rattle.std.specs.declared.alloc.AllocError.{AllocError}
 use Rattle.models.specs.declared.operation.Op.{Op}
 use Rattle.models.specs.declared.finding.Found.{Found}
 use Rattle.models.specs.declared.model_kind.ModelKind.{ModelKind}
-use Rattle.models.specs.declared.model_kind.ModelKind.TheVariants.{Register, CasRegister, Mutex, FifoQueue, Set, UnorderedQueue, WideRegister, WideSet, WideFifoQueue, WideUnorderedQueue}
+use Rattle.models.specs.declared.model_kind.ModelKind.TheVariants.{Register, CasRegister, Mutex, FifoQueue, Set, UnorderedQueue, WideRegister, WideCasRegister, WideSet, WideFifoQueue, WideUnorderedQueue}
 use Rattle.models.specs.declared.any_state.AnyState.{AnyState}
-use Rattle.models.specs.declared.any_state.AnyState.TheVariants.{Register as OfRegister, CasRegister as OfCasRegister, Mutex as OfMutex, FifoQueue as OfFifoQueue, Set as OfSet, UnorderedQueue as OfUnorderedQueue, WideRegister as OfWideRegister, WideSet as OfWideSet, WideFifoQueue as OfWideFifoQueue, WideUnorderedQueue as OfWideUnorderedQueue}
+use Rattle.models.specs.declared.any_state.AnyState.TheVariants.{Register as OfRegister, CasRegister as OfCasRegister, Mutex as OfMutex, FifoQueue as OfFifoQueue, Set as OfSet, UnorderedQueue as OfUnorderedQueue, WideRegister as OfWideRegister, WideCasRegister, WideSet as OfWideSet, WideFifoQueue as OfWideFifoQueue, WideUnorderedQueue as OfWideUnorderedQueue}
 use Rattle.models.specs.Objects.{IsOneOf, table_of, object_of}
 use Rattle.models.specs.AnyState.{any, kind_of_state, outcomes_of, AreOwnOutcomes}
 
@@ -23,6 +23,7 @@ own_at FifoQueue s op r h = h
 own_at Set s op r h = h
 own_at UnorderedQueue s op r h = h
 own_at WideRegister s op r h = h
+own_at WideCasRegister s op r h = h
 own_at WideSet s op r h = h
 own_at WideFifoQueue s op r h = h
 own_at WideUnorderedQueue s op r h = h
@@ -69,6 +70,7 @@ is_own (OfFifoQueue s) = (s, refl)
 is_own (OfSet s) = (s, refl)
 is_own (OfUnorderedQueue s) = (s, refl)
 is_own (OfWideRegister s) = (s, refl)
+is_own (OfWideCasRegister s) = (s, refl)
 is_own (OfWideSet s) = (s, refl)
 is_own (OfWideFifoQueue s) = (s, refl)
 is_own (OfWideUnorderedQueue s) = (s, refl)
@@ -81,6 +83,7 @@ kind_of_state-any FifoQueue s = refl
 kind_of_state-any Set s = refl
 kind_of_state-any UnorderedQueue s = refl
 kind_of_state-any WideRegister s = refl
+kind_of_state-any WideCasRegister s = refl
 kind_of_state-any WideSet s = refl
 kind_of_state-any WideFifoQueue s = refl
 kind_of_state-any WideUnorderedQueue s = refl

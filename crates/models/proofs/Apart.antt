@@ -11,7 +11,7 @@ use Rattle.models.specs.declared.operation.Op.{Op}
 use Rattle.models.specs.declared.finding.Found.{Found}
 use Rattle.models.specs.declared.finding.Found.TheVariants.{Unit as Done}
 use Rattle.models.specs.declared.model_kind.ModelKind.{ModelKind}
-use Rattle.models.specs.declared.model_kind.ModelKind.TheVariants.{Register, CasRegister, Mutex, FifoQueue, Set as SetOfNumbers, UnorderedQueue, WideRegister, WideSet, WideFifoQueue, WideUnorderedQueue}
+use Rattle.models.specs.declared.model_kind.ModelKind.TheVariants.{Register, CasRegister, Mutex, FifoQueue, Set as SetOfNumbers, UnorderedQueue, WideRegister, WideCasRegister, WideSet, WideFifoQueue, WideUnorderedQueue}
 use Rattle.models.specs.Objects.{AreApart, register_apply, cas_register_apply, mutex_apply, queue_apply, set_apply, table_of}
 use Rattle.models.proofs.Unordered.{unordered_apart}
 
@@ -77,6 +77,7 @@ table_apart FifoQueue op s = (queue_alone op s 1 (omega arith)).1
 table_apart SetOfNumbers op s = (set_alone op s 1 (omega arith)).1
 table_apart UnorderedQueue op s = unordered_apart op.name op.part s
 table_apart WideRegister op s = (register_alone op s 1 (omega arith)).1
+table_apart WideCasRegister op s = (cas_register_alone op s 1 (omega arith)).1
 table_apart WideSet op s = (set_alone op s 1 (omega arith)).1
 table_apart WideFifoQueue op s = (queue_alone op s 1 (omega arith)).1
 table_apart WideUnorderedQueue op s = unordered_apart op.name op.part s

@@ -3,9 +3,9 @@ use Rattle.std.specs.Prelude.{◌≡◌, List, map}
 use Rattle.models.specs.declared.operation.Op.{Op}
 use Rattle.models.specs.declared.finding.Found.{Found}
 use Rattle.models.specs.declared.model_kind.ModelKind.{ModelKind}
-use Rattle.models.specs.declared.model_kind.ModelKind.TheVariants.{Register, CasRegister, Mutex, FifoQueue, Set, UnorderedQueue, WideRegister, WideSet, WideFifoQueue, WideUnorderedQueue}
+use Rattle.models.specs.declared.model_kind.ModelKind.TheVariants.{Register, CasRegister, Mutex, FifoQueue, Set, UnorderedQueue, WideRegister, WideCasRegister, WideSet, WideFifoQueue, WideUnorderedQueue}
 use Rattle.models.specs.declared.any_state.AnyState.{AnyState}
-use Rattle.models.specs.declared.any_state.AnyState.TheVariants.{Register as OfRegister, CasRegister as OfCasRegister, Mutex as OfMutex, FifoQueue as OfFifoQueue, Set as OfSet, UnorderedQueue as OfUnorderedQueue, WideRegister as OfWideRegister, WideSet as OfWideSet, WideFifoQueue as OfWideFifoQueue, WideUnorderedQueue as OfWideUnorderedQueue}
+use Rattle.models.specs.declared.any_state.AnyState.TheVariants.{Register as OfRegister, CasRegister as OfCasRegister, Mutex as OfMutex, FifoQueue as OfFifoQueue, Set as OfSet, UnorderedQueue as OfUnorderedQueue, WideRegister as OfWideRegister, WideCasRegister, WideSet as OfWideSet, WideFifoQueue as OfWideFifoQueue, WideUnorderedQueue as OfWideUnorderedQueue}
 use Rattle.models.specs.Objects.{table_of, object_of}
 
 -- the state of the object of this kind
@@ -17,6 +17,7 @@ any FifoQueue s = OfFifoQueue s
 any Set s = OfSet s
 any UnorderedQueue s = OfUnorderedQueue s
 any WideRegister s = OfWideRegister s
+any WideCasRegister s = OfWideCasRegister s
 any WideSet s = OfWideSet s
 any WideFifoQueue s = OfWideFifoQueue s
 any WideUnorderedQueue s = OfWideUnorderedQueue s
@@ -29,6 +30,7 @@ kind_of_state (OfFifoQueue s) = FifoQueue
 kind_of_state (OfSet s) = Set
 kind_of_state (OfUnorderedQueue s) = UnorderedQueue
 kind_of_state (OfWideRegister s) = WideRegister
+kind_of_state (OfWideCasRegister s) = WideCasRegister
 kind_of_state (OfWideSet s) = WideSet
 kind_of_state (OfWideFifoQueue s) = WideFifoQueue
 kind_of_state (OfWideUnorderedQueue s) = WideUnorderedQueue
@@ -47,6 +49,7 @@ AreOwnOutcomes (OfFifoQueue s) op outcomes = outcomes ≡ outcomes_of FifoQueue 
 AreOwnOutcomes (OfSet s) op outcomes = outcomes ≡ outcomes_of Set s op
 AreOwnOutcomes (OfUnorderedQueue s) op outcomes = outcomes ≡ outcomes_of UnorderedQueue s op
 AreOwnOutcomes (OfWideRegister s) op outcomes = outcomes ≡ outcomes_of WideRegister s op
+AreOwnOutcomes (OfWideCasRegister s) op outcomes = outcomes ≡ outcomes_of WideCasRegister s op
 AreOwnOutcomes (OfWideSet s) op outcomes = outcomes ≡ outcomes_of WideSet s op
 AreOwnOutcomes (OfWideFifoQueue s) op outcomes = outcomes ≡ outcomes_of WideFifoQueue s op
 AreOwnOutcomes (OfWideUnorderedQueue s) op outcomes = outcomes ≡ outcomes_of WideUnorderedQueue s op

@@ -1,7 +1,7 @@
 -- Promise: the names of kinds and of operations, as texts
 use Rattle.std.specs.Prelude.{ℕ, List, codes, Option, MatchOption}
 use Rattle.models.specs.declared.model_kind.ModelKind.{ModelKind}
-use Rattle.models.specs.declared.model_kind.ModelKind.TheVariants.{Register, CasRegister, Mutex, FifoQueue, Set, UnorderedQueue, WideRegister, WideSet, WideFifoQueue, WideUnorderedQueue}
+use Rattle.models.specs.declared.model_kind.ModelKind.TheVariants.{Register, CasRegister, Mutex, FifoQueue, Set, UnorderedQueue, WideRegister, WideCasRegister, WideSet, WideFifoQueue, WideUnorderedQueue}
 use Rattle.models.specs.declared.operation.Name.{Name}
 use Rattle.models.specs.declared.operation.Name.TheVariants.{Read, Write, Cas, Acquire, Release, Enqueue, Dequeue, Add}
 
@@ -14,6 +14,7 @@ name_of FifoQueue = codes "fifo-queue"
 name_of Set = codes "set"
 name_of UnorderedQueue = codes "unordered-queue"
 name_of WideRegister = codes "wide-register"
+name_of WideCasRegister = codes "wide-cas-register"
 name_of WideSet = codes "wide-set"
 name_of WideFifoQueue = codes "wide-fifo-queue"
 name_of WideUnorderedQueue = codes "wide-unordered-queue"

@@ -13,7 +13,7 @@ use Rattle.models.specs.declared.finding.Found.TheVariants.{Unit as Done, Reg, I
 use Rattle.models.specs.declared.finding.Answer.{Answer}
 use Rattle.models.specs.declared.finding.Answer.TheVariants.{Nothing, Number, Numbers, Many}
 use Rattle.models.specs.declared.model_kind.ModelKind.{ModelKind}
-use Rattle.models.specs.declared.model_kind.ModelKind.TheVariants.{Register, CasRegister, Mutex, FifoQueue, Set as SetOfNumbers, UnorderedQueue, WideRegister, WideSet, WideFifoQueue, WideUnorderedQueue}
+use Rattle.models.specs.declared.model_kind.ModelKind.TheVariants.{Register, CasRegister, Mutex, FifoQueue, Set as SetOfNumbers, UnorderedQueue, WideRegister, WideCasRegister, WideSet, WideFifoQueue, WideUnorderedQueue}
 use Rattle.values.specs.Members.{put_in}
 use Rattle.values.specs.Multisets.{with_one, without_one, values_of}
 
@@ -96,12 +96,20 @@ unordered_apply Enqueue (Int v) s = (with_one v s, Done) ∷ []
 unordered_apply Dequeue Nil s = taken_from s (values_of s)
 unordered_apply _ _ s = []
 
--- the tables of a register, which is nil at first, of a queue, of a queue without an order, and of a set, which are empty
+-- the tables of a register and of one with compare and set, which are nil at first, of a queue, of a queue without an order, and of a set,
+-- which are empty
 abbrev pub register_table : Table
 register_table = record {
   State = Option ℤ;
   start = None;
   apply = λ op s. register_apply op.name op.part s;
+}
+
+abbrev pub cas_register_table : Table
+cas_register_table = record {
+  State = Option ℤ;
+  start = None;
+  apply = λ op s. cas_register_apply op.name op.part s;
 }
 
 abbrev pub queue_table : Table
@@ -128,11 +136,7 @@ set_table = record {
 -- the table of each kind. A mutex is free at first
 abbrev pub table_of : ModelKind → Table
 table_of Register = register_table
-table_of CasRegister = record {
-  State = Option ℤ;
-  start = None;
-  apply = λ op s. cas_register_apply op.name op.part s;
-}
+table_of CasRegister = cas_register_table
 table_of Mutex = record {
   State = Bool;
   start = false;
@@ -142,6 +146,7 @@ table_of FifoQueue = queue_table
 table_of SetOfNumbers = set_table
 table_of UnorderedQueue = unordered_table
 table_of WideRegister = register_table
+table_of WideCasRegister = cas_register_table
 table_of WideSet = set_table
 table_of WideFifoQueue = queue_table
 table_of WideUnorderedQueue = unordered_table

@@ -14,6 +14,7 @@ use crate::operation::Op;
 use crate::register::Register;
 use crate::set::Set;
 use crate::unordered_queue::UnorderedQueue;
+use crate::wide_cas_register::WideCasRegister;
 use crate::wide_fifo_queue::WideFifoQueue;
 use crate::wide_register::WideRegister;
 use crate::wide_set::WideSet;
@@ -31,6 +32,7 @@ pub enum AnyState {
     Set(Spans),
     UnorderedQueue(Multiset),
     WideRegister(Option<i64>),
+    WideCasRegister(Option<i64>),
     WideSet(Spans),
     WideFifoQueue(Items),
     WideUnorderedQueue(Multiset),

@@ -20,6 +20,8 @@ pub enum ModelKind {
     UnorderedQueue,
     /// A register whose lean ends alone are counted.
     WideRegister,
+    /// A register with compare and set whose fronts are counted.
+    WideCasRegister,
     /// A set of which nothing is counted.
     WideSet,
     /// A queue of which only equal values are counted.
@@ -45,6 +47,7 @@ macro_rules! each_kind {
             Set "set",
             UnorderedQueue "unordered-queue",
             WideRegister "wide-register",
+            WideCasRegister "wide-cas-register",
             WideSet "wide-set",
             WideFifoQueue "wide-fifo-queue",
             WideUnorderedQueue "wide-unordered-queue"

@@ -12,6 +12,7 @@ use crate::operation::Op;
 use crate::register::Register;
 use crate::set::Set;
 use crate::unordered_queue::UnorderedQueue;
+use crate::wide_cas_register::WideCasRegister;
 use crate::wide_fifo_queue::WideFifoQueue;
 use crate::wide_register::WideRegister;
 use crate::wide_set::WideSet;
@@ -102,6 +103,17 @@ impl OfKind for WideRegister {
 
     fn into_any(state: Option<i64>) -> AnyState {
         AnyState::WideRegister(state)
+    }
+}
+
+impl OfKind for WideCasRegister {
+    ghost use Rattle.models.specs.AnyState.{any};
+    ghost use Rattle.models.specs.declared.model_kind.ModelKind.TheVariants.{WideCasRegister as OfThisKind};
+
+    ghost as_any = { λ state. any OfThisKind state };
+
+    fn into_any(state: Option<i64>) -> AnyState {
+        AnyState::WideCasRegister(state)
     }
 }
 

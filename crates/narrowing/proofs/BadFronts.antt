@@ -4,7 +4,7 @@ use Rattle.std.specs.List.{Contains}
 use Rattle.std.proofs.lemmas.Bool.{cases_Bool, true≢false, not-true}
 use Rattle.std.proofs.lemmas.List.Elements.{Contains-append_left, Contains-append_right, Contains-push_cases, filter-append}
 use Rattle.models.specs.declared.model_kind.ModelKind.{ModelKind}
-use Rattle.models.specs.declared.model_kind.ModelKind.TheVariants.{Register, CasRegister, Mutex, FifoQueue, Set, UnorderedQueue, WideRegister, WideSet, WideFifoQueue, WideUnorderedQueue}
+use Rattle.models.specs.declared.model_kind.ModelKind.TheVariants.{Register, CasRegister, Mutex, FifoQueue, Set, UnorderedQueue, WideRegister, WideCasRegister, WideSet, WideFifoQueue, WideUnorderedQueue}
 use Rattle.models.specs.Objects.{Object, object_of, ReadsLeave}
 use Rattle.models.specs.Reads.{register_reads, cas_register_reads, mutex_reads, queue_reads, set_reads, unordered_reads}
 use Rattle.events.specs.Events.{Mark, Entry, marks, IsFront}
@@ -86,6 +86,7 @@ kind_reads FifoQueue = queue_reads
 kind_reads Set = set_reads
 kind_reads UnorderedQueue = unordered_reads
 kind_reads WideRegister = register_reads
+kind_reads WideCasRegister = cas_register_reads
 kind_reads WideSet = set_reads
 kind_reads WideFifoQueue = queue_reads
 kind_reads WideUnorderedQueue = unordered_reads

@@ -31,7 +31,7 @@ macro_rules! kinds {
     };
 }
 
-const KINDS: [ModelKind; 10] = each_kind!(kinds;);
+const KINDS: [ModelKind; 11] = each_kind!(kinds;);
 
 // Whether objects of this kind have operations of this name.
 fn has_operation(kind: ModelKind, name: Name) -> bool {
@@ -39,7 +39,9 @@ fn has_operation(kind: ModelKind, name: Name) -> bool {
         ModelKind::Register | ModelKind::WideRegister => {
             matches!(name, Name::Read | Name::Write)
         }
-        ModelKind::CasRegister => matches!(name, Name::Read | Name::Write | Name::Cas),
+        ModelKind::CasRegister | ModelKind::WideCasRegister => {
+            matches!(name, Name::Read | Name::Write | Name::Cas)
+        }
         ModelKind::Mutex => matches!(name, Name::Acquire | Name::Release),
         ModelKind::FifoQueue
         | ModelKind::UnorderedQueue
@@ -86,6 +88,7 @@ fn none_of_the_kind(monitor: &Monitor, key: Key, index: u32) -> Option<Remark> {
 fn wide_kind(monitor: &Monitor, key: Key) -> Option<ModelKind> {
     match kind_of(monitor, key)? {
         ModelKind::Register => Some(ModelKind::WideRegister),
+        ModelKind::CasRegister => Some(ModelKind::WideCasRegister),
         ModelKind::Set => Some(ModelKind::WideSet),
         ModelKind::FifoQueue => Some(ModelKind::WideFifoQueue),
         ModelKind::UnorderedQueue => Some(ModelKind::WideUnorderedQueue),

@@ -11,7 +11,8 @@ use Rattle.linspec.specs.MarkRule.{AreWellFormed}
 use Rattle.linspec.specs.Orders.{IsLinearizable}
 use Rattle.linspec.specs.Ends.{IsWithinBudgetBy}
 use Rattle.linspec.proofs.Fronts.{marks-append, IsLinearizable-front}
-use Rattle.queue_pairs.specs.Pairs.{IsPaired, HasTwins, TwinsAreLate, CountsTwins}
+use Rattle.linspec.specs.Twins.{HasTwins, CountsTwins}
+use Rattle.queue_pairs.specs.Pairs.{IsPaired, TwinsAreLate}
 use Rattle.queue_pairs.proofs.Once.{one_answer}
 use Rattle.queue_pairs.proofs.Oks.{own_ok, was_invoked, twins_were, paired_after_ok_of_enqueue}
 use Rattle.queue_pairs.proofs.OkOfDequeue.{paired_after_ok_of_dequeue}

@@ -17,7 +17,8 @@ use Rattle.linspec.specs.Operations.{HasReturned, Precedes}
 use Rattle.linspec.specs.Orders.{Taken, Includes, Pairwise, IsLinearizable}
 use Rattle.linspec.proofs.Lists.{Pairwise-append, Pairwise-weaker}
 use Rattle.linspec.proofs.Fates.{returned_or_not}
-use Rattle.queue_pairs.specs.Pairs.{Enqueues, Dequeues, IsEnqueueOf, MayEnqueue, HasDequeued, MayDequeue, IsBefore, IsUntold, IsOwedTo, AreTakers, IsPaired, IsLate, TwinsAreLate}
+use Rattle.linspec.specs.Twins.{Enqueues, IsEnqueueOf, MayEnqueue}
+use Rattle.queue_pairs.specs.Pairs.{Dequeues, HasDequeued, MayDequeue, IsBefore, IsUntold, IsOwedTo, AreTakers, IsPaired, IsLate, TwinsAreLate}
 use Rattle.queue_pairs.proofs.Once.{one_op, one_answer, returned_not_failed, not_before_itself}
 use Rattle.queue_pairs.proofs.Times.{moment, ended, moment_within, ended_never}
 use Rattle.queue_pairs.proofs.Finds.{some_of, Collected, collected}

@@ -15,7 +15,8 @@ use Rattle.linspec.specs.MarkRule.{id_of, IsNew, MayFollow, AreWellFormed}
 use Rattle.linspec.specs.Operations.{IsOpen, Precedes}
 use Rattle.linspec.specs.Orders.{IsLinearizable}
 use Rattle.linspec.proofs.Lists.{Contains-nil, Contains-head, Contains-cons_cases, snoc_cut}
-use Rattle.queue_pairs.specs.Pairs.{Enqueues, IsEnqueueOf, MayEnqueue, Dequeues, HasDequeued, MayDequeue, IsBefore, IsUntold, IsOwedTo, IsPaired, HasTwins, IsLate, TwinsAreLate, IsOwedBeside, MayTake, MayFail}
+use Rattle.linspec.specs.Twins.{Enqueues, IsEnqueueOf, MayEnqueue, HasTwins}
+use Rattle.queue_pairs.specs.Pairs.{Dequeues, HasDequeued, MayDequeue, IsBefore, IsUntold, IsOwedTo, IsPaired, IsLate, TwinsAreLate, IsOwedBeside, MayTake, MayFail}
 use Rattle.queue_pairs.proofs.Steps.{no_both, same_int_part}
 use Rattle.queue_pairs.proofs.Build.{linearizable_if_paired}
 use Rattle.queue_pairs.proofs.Oks.{before_is, told_was, dequeue_was, not_this, twins_were}

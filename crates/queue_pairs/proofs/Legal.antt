@@ -13,7 +13,8 @@ use Rattle.linspec.specs.Operations.{HasReturned, Precedes}
 use Rattle.linspec.specs.Orders.{Taken, Includes, Pairwise, Run, IsLegalOrder, IsLinearizable}
 use Rattle.linspec.proofs.Lists.{Contains-head, Contains-cons_cases, Pairwise-across, Pairwise-right, cut_at}
 use Rattle.linspec.proofs.Marks.{Run-cut, Precedes-returned}
-use Rattle.queue_pairs.specs.Pairs.{Enqueues, IsEnqueueOf, MayEnqueue, HasDequeued, MayDequeue, IsBefore, IsOwedTo, AreTakers, IsPaired, IsLate, TwinsAreLate}
+use Rattle.linspec.specs.Twins.{Enqueues, IsEnqueueOf, MayEnqueue}
+use Rattle.queue_pairs.specs.Pairs.{HasDequeued, MayDequeue, IsBefore, IsOwedTo, AreTakers, IsPaired, IsLate, TwinsAreLate}
 use Rattle.queue_pairs.proofs.Once.{one_op, returned_not_failed, not_before_itself}
 use Rattle.queue_pairs.proofs.Finds.{First, NoneOf, first_of, compare, three}
 use Rattle.queue_pairs.proofs.Steps.{no_both, same_item, fits_number, finds_or_not, queue_view, put_or_get, ins, outs, in_and_out, PutBy, cut_ins, ins_more, outs_more_at, came_out}

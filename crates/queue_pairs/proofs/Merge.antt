@@ -13,7 +13,8 @@ use Rattle.linspec.specs.MarkRule.{AreWellFormed}
 use Rattle.linspec.specs.Operations.{Precedes}
 use Rattle.linspec.specs.Orders.{Taken, Pairwise, Run}
 use Rattle.linspec.proofs.Lists.{Contains-nil, Contains-head, Contains-tail, Contains-cons_cases, Pairwise-right}
-use Rattle.queue_pairs.specs.Pairs.{Enqueues, Dequeues}
+use Rattle.linspec.specs.Twins.{Enqueues}
+use Rattle.queue_pairs.specs.Pairs.{Dequeues}
 use Rattle.queue_pairs.proofs.Once.{one_op}
 use Rattle.queue_pairs.proofs.Times.{moment, ended, ends_before, ended_within}
 use Rattle.queue_pairs.proofs.Turns.{MayLead}

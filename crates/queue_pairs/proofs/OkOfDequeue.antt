@@ -10,7 +10,8 @@ use Rattle.events.specs.Events.{Mark}
 use Rattle.events.specs.Events.Mark.{Invoked, Returned}
 use Rattle.linspec.specs.MarkRule.{AreWellFormed}
 use Rattle.linspec.specs.Operations.{HasReturned, Precedes}
-use Rattle.queue_pairs.specs.Pairs.{MayEnqueue, Dequeues, HasDequeued, MayDequeue, IsBefore, IsUntold, IsOwedTo, AreTakers, IsPaired, IsOwedBeside, MayTake}
+use Rattle.linspec.specs.Twins.{MayEnqueue}
+use Rattle.queue_pairs.specs.Pairs.{Dequeues, HasDequeued, MayDequeue, IsBefore, IsUntold, IsOwedTo, AreTakers, IsPaired, IsOwedBeside, MayTake}
 use Rattle.queue_pairs.proofs.Oks.{kept, own_ok, was_open, earlier, still, precedes_none, returned_was, enqueue_was, enqueue_is, may_was, may_is, before_was, before_is, told_is, told_was, dequeue_was, dequeue_is, not_this}
 
 -- a function changed at one value

@@ -10,7 +10,8 @@ use Rattle.events.specs.Events.Mark.{Invoked, Returned, Failed}
 use Rattle.linspec.specs.MarkRule.{AreWellFormed}
 use Rattle.linspec.specs.Operations.{HasReturned, IsOpen, Precedes}
 use Rattle.linspec.proofs.Marks.{Precedes-kept, Precedes-cases, Precedes-returned}
-use Rattle.queue_pairs.specs.Pairs.{Enqueues, IsEnqueueOf, MayEnqueue, Dequeues, HasDequeued, MayDequeue, IsBefore, IsOwedTo, IsPaired, HasTwins}
+use Rattle.linspec.specs.Twins.{Enqueues, IsEnqueueOf, MayEnqueue, HasTwins}
+use Rattle.queue_pairs.specs.Pairs.{Dequeues, HasDequeued, MayDequeue, IsBefore, IsOwedTo, IsPaired}
 use Rattle.queue_pairs.proofs.Once.{one_op, one_answer}
 use Rattle.queue_pairs.proofs.Steps.{no_both}
 

@@ -12,7 +12,8 @@ use Rattle.linspec.specs.MarkRule.{AreWellFormed}
 use Rattle.linspec.specs.Operations.{IsInvoked, HasReturned, Precedes}
 use Rattle.linspec.proofs.Lists.{Contains-head}
 use Rattle.linspec.proofs.Marks.{Precedes-kept, Precedes-cases, Precedes-returned}
-use Rattle.queue_pairs.specs.Pairs.{IsEnqueueOf, MayEnqueue, HasDequeued, MayDequeue, IsBefore, IsOwedTo, AreTakers, IsPaired, IsLate, TwinsAreLate, MayFail}
+use Rattle.linspec.specs.Twins.{IsEnqueueOf, MayEnqueue}
+use Rattle.queue_pairs.specs.Pairs.{HasDequeued, MayDequeue, IsBefore, IsOwedTo, AreTakers, IsPaired, IsLate, TwinsAreLate, MayFail}
 use Rattle.queue_pairs.proofs.Once.{one_op, returned_invoked}
 
 module _ (ms : List Mark) (m : Mark) (well : AreWellFormed (ms ++ m ∷ [])) (no_ok : (n : ℕ) (a : Answer) → m ≢ Returned n a) where

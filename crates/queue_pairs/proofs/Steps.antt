@@ -16,7 +16,8 @@ use Rattle.models.specs.Objects.{IsOneOf, queue_apply, fifo_queue, Fits}
 use Rattle.models.proofs.Steps.{same_outcome}
 use Rattle.linspec.specs.Orders.{Taken, Run}
 use Rattle.linspec.proofs.Lists.{Contains-nil, Contains-head, Contains-tail, Contains-cons_cases}
-use Rattle.queue_pairs.specs.Pairs.{Enqueues, Dequeues}
+use Rattle.linspec.specs.Twins.{Enqueues}
+use Rattle.queue_pairs.specs.Pairs.{Dequeues}
 use Rattle.queue_pairs.proofs.Finds.{aligned, cut_long}
 
 abbrev pub PutsIn : Name → Part → List ℤ → Found → List ℤ → Type 0

@@ -7,7 +7,8 @@ use Rattle.linspec.specs.MarkRule.{AreWellFormed}
 use Rattle.linspec.specs.Operations.{IsInvoked, HasReturned, Precedes}
 use Rattle.linspec.proofs.Marks.{Precedes-returned}
 use Rattle.linspec.proofs.Fates.{returned_or_not}
-use Rattle.queue_pairs.specs.Pairs.{IsEnqueueOf, MayEnqueue, HasDequeued, IsLate, TwinsAreLate}
+use Rattle.linspec.specs.Twins.{IsEnqueueOf, MayEnqueue}
+use Rattle.queue_pairs.specs.Pairs.{HasDequeued, IsLate, TwinsAreLate}
 use Rattle.queue_pairs.proofs.Once.{one_op, not_before_itself}
 use Rattle.queue_pairs.proofs.Times.{moment, ended, precedes_by, moment_within, ended_never}
 use Rattle.queue_pairs.proofs.Steps.{no_both, same_int_part}

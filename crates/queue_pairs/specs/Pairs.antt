@@ -2,27 +2,14 @@
 -- failed or have crashed, and with no answer from an empty queue)
 use Rattle.std.specs.Prelude.{◌≡◌, ◌≢◌, ℕ, ℤ, ◌⊎◌, List}
 use Rattle.std.specs.List.{Contains}
-use Rattle.models.specs.declared.operation.Name.TheVariants.{Enqueue, Dequeue}
-use Rattle.models.specs.declared.operation.Part.TheVariants.{Nil, Int}
+use Rattle.models.specs.declared.operation.Name.TheVariants.{Dequeue}
+use Rattle.models.specs.declared.operation.Part.TheVariants.{Nil}
 use Rattle.models.specs.declared.operation.Op.{Op}
 use Rattle.models.specs.declared.finding.Answer.TheVariants.{Number}
-use Rattle.models.specs.Objects.{fifo_queue}
 use Rattle.events.specs.Events.{Mark, Entry, marks, IsFront}
 use Rattle.events.specs.Events.Mark.{Invoked, Returned, Failed}
 use Rattle.linspec.specs.Operations.{HasReturned, Precedes}
-use Rattle.linspec.specs.Orders.{IsLinearizable}
-use Rattle.linspec.specs.Ends.{Count}
-
--- the operation enqueues v
-abbrev pub Enqueues : Op → ℤ → Type 0
-Enqueues op v = (op.name ≡ Enqueue) × (op.part ≡ Int v)
-
-abbrev pub IsEnqueueOf : List Mark → ℕ → ℤ → Type 0
-IsEnqueueOf marks id v = (op : Op) × Contains marks (Invoked id op) × Enqueues op v
-
--- an enqueue of v that has not failed: it is done, or may take place yet
-abbrev pub MayEnqueue : List Mark → ℕ → ℤ → Type 0
-MayEnqueue marks id v = IsEnqueueOf marks id v × (¬ Contains marks (Failed id))
+use Rattle.linspec.specs.Twins.{IsEnqueueOf, MayEnqueue, AreTwins}
 
 abbrev pub Dequeues : Op → Type 0
 Dequeues op = (op.name ≡ Dequeue) × (op.part ≡ Nil)
@@ -81,15 +68,6 @@ pub record IsPaired (marks : List Mark) : Type 0 where
   -- what came in before a dequeued value and was not dequeued has a taker
   pub taken : (taker : ℤ → ℕ) × AreTakers marks taker
 
--- values differ. Two operations are twins where they are enqueues of one value and neither has failed
-pub record AreTwins (marks : List Mark) (a b : ℕ) (v : ℤ) : Type 0 where
-  pub two : a ≢ b
-  pub first : MayEnqueue marks a v
-  pub second : MayEnqueue marks b v
-
-abbrev pub HasTwins : List Mark → Type 0
-HasTwins marks = (a b : ℕ) × (v : ℤ) × AreTwins marks a b v
-
 -- an operation is late where it was invoked after every ok
 abbrev pub IsLate : List Mark → ℕ → Type 0
 IsLate marks id = (done : ℕ) → HasReturned marks done → Precedes marks done id
@@ -102,10 +80,6 @@ TwinsAreLate marks = (a b : ℕ) (v : ℤ) → AreTwins marks a b v → IsLate m
 abbrev pub TwinsAreAlwaysLate : List Entry → Type 0
 TwinsAreAlwaysLate entries =
     (front : List Entry) → IsFront front entries → TwinsAreLate (marks front)
-
--- more than any number is counted of a linearizable history that has twins
-abbrev pub CountsTwins : Count
-CountsTwins marks n = IsLinearizable fifo_queue marks × HasTwins marks
 
 -- u needs a taker once v is dequeued: it is another value, no dequeue has answered it, and it came in before v or is owed already
 abbrev pub IsOwedBeside : List Mark → ℤ → ℤ → Type 0

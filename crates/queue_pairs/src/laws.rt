@@ -11,7 +11,8 @@ ghost use Rattle.linspec.specs.MarkRule.{AreWellFormed};
 ghost use Rattle.linspec.specs.Orders.{IsLinearizable};
 ghost use Rattle.linspec.specs.Ends.{IsWithinBudgetBy};
 ghost use Rattle.linspec.specs.Verdicts.{EndsShortestBadFront};
-ghost use Rattle.queue_pairs.specs.Pairs.{Enqueues, IsEnqueueOf, Dequeues, IsPaired, HasTwins, TwinsAreLate, TwinsAreAlwaysLate, CountsTwins, MayTake, MayFail};
+ghost use Rattle.linspec.specs.Twins.{Enqueues, IsEnqueueOf, HasTwins, CountsTwins};
+ghost use Rattle.queue_pairs.specs.Pairs.{Dequeues, IsPaired, TwinsAreLate, TwinsAreAlwaysLate, MayTake, MayFail};
 
 /// A history of a queue whose values differ is linearizable exactly if it is paired. Then each dequeued value was enqueued in time, once
 /// and in turn, and each value that was passed over has a taker. So is the history of one key. An enqueue of a value that is there already

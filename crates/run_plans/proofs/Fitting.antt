@@ -3,7 +3,7 @@ use Rattle.std.proofs.Common.{refl, ℕ, zero, suc, ◌+◌, ◌≤◌, Bool, tr
 use Rattle.std.specs.Prelude.{nat_eq, if◌then◌else◌}
 use Rattle.std.proofs.lemmas.Bool.Decides.{nat_tests}
 use Rattle.models.specs.declared.model_kind.ModelKind.{ModelKind}
-use Rattle.models.specs.declared.model_kind.ModelKind.TheVariants.{Register, CasRegister, Mutex, FifoQueue, UnorderedQueue, WideRegister, WideSet, WideFifoQueue, WideUnorderedQueue, Set}
+use Rattle.models.specs.declared.model_kind.ModelKind.TheVariants.{Register, CasRegister, Mutex, FifoQueue, UnorderedQueue, WideRegister, WideCasRegister, WideSet, WideFifoQueue, WideUnorderedQueue, Set}
 use Rattle.generators.specs.declared.item.Item.{Item}
 use Rattle.generators.specs.Generators.{Generator, these, AllItemsOf, Each}
 use Rattle.test_store.specs.Store.{IsCount, AreOnce, AreBelow}
@@ -28,6 +28,7 @@ key_passes (IsPresent n) FifoQueue key = ((tt, (tt, (tt, tt))), ((tt, tt), tt))
 key_passes (IsPresent n) UnorderedQueue key = ((tt, (tt, (tt, tt))), ((tt, tt), tt))
 key_passes (IsPresent n) Set key = ((tt, (tt, (tt, tt))), ((tt, tt), tt))
 key_passes (IsPresent n) WideRegister key = ((tt, tt), ((tt, (tt, (tt, tt))), tt))
+key_passes (IsPresent n) WideCasRegister key = ((tt, tt), ((tt, (tt, (tt, tt))), ((tt, (tt, (tt, tt))), tt)))
 key_passes (IsPresent n) WideSet key = ((tt, (tt, (tt, tt))), ((tt, tt), tt))
 key_passes (IsPresent n) WideFifoQueue key = ((tt, (tt, (tt, tt))), ((tt, tt), tt))
 key_passes (IsPresent n) WideUnorderedQueue key = ((tt, (tt, (tt, tt))), ((tt, tt), tt))
@@ -38,6 +39,7 @@ key_passes IsInTables FifoQueue key = ((tt, (tt, (tt, tt))), ((tt, tt), tt))
 key_passes IsInTables UnorderedQueue key = ((tt, (tt, (tt, tt))), ((tt, tt), tt))
 key_passes IsInTables Set key = ((tt, (tt, (tt, tt))), ((tt, tt), tt))
 key_passes IsInTables WideRegister key = ((tt, tt), ((tt, (tt, (tt, tt))), tt))
+key_passes IsInTables WideCasRegister key = ((tt, tt), ((tt, (tt, (tt, tt))), ((tt, (tt, (tt, tt))), tt)))
 key_passes IsInTables WideSet key = ((tt, (tt, (tt, tt))), ((tt, tt), tt))
 key_passes IsInTables WideFifoQueue key = ((tt, (tt, (tt, tt))), ((tt, tt), tt))
 key_passes IsInTables WideUnorderedQueue key = ((tt, (tt, (tt, tt))), ((tt, tt), tt))

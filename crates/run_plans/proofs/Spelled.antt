@@ -11,7 +11,7 @@ use Rattle.std.specs.Str.{bytes_eq}
 use Rattle.std.proofs.lemmas.Slice.Eq.{bytes_eq-Decides}
 use Rattle.std.proofs.lemmas.Str.Parse.{IsNumeralModel, numerals_by_value, parse_digits}
 use Rattle.models.specs.declared.model_kind.ModelKind.{ModelKind}
-use Rattle.models.specs.declared.model_kind.ModelKind.TheVariants.{Register, CasRegister, Mutex, FifoQueue, Set, UnorderedQueue, WideRegister, WideSet, WideFifoQueue, WideUnorderedQueue}
+use Rattle.models.specs.declared.model_kind.ModelKind.TheVariants.{Register, CasRegister, Mutex, FifoQueue, Set, UnorderedQueue, WideRegister, WideCasRegister, WideSet, WideFifoQueue, WideUnorderedQueue}
 use Rattle.models.specs.Names.{name_of, Finds}
 use Rattle.run_plans.specs.Options.{kind_spelled, after_byte, are_digits, digits_spelled, number_spelled, count_behind, count_spelled}
 
@@ -66,6 +66,7 @@ named_so FifoQueue = refl
 named_so Set = refl
 named_so UnorderedQueue = refl
 named_so WideRegister = refl
+named_so WideCasRegister = refl
 named_so WideSet = refl
 named_so WideFifoQueue = refl
 named_so WideUnorderedQueue = refl
@@ -73,4 +74,4 @@ named_so WideUnorderedQueue = refl
 pub named : (text : List ℕ) (found : Option ModelKind) → Finds found (λ kind. text ≡ name_of kind) → found ≡ kind_spelled text
 named text (Some kind) is = sym (ap kind_spelled is ∙ named_so kind)
 named text None other =
-    rw (unnamed text Register (other Register), unnamed text CasRegister (other CasRegister), unnamed text Mutex (other Mutex), unnamed text FifoQueue (other FifoQueue), unnamed text Set (other Set), unnamed text UnorderedQueue (other UnorderedQueue), unnamed text WideRegister (other WideRegister), unnamed text WideSet (other WideSet), unnamed text WideFifoQueue (other WideFifoQueue), unnamed text WideUnorderedQueue (other WideUnorderedQueue)) refl
+    rw (unnamed text Register (other Register), unnamed text CasRegister (other CasRegister), unnamed text Mutex (other Mutex), unnamed text FifoQueue (other FifoQueue), unnamed text Set (other Set), unnamed text UnorderedQueue (other UnorderedQueue), unnamed text WideRegister (other WideRegister), unnamed text WideCasRegister (other WideCasRegister), unnamed text WideSet (other WideSet), unnamed text WideFifoQueue (other WideFifoQueue), unnamed text WideUnorderedQueue (other WideUnorderedQueue)) refl

@@ -7,7 +7,7 @@ use Rattle.std.specs.Str.Parse.{digits_value}
 use Rattle.edn.specs.declared.refusal.Refusal.{Refusal}
 use Rattle.edn.specs.declared.refusal.Refusal.TheVariants.{BadBudget, BadConcurrency, NoSuchReplica}
 use Rattle.models.specs.declared.model_kind.ModelKind.{ModelKind}
-use Rattle.models.specs.declared.model_kind.ModelKind.TheVariants.{Register, CasRegister, Mutex, FifoQueue, Set, UnorderedQueue, WideRegister, WideSet, WideFifoQueue, WideUnorderedQueue}
+use Rattle.models.specs.declared.model_kind.ModelKind.TheVariants.{Register, CasRegister, Mutex, FifoQueue, Set, UnorderedQueue, WideRegister, WideCasRegister, WideSet, WideFifoQueue, WideUnorderedQueue}
 use Rattle.models.specs.Names.{name_of}
 use Rattle.test_store.specs.declared.outcome.Mode.{Mode}
 use Rattle.test_store.specs.declared.outcome.Mode.TheVariants.{Strict, Sloppy}
@@ -68,6 +68,7 @@ kind_spelled text =
     else if bytes_eq text (name_of Set) then Some Set
     else if bytes_eq text (name_of UnorderedQueue) then Some UnorderedQueue
     else if bytes_eq text (name_of WideRegister) then Some WideRegister
+    else if bytes_eq text (name_of WideCasRegister) then Some WideCasRegister
     else if bytes_eq text (name_of WideSet) then Some WideSet
     else if bytes_eq text (name_of WideFifoQueue) then Some WideFifoQueue
     else if bytes_eq text (name_of WideUnorderedQueue) then Some WideUnorderedQueue

@@ -5,7 +5,7 @@ use Rattle.models.specs.declared.operation.Name.TheVariants.{Read, Write, Cas, A
 use Rattle.models.specs.declared.operation.Part.{Part}
 use Rattle.models.specs.declared.operation.Part.TheVariants.{Nil, Int, Pair}
 use Rattle.models.specs.declared.model_kind.ModelKind.{ModelKind}
-use Rattle.models.specs.declared.model_kind.ModelKind.TheVariants.{Register, CasRegister, Mutex, FifoQueue, UnorderedQueue, WideRegister, WideSet, WideFifoQueue, WideUnorderedQueue, Set}
+use Rattle.models.specs.declared.model_kind.ModelKind.TheVariants.{Register, CasRegister, Mutex, FifoQueue, UnorderedQueue, WideRegister, WideCasRegister, WideSet, WideFifoQueue, WideUnorderedQueue, Set}
 use Rattle.events.specs.declared.event.Fault.{Fault}
 use Rattle.events.specs.declared.event.Fault.TheVariants.{Partition, Heal, LoseReplies, Crash, Restart}
 use Rattle.generators.specs.declared.item.Item.TheVariants.{Op}
@@ -36,6 +36,8 @@ on_key FifoQueue key = in_turn Enqueue key numbers ∷ in_turn Dequeue key nothi
 on_key UnorderedQueue key = in_turn Enqueue key numbers ∷ in_turn Dequeue key nothing ∷ []
 on_key Set key = in_turn Add key numbers ∷ in_turn Read key nothing ∷ []
 on_key WideRegister key = in_turn Read key nothing ∷ in_turn Write key numbers ∷ []
+on_key WideCasRegister key =
+    in_turn Read key nothing ∷ in_turn Write key numbers ∷ in_turn Cas key pairs ∷ []
 on_key WideSet key = in_turn Add key numbers ∷ in_turn Read key nothing ∷ []
 on_key WideFifoQueue key = in_turn Enqueue key numbers ∷ in_turn Dequeue key nothing ∷ []
 on_key WideUnorderedQueue key = in_turn Enqueue key numbers ∷ in_turn Dequeue key nothing ∷ []

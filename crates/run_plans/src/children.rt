@@ -34,7 +34,7 @@ fn add_children(
             children.push(plain(alloc, key, Name::Read)?)?;
             children.push(numbers(alloc, key, Name::Write)?)?;
         }
-        ModelKind::CasRegister => {
+        ModelKind::CasRegister | ModelKind::WideCasRegister => {
             children.push(plain(alloc, key, Name::Read)?)?;
             children.push(numbers(alloc, key, Name::Write)?)?;
             children.push(pairs(alloc, key, Name::Cas)?)?;

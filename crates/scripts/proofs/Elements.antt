@@ -13,7 +13,7 @@ use Rattle.edn.specs.declared.value.Edn.{Edn, Keyword, the_lemmas}
 use Rattle.edn.specs.declared.refusal.Refusal.{Refusal}
 use Rattle.edn.specs.declared.refusal.Refusal.TheVariants.{BadValue, BadBudget, NoSuchIndex, NoMemory, Unreadable}
 use Rattle.models.specs.declared.model_kind.ModelKind.{ModelKind}
-use Rattle.models.specs.declared.model_kind.ModelKind.TheVariants.{Register, CasRegister, Mutex, FifoQueue, Set, UnorderedQueue, WideRegister, WideSet, WideFifoQueue, WideUnorderedQueue}
+use Rattle.models.specs.declared.model_kind.ModelKind.TheVariants.{Register, CasRegister, Mutex, FifoQueue, Set, UnorderedQueue, WideRegister, WideCasRegister, WideSet, WideFifoQueue, WideUnorderedQueue}
 use Rattle.models.specs.Names.{name_of, Finds}
 use Rattle.events.specs.declared.event.Event.{Event}
 use Rattle.events.specs.Spelling.{Spells, WhyUnspelled}
@@ -52,6 +52,7 @@ kind_named-name_of FifoQueue = refl
 kind_named-name_of Set = refl
 kind_named-name_of UnorderedQueue = refl
 kind_named-name_of WideRegister = refl
+kind_named-name_of WideCasRegister = refl
 kind_named-name_of WideSet = refl
 kind_named-name_of WideFifoQueue = refl
 kind_named-name_of WideUnorderedQueue = refl
@@ -59,7 +60,7 @@ kind_named-name_of WideUnorderedQueue = refl
 pub named : (name : List ℕ) (found : Option ModelKind) → Finds found (λ kind. name ≡ name_of kind) → found ≡ kind_named name
 named name (Some kind) is = sym (ap kind_named is ∙ kind_named-name_of kind)
 named name None other =
-    rw (unnamed name Register (other Register), unnamed name CasRegister (other CasRegister), unnamed name Mutex (other Mutex), unnamed name FifoQueue (other FifoQueue), unnamed name Set (other Set), unnamed name UnorderedQueue (other UnorderedQueue), unnamed name WideRegister (other WideRegister), unnamed name WideSet (other WideSet), unnamed name WideFifoQueue (other WideFifoQueue), unnamed name WideUnorderedQueue (other WideUnorderedQueue)) refl
+    rw (unnamed name Register (other Register), unnamed name CasRegister (other CasRegister), unnamed name Mutex (other Mutex), unnamed name FifoQueue (other FifoQueue), unnamed name Set (other Set), unnamed name UnorderedQueue (other UnorderedQueue), unnamed name WideRegister (other WideRegister), unnamed name WideCasRegister (other WideCasRegister), unnamed name WideSet (other WideSet), unnamed name WideFifoQueue (other WideFifoQueue), unnamed name WideUnorderedQueue (other WideUnorderedQueue)) refl
 
 -- an element other than a vector is an event
 appended : (v : Value) (asked : Result Command Refusal) → elements_in v ≡ None → Appends v asked → ElementAsks v asked

@@ -6,7 +6,7 @@ use Rattle.edn.specs.Text.{IsText, IsLongestFront}
 use Rattle.edn.specs.declared.refusal.Refusal.{Refusal}
 use Rattle.edn.specs.declared.refusal.Refusal.TheVariants.{BadValue, BadBudget, NoSuchIndex, Unreadable}
 use Rattle.models.specs.declared.model_kind.ModelKind.{ModelKind}
-use Rattle.models.specs.declared.model_kind.ModelKind.TheVariants.{Register, CasRegister, Mutex, FifoQueue, Set, UnorderedQueue, WideRegister, WideSet, WideFifoQueue, WideUnorderedQueue}
+use Rattle.models.specs.declared.model_kind.ModelKind.TheVariants.{Register, CasRegister, Mutex, FifoQueue, Set, UnorderedQueue, WideRegister, WideCasRegister, WideSet, WideFifoQueue, WideUnorderedQueue}
 use Rattle.models.specs.Names.{name_of}
 use Rattle.events.specs.Spelling.{Spells, number_in}
 use Rattle.events.specs.declared.event.Event.{Event}
@@ -33,6 +33,7 @@ kind_named name =
     else if bytes_eq name (name_of Set) then Some Set
     else if bytes_eq name (name_of UnorderedQueue) then Some UnorderedQueue
     else if bytes_eq name (name_of WideRegister) then Some WideRegister
+    else if bytes_eq name (name_of WideCasRegister) then Some WideCasRegister
     else if bytes_eq name (name_of WideSet) then Some WideSet
     else if bytes_eq name (name_of WideFifoQueue) then Some WideFifoQueue
     else if bytes_eq name (name_of WideUnorderedQueue) then Some WideUnorderedQueue

@@ -4,9 +4,9 @@ use Rattle.std.proofs.lemmas.Option.{same_Some}
 use Rattle.models.specs.declared.operation.Op.{Op}
 use Rattle.models.specs.declared.finding.Found.{Found}
 use Rattle.models.specs.declared.any_state.AnyState.{AnyState}
-use Rattle.models.specs.declared.any_state.AnyState.TheVariants.{Register as OfRegister, CasRegister as OfCasRegister, Mutex as OfMutex, FifoQueue as OfFifoQueue, Set as OfSet, UnorderedQueue as OfUnorderedQueue, WideRegister as OfWideRegister, WideSet as OfWideSet, WideFifoQueue as OfWideFifoQueue, WideUnorderedQueue as OfWideUnorderedQueue}
+use Rattle.models.specs.declared.any_state.AnyState.TheVariants.{Register as OfRegister, CasRegister as OfCasRegister, Mutex as OfMutex, FifoQueue as OfFifoQueue, Set as OfSet, UnorderedQueue as OfUnorderedQueue, WideRegister as OfWideRegister, WideCasRegister, WideSet as OfWideSet, WideFifoQueue as OfWideFifoQueue, WideUnorderedQueue as OfWideUnorderedQueue}
 use Rattle.models.specs.declared.model_kind.ModelKind.{ModelKind}
-use Rattle.models.specs.declared.model_kind.ModelKind.TheVariants.{Register, CasRegister, Mutex, FifoQueue, Set, UnorderedQueue, WideRegister, WideSet, WideFifoQueue, WideUnorderedQueue}
+use Rattle.models.specs.declared.model_kind.ModelKind.TheVariants.{Register, CasRegister, Mutex, FifoQueue, Set, UnorderedQueue, WideRegister, WideCasRegister, WideSet, WideFifoQueue, WideUnorderedQueue}
 use Rattle.models.specs.Objects.{object_of}
 use Rattle.models.specs.AnyState.{any, outcomes_of}
 use Rattle.test_store.specs.declared.held.Held.{Held}
@@ -29,6 +29,7 @@ some_kind (OfFifoQueue s) = (FifoQueue, s, refl)
 some_kind (OfSet s) = (Set, s, refl)
 some_kind (OfUnorderedQueue s) = (UnorderedQueue, s, refl)
 some_kind (OfWideRegister s) = (WideRegister, s, refl)
+some_kind (OfWideCasRegister s) = (WideCasRegister, s, refl)
 some_kind (OfWideSet s) = (WideSet, s, refl)
 some_kind (OfWideFifoQueue s) = (WideFifoQueue, s, refl)
 some_kind (OfWideUnorderedQueue s) = (WideUnorderedQueue, s, refl)

@@ -9,7 +9,7 @@ use Rattle.events.specs.Events.{Mark}
 use Rattle.linspec.specs.MarkRule.{AreWellFormed}
 use Rattle.linspec.proofs.Lists.{Contains-nil, Contains-cons_cases}
 use Rattle.linspec.specs.LeanEnds.{start}
-use Rattle.cas_ends.specs.CasEnds.{AreCasEnds}
+use Rattle.linspec.specs.CasEnds.{AreCasEnds}
 use Rattle.wide_cas_register.specs.declared.calls.Call.{Call}
 use Rattle.wide_cas_register.specs.declared.calls.What.{What}
 use Rattle.wide_cas_register.specs.declared.calls.What.TheVariants.{Writes, Sets, Reads}

@@ -8,7 +8,7 @@ use Rattle.events.specs.Events.{Mark}
 use Rattle.linspec.proofs.Lists.{Contains-nil, Contains-head, Contains-tail, Contains-cons_cases}
 use Rattle.linspec.specs.LeanEnds.{LeanEnd, IsPutBehind, IsPutBefore, IsWithout, IsWithRead}
 use Rattle.lean_ends.proofs.Left.{at_most_each_other}
-use Rattle.cas_ends.specs.CasEnds.{IsSetBehind}
+use Rattle.linspec.specs.CasEnds.{IsSetBehind}
 use Rattle.wide_cas_register.specs.declared.calls.Call.{Call}
 use Rattle.wide_cas_register.specs.declared.row.Found.{Found}
 use Rattle.wide_cas_register.specs.declared.row.Row.{Row}

@@ -8,7 +8,7 @@ use Rattle.events.specs.Events.{Mark}
 use Rattle.linspec.specs.MarkRule.{AreWellFormed}
 use Rattle.linspec.proofs.Lists.{Pairwise-weaker}
 use Rattle.linspec.specs.LeanEnds.{IsPutBehind}
-use Rattle.cas_ends.specs.CasEnds.{IsSetBehind, Front as EndFront, IsLess, IsNext, IsLayer, AreLayers}
+use Rattle.linspec.specs.CasEnds.{IsSetBehind, Front as EndFront, IsLess, IsNext, IsLayer, AreLayers}
 use Rattle.cas_ends.proofs.Stands.{IsLeft, left_set, left_put}
 use Rattle.wide_cas_register.specs.declared.calls.Call.{Call}
 use Rattle.wide_cas_register.specs.declared.calls.What.{What}

@@ -13,7 +13,7 @@ use Rattle.events.specs.Events.Mark.{Invoked, Returned, Failed, Crashed}
 use Rattle.linspec.specs.MarkRule.{MayFollow}
 use Rattle.linspec.specs.Orders.{IsLinearizable}
 use Rattle.linspec.proofs.Lists.{Contains-nil, Contains-head}
-use Rattle.cas_ends.specs.CasEnds.{HasMoreFronts, HasMoreFrontsThan}
+use Rattle.linspec.specs.CasEnds.{HasMoreFronts, HasMoreFrontsThan}
 use Rattle.cas_ends.proofs.Left.{are_left, some_is_left}
 use Rattle.cas_ends.proofs.OneCount.{counted_order, more_if_more}
 use Rattle.cas_ends.proofs.Stands.{IsLeft}

@@ -8,7 +8,7 @@ use Rattle.events.specs.Events.Mark.{Invoked, Failed, Crashed}
 use Rattle.linspec.specs.Operations.{IsOpen}
 use Rattle.linspec.specs.MarkRule.{AreWellFormed}
 use Rattle.linspec.specs.LeanEnds.{LeanEnd, IsRead, IsWithRead}
-use Rattle.cas_ends.specs.CasEnds.{Becomes}
+use Rattle.linspec.specs.CasEnds.{Becomes}
 use Rattle.cas_ends.proofs.Stands.{IsLeft}
 use Rattle.wide_cas_register.specs.declared.calls.Call.{Call}
 use Rattle.wide_cas_register.specs.declared.calls.What.TheVariants.{Reads}

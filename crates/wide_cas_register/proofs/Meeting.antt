@@ -5,7 +5,7 @@ use Rattle.std.proofs.lemmas.List.Elements.{Contains-append_cases}
 use Rattle.events.specs.Events.{Mark}
 use Rattle.linspec.specs.MarkRule.{AreWellFormed}
 use Rattle.linspec.specs.LeanEnds.{LeanEnd}
-use Rattle.cas_ends.specs.CasEnds.{AreLayers, AreSomeFronts, AreFronts, stays}
+use Rattle.linspec.specs.CasEnds.{AreLayers, AreSomeFronts, AreFronts, stays}
 use Rattle.cas_ends.proofs.Stands.{IsLeft}
 use Rattle.wide_cas_register.specs.declared.calls.Call.{Call}
 use Rattle.wide_cas_register.specs.declared.calls.What.{What}

@@ -6,7 +6,7 @@ use Rattle.linspec.specs.MarkRule.{AreWellFormed}
 use Rattle.linspec.specs.Orders.{Pairwise}
 use Rattle.linspec.proofs.Lists.{Contains-nil, Contains-cons_cases}
 use Rattle.linspec.specs.LeanEnds.{LeanEnd, MayRead, MayWrite, IsPutBehind, IsPutBefore, IsWithout}
-use Rattle.cas_ends.specs.CasEnds.{MayCas, IsSetBehind}
+use Rattle.linspec.specs.CasEnds.{MayCas, IsSetBehind}
 use Rattle.cas_ends.proofs.Puts.{no_read_update}
 use Rattle.cas_ends.proofs.Stands.{IsLeft}
 use Rattle.wide_cas_register.specs.declared.calls.Call.{Call}

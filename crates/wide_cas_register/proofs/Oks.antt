@@ -12,7 +12,7 @@ use Rattle.linspec.proofs.Open.{was_open}
 use Rattle.linspec.specs.LeanEnds.{LeanEnd, IsWriteOf, IsRead, IsPutBehind, IsPutBefore, IsWithout, IsAtMost}
 use Rattle.lean_ends.proofs.Left.{at_most_itself}
 use Rattle.lean_ends.proofs.Once.{read_no_write, same_value}
-use Rattle.cas_ends.specs.CasEnds.{IsCasOf, IsSetBehind, Walks, EndsWrite as EndsWriteBy, EndsCas as EndsCasBy, EndsRead as EndsReadBy, Becomes, IsLess, AreFronts}
+use Rattle.linspec.specs.CasEnds.{IsCasOf, IsSetBehind, Walks, EndsWrite as EndsWriteBy, EndsCas as EndsCasBy, EndsRead as EndsReadBy, Becomes, IsLess, AreFronts}
 use Rattle.cas_ends.proofs.Layers.{walk_is_less}
 use Rattle.cas_ends.proofs.Once.{cas_no_read, cas_no_write, same_pair}
 use Rattle.cas_ends.proofs.Stands.{IsLeft}

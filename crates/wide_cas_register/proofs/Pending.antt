@@ -18,7 +18,7 @@ use Rattle.linspec.proofs.Lists.{Contains-nil, Contains-cons_cases, Pairwise-app
 use Rattle.linspec.proofs.Open.{IsCompletion, no_invocation, was_open, stays_open, open_with_new, open_without_new, new_is_open}
 use Rattle.linspec.specs.LeanEnds.{MayWrite, Reads as ReadsBy, Writes as WritesBy}
 use Rattle.lean_ends.proofs.Ending.{write_was, write_is, read_was}
-use Rattle.cas_ends.specs.CasEnds.{MayCas, Sets as SetsBy}
+use Rattle.linspec.specs.CasEnds.{MayCas, Sets as SetsBy}
 use Rattle.wide_cas_register.specs.declared.calls.Call.{Call}
 use Rattle.wide_cas_register.specs.declared.calls.What.{What}
 use Rattle.wide_cas_register.specs.declared.calls.What.TheVariants.{Writes, Sets, Reads}

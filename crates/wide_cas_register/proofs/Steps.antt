@@ -9,7 +9,7 @@ use Rattle.linspec.specs.Orders.{Pairwise}
 use Rattle.linspec.proofs.Lists.{Contains-nil, Pairwise-weaker, snoc_cut}
 use Rattle.linspec.specs.LeanEnds.{LeanEnd, IsAtMost}
 use Rattle.lean_ends.proofs.Left.{at_most_itself}
-use Rattle.cas_ends.specs.CasEnds.{Becomes, Walks}
+use Rattle.linspec.specs.CasEnds.{Becomes, Walks}
 use Rattle.cas_ends.proofs.Left.{are_left, at_most_then, left_then}
 use Rattle.cas_ends.proofs.Sound.{left_after}
 use Rattle.cas_ends.proofs.Stands.{IsLeft}

@@ -5,7 +5,7 @@ use Rattle.std.proofs.lemmas.List.Elements.{Contains-append_cases}
 use Rattle.events.specs.Events.{Mark}
 use Rattle.linspec.specs.Operations.{IsOpen}
 use Rattle.linspec.specs.LeanEnds.{LeanEnd, IsWithout, IsAtMost}
-use Rattle.cas_ends.specs.CasEnds.{Walks, Front, IsNext, AreLayers, stays, AreSomeFronts}
+use Rattle.linspec.specs.CasEnds.{Walks, Front, IsNext, AreLayers, stays, AreSomeFronts}
 use Rattle.cas_ends.proofs.Walking.{stay, then_sets, then_writes}
 use Rattle.cas_ends.proofs.Layers.{stays_of}
 

@@ -22,7 +22,7 @@ use Rattle.linspec.specs.Operations.{IsOpen}
 use Rattle.linspec.specs.Orders.{Pairwise}
 use Rattle.linspec.specs.MarkRule.{AreWellFormed}
 use Rattle.linspec.specs.LeanEnds.{LeanEnd, MayRead, MayWrite}
-use Rattle.cas_ends.specs.CasEnds.{MayCas, AreCasEnds}
+use Rattle.linspec.specs.CasEnds.{MayCas, AreCasEnds}
 use Rattle.wide_cas_register.specs.declared.fronts.Front.{Front}
 
 -- what an operation does to a register with compare and set

@@ -2,7 +2,7 @@
 ghost use Rattle.std.specs.Prelude.{◌≡◌, ◌↔◌, ◌<◌, IfOk, IsTrue, length};
 ghost use Rattle.models.specs.Objects.{cas_register};
 ghost use Rattle.events.specs.Events.{act_by, mark_by_act};
-ghost use Rattle.cas_ends.specs.CasEnds.{HasMoreFrontsThan};
+ghost use Rattle.linspec.specs.CasEnds.{HasMoreFrontsThan};
 ghost use Rattle.judging.specs.Meaning.{Commits, IsCopy, IsStart, Observes, Prepares, mark_by};
 ghost use Rattle.wide_cas_register.specs.Counts.{IsCounted};
 ghost use Rattle.wide_cas_register.specs.Views.{IsStepLeft, kills, view_of};

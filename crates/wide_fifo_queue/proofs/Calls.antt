@@ -11,7 +11,8 @@ use Rattle.models.specs.Objects.{answer_of}
 use Rattle.events.specs.Events.{Mark}
 use Rattle.events.specs.Events.Mark.{Invoked}
 use Rattle.linspec.specs.MarkRule.{AreWellFormed}
-use Rattle.queue_pairs.specs.Pairs.{Enqueues, IsEnqueueOf, Dequeues, HasDequeued}
+use Rattle.linspec.specs.Twins.{Enqueues, IsEnqueueOf}
+use Rattle.queue_pairs.specs.Pairs.{Dequeues, HasDequeued}
 use Rattle.wide_fifo_queue.specs.declared.known.Call.TheVariants as calls
 use Rattle.wide_fifo_queue.specs.declared.known.Pending.{Pending}
 use Rattle.wide_fifo_queue.specs.Facts.{call_by, Facts, AreFacts}

@@ -13,7 +13,8 @@ use Rattle.linspec.specs.MarkRule.{id_of, IsNew, MayFollow, AreWellFormed}
 use Rattle.linspec.proofs.Lists.{snoc_cut}
 use Rattle.linspec.proofs.Open.{IsCompletion, was_open, stays_open, open_with_new, open_without_new, new_is_open}
 use Rattle.linspec.proofs.Marks.{Precedes-kept}
-use Rattle.queue_pairs.specs.Pairs.{IsEnqueueOf, MayEnqueue, HasDequeued, MayDequeue, IsLate}
+use Rattle.linspec.specs.Twins.{IsEnqueueOf, MayEnqueue}
+use Rattle.queue_pairs.specs.Pairs.{HasDequeued, MayDequeue, IsLate}
 use Rattle.wide_fifo_queue.specs.declared.known.Pending.{Pending}
 use Rattle.wide_fifo_queue.specs.declared.known.Enqueued.{Enqueued}
 use Rattle.wide_fifo_queue.specs.Facts.{StandsAt, ArePending, IsEntry, IsTakenAt, Waits, call_by, is_other}

@@ -10,7 +10,8 @@ use Rattle.events.specs.Events.Mark.{Invoked, Returned, Failed, Crashed}
 use Rattle.linspec.specs.Operations.{IsInvoked}
 use Rattle.linspec.specs.MarkRule.{IsNew, AreWellFormed}
 use Rattle.linspec.proofs.Lists.{Contains-head, Contains-nil, Contains-cons_cases, Pairwise-append}
-use Rattle.queue_pairs.specs.Pairs.{Enqueues, MayEnqueue, Dequeues, HasDequeued, MayDequeue, IsLate}
+use Rattle.linspec.specs.Twins.{Enqueues, MayEnqueue}
+use Rattle.queue_pairs.specs.Pairs.{Dequeues, HasDequeued, MayDequeue, IsLate}
 use Rattle.wide_fifo_queue.specs.declared.known.Call.TheVariants as calls
 use Rattle.wide_fifo_queue.specs.declared.known.Pending.{Pending}
 use Rattle.wide_fifo_queue.specs.declared.known.Enqueued.{Enqueued}

@@ -15,7 +15,8 @@ use Rattle.linspec.proofs.Fronts.{IsLinearizable-append}
 use Rattle.linspec.proofs.Lists.{Contains-nil}
 use Rattle.judging.specs.declared.step.Step.TheVariants.{Alive, Over}
 use Rattle.judging.specs.Meaning.{mark_by, IsAnswer, IsReturn, FrontierView, Costs}
-use Rattle.queue_pairs.specs.Pairs.{MayEnqueue, HasTwins, AreTwins, IsPaired}
+use Rattle.linspec.specs.Twins.{MayEnqueue, HasTwins, AreTwins}
+use Rattle.queue_pairs.specs.Pairs.{IsPaired}
 use Rattle.wide_fifo_queue.specs.declared.known.Known.{Known}
 use Rattle.wide_fifo_queue.specs.declared.known.Enqueued.{Enqueued}
 use Rattle.wide_fifo_queue.specs.Facts.{Facts, AreFacts, facts_of}

@@ -12,7 +12,8 @@ use Rattle.linspec.specs.Operations.{HasReturned, Precedes}
 use Rattle.linspec.specs.Orders.{Pairwise}
 use Rattle.linspec.proofs.Lists.{Contains-nil, Contains-cons_cases}
 use Rattle.linspec.proofs.Marks.{Precedes-returned}
-use Rattle.queue_pairs.specs.Pairs.{Enqueues, IsEnqueueOf, MayEnqueue, HasDequeued, IsBefore, IsUntold, IsOwedTo, IsLate, TwinsAreLate}
+use Rattle.linspec.specs.Twins.{Enqueues, IsEnqueueOf, MayEnqueue}
+use Rattle.queue_pairs.specs.Pairs.{HasDequeued, IsBefore, IsUntold, IsOwedTo, IsLate, TwinsAreLate}
 use Rattle.wide_fifo_queue.specs.declared.known.Enqueued.{Enqueued}
 use Rattle.wide_fifo_queue.specs.declared.known.Owed.{Owed}
 use Rattle.wide_fifo_queue.specs.Facts.{StandsAt, IsEntry, IsByValue, Waits, IsPassed, Facts, AreFacts}

@@ -14,7 +14,8 @@ use Rattle.queue_pairs.proofs.Build as build
 use Rattle.queue_pairs.proofs.Oks.{paired_after_ok_of_enqueue, not_paired_after_other_ok, twins_were}
 use Rattle.queue_pairs.proofs.OkOfDequeue.{paired_after_ok_of_dequeue}
 use Rattle.queue_pairs.proofs.Quiet.{quiet, paired_after_fail, late_stays}
-use Rattle.queue_pairs.specs.Pairs.{Enqueues, IsEnqueueOf, Dequeues, IsPaired, HasTwins, TwinsAreLate, MayTake, MayFail}
+use Rattle.linspec.specs.Twins.{Enqueues, IsEnqueueOf, HasTwins}
+use Rattle.queue_pairs.specs.Pairs.{Dequeues, IsPaired, TwinsAreLate, MayTake, MayFail}
 
 pub paired_if_linearizable : (marks : List Mark) → AreWellFormed marks → TwinsAreLate marks → IsLinearizable fifo_queue marks → IsPaired marks
 paired_if_linearizable marks well late h = legal.paired_if_linearizable marks well late h

@@ -18,3 +18,4 @@ pub mod Places
 pub mod Splitting
 pub mod After
 pub mod Parts
+pub mod Crossing

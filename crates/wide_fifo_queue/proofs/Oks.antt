@@ -13,7 +13,8 @@ use Rattle.linspec.specs.MarkRule.{AreWellFormed}
 use Rattle.linspec.specs.Orders.{Pairwise}
 use Rattle.linspec.proofs.Lists.{Contains-nil, Contains-cons_cases, Pairwise-append, Pairwise-right}
 use Rattle.linspec.proofs.Filters.{from_map}
-use Rattle.queue_pairs.specs.Pairs.{IsEnqueueOf, HasDequeued, MayDequeue, IsPaired, MayTake}
+use Rattle.linspec.specs.Twins.{IsEnqueueOf}
+use Rattle.queue_pairs.specs.Pairs.{HasDequeued, MayDequeue, IsPaired, MayTake}
 use Rattle.wide_fifo_queue.specs.declared.known.Call.TheVariants as calls
 use Rattle.wide_fifo_queue.specs.declared.known.Pending.{Pending}
 use Rattle.wide_fifo_queue.specs.declared.known.Enqueued.{Enqueued}

@@ -1,7 +1,7 @@
 -- Promise: what is judged, and counted against the budget: a queue is over once two enqueues that have not failed have one value
 use Rattle.models.specs.Objects.{Object, fifo_queue}
 use Rattle.linspec.specs.Ends.{Count}
-use Rattle.queue_pairs.specs.Pairs.{CountsTwins}
+use Rattle.linspec.specs.Twins.{CountsTwins}
 
 -- the object that is judged
 abbrev pub the_object : Object

@@ -14,7 +14,8 @@ use Rattle.events.specs.Events.Mark.{Invoked, Returned, Failed}
 use Rattle.linspec.specs.Operations.{IsOpen}
 use Rattle.linspec.specs.Orders.{Pairwise}
 use Rattle.linspec.specs.MarkRule.{AreWellFormed}
-use Rattle.queue_pairs.specs.Pairs.{Enqueues, MayEnqueue, HasDequeued, MayDequeue, IsPaired, IsLate}
+use Rattle.linspec.specs.Twins.{Enqueues, MayEnqueue}
+use Rattle.queue_pairs.specs.Pairs.{HasDequeued, MayDequeue, IsPaired, IsLate}
 use Rattle.wide_fifo_queue.specs.declared.known.Call.{Call}
 use Rattle.wide_fifo_queue.specs.declared.known.Call.TheVariants as calls
 use Rattle.wide_fifo_queue.specs.declared.known.Pending.{Pending}

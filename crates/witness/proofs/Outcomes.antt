@@ -5,7 +5,7 @@ use Rattle.std.proofs.lemmas.List.{length-append, length-map}
 use Rattle.models.specs.declared.operation.Op.{Op}
 use Rattle.models.specs.declared.finding.Found.{Found}
 use Rattle.models.specs.declared.model_kind.ModelKind.{ModelKind}
-use Rattle.models.specs.declared.model_kind.ModelKind.TheVariants.{Register, CasRegister, Mutex, FifoQueue, Set, UnorderedQueue, WideRegister, WideSet, WideFifoQueue, WideUnorderedQueue}
+use Rattle.models.specs.declared.model_kind.ModelKind.TheVariants.{Register, CasRegister, Mutex, FifoQueue, Set, UnorderedQueue, WideRegister, WideCasRegister, WideSet, WideFifoQueue, WideUnorderedQueue}
 use Rattle.models.specs.declared.any_state.AnyState.{AnyState}
 use Rattle.models.specs.AnyState.{any, outcomes_of}
 use Rattle.models.specs.Objects.{IsOneOf, table_of, object_of}
@@ -33,6 +33,7 @@ one_at_most FifoQueue ne op s = few ((table_of FifoQueue).apply op s) (queue_alo
 one_at_most Set ne op s = few ((table_of Set).apply op s) (set_alone op s 1 (omega arith)).0
 one_at_most UnorderedQueue ne op s = absurd (ne.0 refl)
 one_at_most WideRegister ne op s = few ((table_of WideRegister).apply op s) (register_alone op s 1 (omega arith)).0
+one_at_most WideCasRegister ne op s = few ((table_of WideCasRegister).apply op s) (cas_register_alone op s 1 (omega arith)).0
 one_at_most WideSet ne op s = few ((table_of WideSet).apply op s) (set_alone op s 1 (omega arith)).0
 one_at_most WideFifoQueue ne op s = few ((table_of WideFifoQueue).apply op s) (queue_alone op s 1 (omega arith)).0
 one_at_most WideUnorderedQueue ne op s = absurd (ne.1 refl)
@@ -46,6 +47,7 @@ same_state FifoQueue s t e = cc
 same_state Set s t e = cc
 same_state UnorderedQueue s t e = cc
 same_state WideRegister s t e = cc
+same_state WideCasRegister s t e = cc
 same_state WideSet s t e = cc
 same_state WideFifoQueue s t e = cc
 same_state WideUnorderedQueue s t e = cc

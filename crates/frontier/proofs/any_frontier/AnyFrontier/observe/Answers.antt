@@ -21,5 +21,14 @@ returns-in-UnorderedQueue-clause-observed c = rw c.in-UnorderedQueue.is (rw (←
 pub returns-in-WideRegister-clause-observed : goal.returns-in-WideRegister-clause-observed
 returns-in-WideRegister-clause-observed c = rw c.in-WideRegister.is (rw (← c.deref_mut-in-WideRegister.ensures.value) c.observe_wide_register.ensures)
 
+pub returns-in-WideCasRegister-clause-observed : goal.returns-in-WideCasRegister-clause-observed
+returns-in-WideCasRegister-clause-observed c = rw c.in-WideCasRegister.is (rw (← c.deref_mut-in-WideCasRegister.ensures.value) c.observe_wide_cas_register.ensures)
+
 pub returns-in-WideSet-clause-observed : goal.returns-in-WideSet-clause-observed
 returns-in-WideSet-clause-observed c = rw c.in-WideSet.is (rw (← c.deref_mut-in-WideSet.ensures.value) c.observe_wide_set.ensures)
+
+pub returns-in-WideFifoQueue-clause-observed : goal.returns-in-WideFifoQueue-clause-observed
+returns-in-WideFifoQueue-clause-observed c = rw c.in-WideFifoQueue.is (rw (← c.deref_mut-in-WideFifoQueue.ensures.value) c.observe_wide_fifo_queue.ensures)
+
+pub returns-in-WideUnorderedQueue-clause-observed : goal.returns-in-WideUnorderedQueue-clause-observed
+returns-in-WideUnorderedQueue-clause-observed c = rw c.in-WideUnorderedQueue.is (rw (← c.deref_mut-in-WideUnorderedQueue.ensures.value) c.observe_wide_unordered_queue.ensures)

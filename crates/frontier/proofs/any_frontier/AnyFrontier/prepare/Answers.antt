@@ -21,5 +21,14 @@ returns-in-UnorderedQueue-clause-prepared c = rw c.in-UnorderedQueue.is (rw (←
 pub returns-in-WideRegister-clause-prepared : goal.returns-in-WideRegister-clause-prepared
 returns-in-WideRegister-clause-prepared c = rw c.in-WideRegister.is (rw (← c.deref_mut-in-WideRegister.ensures.value) c.prepare_wide_register.ensures)
 
+pub returns-in-WideCasRegister-clause-prepared : goal.returns-in-WideCasRegister-clause-prepared
+returns-in-WideCasRegister-clause-prepared c = rw c.in-WideCasRegister.is (rw (← c.deref_mut-in-WideCasRegister.ensures.value) c.prepare_wide_cas_register.ensures)
+
 pub returns-in-WideSet-clause-prepared : goal.returns-in-WideSet-clause-prepared
 returns-in-WideSet-clause-prepared c = rw c.in-WideSet.is (rw (← c.deref_mut-in-WideSet.ensures.value) c.prepare_wide_set.ensures)
+
+pub returns-in-WideFifoQueue-clause-prepared : goal.returns-in-WideFifoQueue-clause-prepared
+returns-in-WideFifoQueue-clause-prepared c = rw c.in-WideFifoQueue.is (rw (← c.deref_mut-in-WideFifoQueue.ensures.value) c.prepare_wide_fifo_queue.ensures)
+
+pub returns-in-WideUnorderedQueue-clause-prepared : goal.returns-in-WideUnorderedQueue-clause-prepared
+returns-in-WideUnorderedQueue-clause-prepared c = rw c.in-WideUnorderedQueue.is (rw (← c.deref_mut-in-WideUnorderedQueue.ensures.value) c.prepare_wide_unordered_queue.ensures)

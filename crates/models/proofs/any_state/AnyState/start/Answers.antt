@@ -1,9 +1,9 @@
-use Rattle.models.specs.declared.model_kind.ModelKind.TheVariants.{Register, CasRegister, Mutex, FifoQueue, Set, UnorderedQueue, WideRegister, WideSet, WideFifoQueue, WideUnorderedQueue}
+use Rattle.models.specs.declared.model_kind.ModelKind.TheVariants.{Register, CasRegister, Mutex, FifoQueue, Set, UnorderedQueue, WideRegister, WideCasRegister, WideSet, WideFifoQueue, WideUnorderedQueue}
 use Rattle.models.proofs.AnyStates.{start_at}
 use Rattle.models.proofs.any_state.AnyState.start.Goals as goal
 
 pub returns-in-Register : goal.returns-in-Register
-returns-in-Register c = start_at Register c.start.result c.args.kind c.start.ensures c.in-Register.is
+returns-in-Register c = start_at Register c.start-in-Register.result c.args.kind c.start-in-Register.ensures c.in-Register.is
 
 pub returns-in-CasRegister : goal.returns-in-CasRegister
 returns-in-CasRegister c = start_at CasRegister c.start-in-CasRegister.result c.args.kind c.start-in-CasRegister.ensures c.in-CasRegister.is
@@ -23,11 +23,14 @@ returns-in-UnorderedQueue c = start_at UnorderedQueue c.start-in-UnorderedQueue.
 pub returns-in-WideRegister : goal.returns-in-WideRegister
 returns-in-WideRegister c = start_at WideRegister c.start-in-WideRegister.result c.args.kind c.start-in-WideRegister.ensures c.in-WideRegister.is
 
+pub returns-in-WideCasRegister : goal.returns-in-WideCasRegister
+returns-in-WideCasRegister c = start_at WideCasRegister c.start-in-WideCasRegister.result c.args.kind c.start-in-WideCasRegister.ensures c.in-WideCasRegister.is
+
 pub returns-in-WideSet : goal.returns-in-WideSet
+returns-in-WideSet c = start_at WideSet c.start-in-WideSet.result c.args.kind c.start-in-WideSet.ensures c.in-WideSet.is
 
 pub returns-in-WideFifoQueue : goal.returns-in-WideFifoQueue
+returns-in-WideFifoQueue c = start_at WideFifoQueue c.start-in-WideFifoQueue.result c.args.kind c.start-in-WideFifoQueue.ensures c.in-WideFifoQueue.is
 
 pub returns-in-WideUnorderedQueue : goal.returns-in-WideUnorderedQueue
-returns-in-WideSet c = start_at WideSet c.start-in-WideSet.result c.args.kind c.start-in-WideSet.ensures c.in-WideSet.is
-returns-in-WideFifoQueue c = start_at WideFifoQueue c.start-in-WideFifoQueue.result c.args.kind c.start-in-WideFifoQueue.ensures c.in-WideFifoQueue.is
 returns-in-WideUnorderedQueue c = start_at WideUnorderedQueue c.start-in-WideUnorderedQueue.result c.args.kind c.start-in-WideUnorderedQueue.ensures c.in-WideUnorderedQueue.is
