@@ -6,7 +6,7 @@ use Rattle.models.specs.declared.finding.Found.{Found}
 use Rattle.models.specs.declared.model_kind.ModelKind.{ModelKind}
 use Rattle.models.specs.declared.model_kind.ModelKind.TheVariants.{Register, CasRegister, Mutex, FifoQueue, Set, UnorderedQueue, WideRegister, WideCasRegister, WideSet, WideFifoQueue, WideUnorderedQueue}
 use Rattle.models.specs.declared.any_state.AnyState.{AnyState}
-use Rattle.models.specs.declared.any_state.AnyState.TheVariants.{Register as OfRegister, CasRegister as OfCasRegister, Mutex as OfMutex, FifoQueue as OfFifoQueue, Set as OfSet, UnorderedQueue as OfUnorderedQueue, WideRegister as OfWideRegister, WideCasRegister, WideSet as OfWideSet, WideFifoQueue as OfWideFifoQueue, WideUnorderedQueue as OfWideUnorderedQueue}
+use Rattle.models.specs.declared.any_state.AnyState.TheVariants.{Register as OfRegister, CasRegister as OfCasRegister, Mutex as OfMutex, FifoQueue as OfFifoQueue, Set as OfSet, UnorderedQueue as OfUnorderedQueue, WideRegister as OfWideRegister, WideCasRegister as OfWideCasRegister, WideSet as OfWideSet, WideFifoQueue as OfWideFifoQueue, WideUnorderedQueue as OfWideUnorderedQueue}
 use Rattle.models.specs.Objects.{IsOneOf, table_of, object_of}
 use Rattle.models.specs.AnyState.{any, kind_of_state, outcomes_of, AreOwnOutcomes}
 
