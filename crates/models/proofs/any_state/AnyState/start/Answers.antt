@@ -3,7 +3,7 @@ use Rattle.models.proofs.AnyStates.{start_at}
 use Rattle.models.proofs.any_state.AnyState.start.Goals as goal
 
 pub returns-in-Register : goal.returns-in-Register
-returns-in-Register c = start_at Register c.start-in-Register.result c.args.kind c.start-in-Register.ensures c.in-Register.is
+returns-in-Register c = start_at Register c.start.result c.args.kind c.start.ensures c.in-Register.is
 
 pub returns-in-CasRegister : goal.returns-in-CasRegister
 returns-in-CasRegister c = start_at CasRegister c.start-in-CasRegister.result c.args.kind c.start-in-CasRegister.ensures c.in-CasRegister.is
