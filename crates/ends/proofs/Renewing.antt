@@ -10,7 +10,7 @@ use Rattle.ends.specs.declared.pending_op.PendingOp.{PendingOp}
 use Rattle.ends.specs.declared.table.Table.{Table}
 use Rattle.ends.specs.Tables.{AreShown, IsSameTable, Says, SaysTheSame, SayTheSame, ShowTheSame, found_by, rows_of}
 use Rattle.interned.specs.Numbers.{IsOnceIn, IsSlot}
-use Rattle.rows.specs.RowSets.{IsPut}
+use Rattle.words.specs.Puts.{IsPut}
 use Rattle.interned.proofs.Lists.{get_front, get_last, get_left, one_of, some_at}
 use Rattle.ends.proofs.Showing.{shown_more, widens_rows}
 

@@ -14,7 +14,7 @@ use Rattle.models.specs.declared.finding.Found.{Found}
 use Rattle.ends.specs.KeptEnds.{AreIncluded}
 use Rattle.ends.specs.Tables.{AreLed, AreShown, KeepsRows, OnlyAdds, OnlyTries, Says, Shows, ShownWith, Widens, row_led, rows_of, with_rows}
 use Rattle.interned.specs.Numbers.{IsOnceIn}
-use Rattle.rows.specs.RowSets.{IsPut}
+use Rattle.words.specs.Puts.{IsPut}
 use Rattle.ends.proofs.Adding.{IsFront-itself, IsFront-push, IsFront-trans, Adds-old, Adds-new, Adds-change, Adds-more, Adds-more_from, Adds-start}
 use Rattle.interned.proofs.Lists.{one_more, clash, place_of, has_place, some_at, get_push}
 use Rattle.ends.proofs.Reaching.{reached_next}

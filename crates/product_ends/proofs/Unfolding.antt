@@ -4,7 +4,7 @@ use Rattle.std.specs.List.{Contains}
 use Rattle.std.proofs.lemmas.Bool.{cases_eq}
 use Rattle.std.proofs.lemmas.Option.{same_Some, slice_get_within}
 use Rattle.std.proofs.lemmas.List.Elements.{Contains-push_cases, Contains-append_left, Contains-append_right}
-use Rattle.rows.specs.RowSets.{IsPut}
+use Rattle.words.specs.Puts.{IsPut}
 use Rattle.rows.proofs.Elements.{Contains-head, Contains-nil}
 use Rattle.products.specs.Products.{AreIn, Has, IsIn, IsInAt, IsInOne, Product}
 use Rattle.products.proofs.Numbers.{by_bits, has_alone}

@@ -1,8 +1,8 @@
 -- rows that are looked at
 use Rattle.std.proofs.Common.{◌≡◌, ℕ, zero, suc, ◌^◌, ◌/◌, ◌%◌, ◌<◌, ◌≤◌, List, Some, slice_get, refl, sym, ap, ◌∙◌, arith}
 use Rattle.std.proofs.lemmas.Option.{get_or_from_slice_get, slice_get-get_or, slice_get_within}
-use Rattle.rows.specs.Words.{digits, row_in}
-use Rattle.rows.proofs.Digits.{digit_at, length-digits}
+use Rattle.words.specs.Words.{digits, row_in}
+use Rattle.words.proofs.Digits.{digit_at, length-digits}
 
 -- a word is looked at where it has numbers, and else the other numbers
 pub row_half : (long bits word : ℕ) (other : List ℕ) → 0 < long → row_in long bits word other ≡ digits (2 ^ bits) long word

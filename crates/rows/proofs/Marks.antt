@@ -3,8 +3,8 @@ use Rattle.std.proofs.Common.{◌≡◌, ℕ, ◌+◌, ◌/◌, ◌%◌, ◌^◌
 use Rattle.std.specs.List.{remove}
 use Rattle.std.proofs.lemmas.Option.{slice_get-get_or}
 use Rattle.rows.specs.RowSets.{IsPutIf, PutsMarked, is_marked, mark_of}
-use Rattle.rows.specs.Words.{digits}
-use Rattle.rows.proofs.Digits.{digit_at, length-digits}
+use Rattle.words.specs.Words.{digits}
+use Rattle.words.proofs.Digits.{digit_at, length-digits}
 
 -- the mark of a row that has a number there, and of one that has none
 pub marked_is : (row : List ℕ) (place number : ℕ) (marks : List Bool) → place < length row → number ≡ get_or row place 0 → get_or marks number false ≡ is_marked place marks row

@@ -5,14 +5,14 @@ use Rattle.std.proofs.lemmas.List.{get_or-take, length-take, map_push, take-appe
 use Rattle.std.proofs.lemmas.Grind.{get_or_default_zero}
 use Rattle.std.proofs.lemmas.List.Elements.{Contains-append_left, Contains-push_cases}
 use Rattle.rows.specs.Lists.{items_of}
-use Rattle.rows.specs.RowSets.{IsPut}
-use Rattle.rows.specs.Words.{AreApart, ArePacked, IsWordOf, digits, rows_in, value}
+use Rattle.words.specs.Puts.{IsPut}
+use Rattle.words.specs.Words.{AreApart, ArePacked, IsWordOf, digits, rows_in, value}
 use Rattle.std.specs.Vec.{vec_len}
 use Rattle.std.proofs.Math.Nat.{mod-add-div, mul-zero, zero-mod}
 use Rattle.std.proofs.lemmas.Nat.{pow_pos}
 use Rattle.std.proofs.lemmas.Option.{get_or_from_slice_get, slice_get-map, slice_get_within}
-use Rattle.rows.proofs.Digits.{length-digits}
-use Rattle.rows.proofs.Without.{rest_exact}
+use Rattle.words.proofs.Digits.{length-digits}
+use Rattle.words.proofs.Removing.{rest_exact}
 use Rattle.rows.proofs.Elements.{Contains-head, Contains-tail, from_map, has_place, taken_more, to_map}
 
 module _ (bits long : ℕ) (row : List ℕ) (w : ℕ) (is_long : length row ≡ long) (is_word : IsWordOf (2 ^ bits) row w) where

@@ -1,11 +1,7 @@
--- Promise: how a thing is put with others, each of which is there once
-use Rattle.std.specs.Prelude.{◌≡◌, ◌⊎◌, ℕ, zero, suc, Bool, true, false, Option, Some, None, List, [], ◌∷◌, ◌++◌, get_or, slice_get}
-use Rattle.std.specs.List.{Contains, remove}
-
--- it is with the others: it was, or was put behind them
-abbrev pub IsPut : {X : Type 0} → X → List X → List X → Type 0
-IsPut thing old new =
-    (Contains old thing × (new ≡ old)) ⊎ ((¬ Contains old thing) × (new ≡ old ++ thing ∷ []))
+-- Promise: how the marked ones of some rows are put with others
+use Rattle.std.specs.Prelude.{◌≡◌, ℕ, zero, suc, Bool, true, false, Option, Some, None, List, [], get_or, slice_get}
+use Rattle.std.specs.List.{remove}
+use Rattle.words.specs.Puts.{IsPut}
 
 -- the row has a number at this place, and the number a mark: the marks are those of the numbers from 0 on
 abbrev pub mark_of : List Bool → Option ℕ → Bool

@@ -1,7 +1,7 @@
 //! Lists of numbers, none twice.
 ghost use Rattle.std.specs.Prelude.{◌≡◌, [], take, length, get_or, slice_get, option_copied, IfOk, OnOk, OnErr};
 ghost use Rattle.rows.specs.Lists.{lists_in};
-ghost use Rattle.rows.specs.RowSets.{IsPut};
+ghost use Rattle.words.specs.Puts.{IsPut};
 
 use crate::lists::Lists;
 use std::alloc::{AllocError, Global};

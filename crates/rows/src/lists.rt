@@ -3,7 +3,7 @@ ghost use Rattle.std.specs.Prelude.{◌≡◌, ◌≢◌, ◌<◌, [], map, take
 ghost use Rattle.std.specs.List.{Contains};
 ghost use Rattle.buckets.specs.Index.{Indexes, hash_bucket};
 ghost use Rattle.rows.specs.Lists.{AreLists, items_of, list_hash};
-ghost use Rattle.rows.specs.RowSets.{IsPut};
+ghost use Rattle.words.specs.Puts.{IsPut};
 
 use buckets::{Bucketed, Index, find, hash_of, index_hashes, put_behind};
 use std::alloc::{AllocError, Global};

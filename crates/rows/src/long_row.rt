@@ -1,10 +1,10 @@
 //! A row that is looked at and is more than half a word.
 ghost use Rattle.std.specs.Prelude.{◌≡◌, ◌↔◌, ◌*◌, ◌^◌, ◌≤◌, [], Some, IsTrue, get_or, slice_get, OnOk};
-ghost use Rattle.rows.specs.Words.{digits};
+ghost use Rattle.words.specs.Words.{digits};
 
-use crate::words::{first_of, has_zero_in_whole};
 use std::alloc::{AllocError, Global};
 use std::marker::Model;
+use words::{first_of, has_zero_in_whole};
 
 /// A row of numbers that stand in a whole word; where none stand there, each has a place in a list, whose memory is kept for the next one.
 #[derive(Drop)]
@@ -17,7 +17,7 @@ pub struct LongRow {
 
 impl Model for LongRow {
     ghost use Rattle.std.specs.Prelude.{List, ℕ};
-    ghost use Rattle.rows.specs.Words.{IsWhole, row_in};
+    ghost use Rattle.words.specs.Words.{IsWhole, row_in};
 
     ghost Value = { List ℕ };
 

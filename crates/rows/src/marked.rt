@@ -1,11 +1,10 @@
 //! Rows that are taken over from others, where their number at one place is marked.
 ghost use Rattle.std.specs.Prelude.{◌≡◌, ◌<◌, ◌+◌, ◌^◌, false, get_or, length, map, OnOk};
 ghost use Rattle.rows.specs.RowSets.{PutsMarked};
-ghost use Rattle.rows.specs.Words.{ArePacked, digits};
+ghost use Rattle.words.specs.Words.{ArePacked, digits};
 
-use crate::word_set::WordSet;
-use crate::words::{number_at, without};
 use std::alloc::AllocError;
+use words::{WordSet, number_at, without};
 
 /// Whether the number is marked: the marks have true for it, by place.
 pub(crate) fn has_mark(marks: &[bool], number: usize) -> bool

@@ -1,11 +1,11 @@
 //! A row that is looked at.
 ghost use Rattle.std.specs.Prelude.{◌≡◌, ◌↔◌, ◌*◌, ◌^◌, ◌≤◌, [], Some, IsTrue, get_or, slice_get, OnOk};
-ghost use Rattle.rows.specs.Words.{digits};
+ghost use Rattle.words.specs.Words.{digits};
 
 use crate::long_row::LongRow;
-use crate::words::{first_in_half, has_zero_in_half, largest_of};
 use std::alloc::{AllocError, Global};
 use std::marker::Model;
+use words::{first_in_half, has_zero_in_half, largest_of};
 
 /// A row of numbers that was read from where it stands. If it was half a word or a whole one, it is read there. Else each of its numbers
 /// has a place in a list, whose memory is kept for the next one.
@@ -19,7 +19,7 @@ pub struct Row {
 
 impl Model for Row {
     ghost use Rattle.std.specs.Prelude.{List, ℕ};
-    ghost use Rattle.rows.specs.Words.{IsHalf, row_in};
+    ghost use Rattle.words.specs.Words.{IsHalf, row_in};
 
     ghost Value = { List ℕ };
 

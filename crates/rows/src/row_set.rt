@@ -1,17 +1,17 @@
 //! Rows of numbers, each once.
 ghost use Rattle.std.specs.Prelude.{◌≡◌, ◌<◌, ◌≤◌, ◌*◌, ◌^◌, [], ◌∷◌, ◌++◌, true, false, Some, IsTrue, map, take, length, get_or, set, slice_get, IfOk, IfSome, OnOk, OnErr};
 ghost use Rattle.std.specs.List.{remove};
-ghost use Rattle.rows.specs.Words.{ArePacked, digits};
-ghost use Rattle.rows.specs.RowSets.{IsPut, PutsMarked, is_marked};
+ghost use Rattle.words.specs.Words.{ArePacked, digits};
+ghost use Rattle.words.specs.Puts.{IsPut};
+ghost use Rattle.rows.specs.RowSets.{PutsMarked, is_marked};
 
 use crate::list_set::ListSet;
 use crate::marked::{has_mark, put_marked_words};
 use crate::row::Row;
-use crate::word_set::WordSet;
-use crate::words::{changed, number_at, packed, unpack};
 use std::alloc::{AllocError, Global};
 use std::marker::Model;
 use std::mem::swap;
+use words::{WordSet, changed, number_at, packed, unpack};
 
 /// Rows of numbers, none twice, in the order in which they were put. As long as they have the expected length and small numbers, each is
 /// one word, at first half of it; else each is a list of its own.
@@ -31,7 +31,7 @@ pub struct RowSet {
 
 impl Model for RowSet {
     ghost use Rattle.std.specs.Prelude.{List, ℕ};
-    ghost use Rattle.rows.specs.Words.{ArePacked, rows_in};
+    ghost use Rattle.words.specs.Words.{ArePacked, rows_in};
 
     ghost Value = { List (List ℕ) };
 

@@ -2,7 +2,7 @@ use Rattle.std.proofs.Common.{◌<◌, ℕ, [], length, get_or, refl, ap, ◌∙
 use Rattle.std.proofs.lemmas.List.{take_all}
 use Rattle.std.proofs.lemmas.List.Elements.{Contains-get_or}
 use Rattle.std.proofs.lemmas.Option.{get_or_from_slice_get, slice_get-get_or, slice_get_within}
-use Rattle.rows.specs.RowSets.{IsPut}
+use Rattle.words.specs.Puts.{IsPut}
 use Rattle.ends.specs.EndSteps.{Along}
 use Rattle.ends.specs.Tables.{Shows, ShownWith, row_led, rows_of, with_rows}
 use Rattle.ends.proofs.Adding.{IsFront-trans}

@@ -3,7 +3,7 @@ use Rattle.std.proofs.lemmas.List.{take_all, length-map}
 use Rattle.ends.specs.KeptEnds.{end_kept}
 use Rattle.ends.specs.EndSteps.{Along}
 use Rattle.ends.specs.Tables.{IsThat, ShownWith, rows_of, with_rows}
-use Rattle.rows.specs.RowSets.{IsPut}
+use Rattle.words.specs.Puts.{IsPut}
 use Rattle.interned.proofs.Lists.{has_place, mapped_at}
 use Rattle.ends.proofs.Showing.{shown_after, shown_first, shown_none, widens_rows}
 use Rattle.ends.proofs.table.refill.Goals as goal

@@ -3,7 +3,7 @@ use Rattle.std.specs.Prelude.{Vec}
 use Rattle.std.specs.Global.{Global}
 use Rattle.std.proofs.lemmas.Bool.{true≢false}
 use Rattle.std.proofs.lemmas.Result.{on_ok_weaker}
-use Rattle.rows.specs.RowSets.{IsPut}
+use Rattle.words.specs.Puts.{IsPut}
 use Rattle.interned.specs.Numbers.{IsOnceIn}
 use Rattle.interned.proofs.Lists.{once_push}
 use Rattle.product_ends.specs.Conversion.{GoesOn, HasMore}

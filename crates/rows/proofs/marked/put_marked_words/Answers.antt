@@ -2,8 +2,8 @@ use Rattle.std.proofs.Common.{◌≡◌, ◌+◌, ◌^◌, ◌<◌, true, false,
 use Rattle.std.specs.List.{remove}
 use Rattle.std.proofs.lemmas.List.Edits.{length-remove}
 use Rattle.rows.specs.RowSets.{PutsMarked}
-use Rattle.rows.specs.Words.{ArePacked, digits}
-use Rattle.rows.proofs.Digits.{length-digits}
+use Rattle.words.specs.Words.{ArePacked, digits}
+use Rattle.words.proofs.Digits.{length-digits}
 use Rattle.rows.proofs.Marks.{marked_digit, puts_more}
 use Rattle.rows.proofs.Packing.{packed_still, put_word, row_there}
 use Rattle.rows.proofs.marked.put_marked_words.Goals as goal

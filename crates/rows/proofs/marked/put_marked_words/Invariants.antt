@@ -1,7 +1,7 @@
 -- So far the rows that are marked are put.
 use Rattle.std.proofs.Common.{◌^◌, ◌+◌, map}
 use Rattle.rows.specs.RowSets.{PutsMarked}
-use Rattle.rows.specs.Words.{ArePacked, digits}
+use Rattle.words.specs.Words.{ArePacked, digits}
 use Rattle.rows.proofs.marked.put_marked_words.Given as goal
 
 abbrev pub invariant-loop-at : goal.invariant-loop-at

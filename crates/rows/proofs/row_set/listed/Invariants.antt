@@ -1,5 +1,5 @@
 use Rattle.std.proofs.Common.{◌≡◌, ◌^◌, map, take}
-use Rattle.rows.specs.Words.{digits}
+use Rattle.words.specs.Words.{digits}
 use Rattle.rows.proofs.row_set.listed.Given as goal
 
 abbrev pub invariant-loop-at : goal.invariant-loop-at

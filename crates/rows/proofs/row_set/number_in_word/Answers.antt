@@ -1,6 +1,6 @@
 use Rattle.std.proofs.Common.{◌≡◌, ◌^◌, map, get_or, refl, ap, sym, ◌∙◌, arith}
-use Rattle.rows.specs.Words.{digits}
-use Rattle.rows.proofs.Digits.{digit_at, digit_none, no_digit}
+use Rattle.words.specs.Words.{digits}
+use Rattle.words.proofs.Digits.{digit_at, digit_none, no_digit}
 use Rattle.rows.proofs.Packing.{no_row, row_there}
 use Rattle.rows.proofs.row_set.number_in_word.Goals as goal
 

@@ -1,6 +1,6 @@
 use Rattle.std.proofs.Common.{◌^◌, map, length, sym, ap, ◌∙◌, arith}
-use Rattle.rows.specs.Words.{digits}
-use Rattle.rows.proofs.Digits.{length-digits}
+use Rattle.words.specs.Words.{digits}
+use Rattle.words.proofs.Digits.{length-digits}
 use Rattle.rows.proofs.Packing.{listed_more, packed_still, put_word}
 use Rattle.std.proofs.lemmas.Grind.{common_steps}
 use Rattle.rows.proofs.row_set.repacked.Goals as goal

@@ -1,6 +1,6 @@
 -- So far the rows are the same.
 use Rattle.std.proofs.Common.{◌≡◌, ◌^◌, map, take}
-use Rattle.rows.specs.Words.{ArePacked, digits}
+use Rattle.words.specs.Words.{ArePacked, digits}
 use Rattle.rows.proofs.row_set.repacked.Given as goal
 
 abbrev pub invariant-loop-at : goal.invariant-loop-at

@@ -1,9 +1,9 @@
 use Rattle.std.proofs.Common.{◌^◌, map, length, set, sym, ap, ◌∙◌, subst, arith}
 use Rattle.std.proofs.lemmas.List.{length-set}
 use Rattle.std.proofs.lemmas.Result.{on_ok_weaker}
-use Rattle.rows.specs.RowSets.{IsPut}
-use Rattle.rows.specs.Words.{digits, rows_in}
-use Rattle.rows.proofs.Digits.{length-digits}
+use Rattle.words.specs.Puts.{IsPut}
+use Rattle.words.specs.Words.{digits, rows_in}
+use Rattle.words.proofs.Digits.{length-digits}
 use Rattle.rows.proofs.Packing.{packed_after, put_word, row_there, shows_words}
 use Rattle.std.proofs.lemmas.Grind.{common_steps}
 use Rattle.rows.proofs.row_set.RowSet.put_next.Goals as goal

@@ -1,6 +1,6 @@
 use Rattle.std.proofs.Common.{◌^◌, map, sym, ◌∙◌, subst}
-use Rattle.rows.specs.RowSets.{IsPut}
-use Rattle.rows.specs.Words.{digits, rows_in}
+use Rattle.words.specs.Puts.{IsPut}
+use Rattle.words.specs.Words.{digits, rows_in}
 use Rattle.rows.proofs.Packing.{put_word, shows_words}
 use Rattle.rows.proofs.row_set.RowSet.put_packed.Goals as goal
 

@@ -1,6 +1,6 @@
 use Rattle.std.proofs.Common.{◌^◌, map, take, ap, sym, ◌∙◌}
 use Rattle.std.specs.List.{take-map}
-use Rattle.rows.specs.Words.{digits}
+use Rattle.words.specs.Words.{digits}
 use Rattle.rows.proofs.Packing.{shows_words}
 use Rattle.rows.proofs.row_set.RowSet.truncate.Goals as goal
 

@@ -1,6 +1,0 @@
-use Rattle.std.proofs.Common.{◌^◌, length}
-use Rattle.rows.proofs.Digits.{AreRead}
-use Rattle.rows.proofs.words.unpack_whole.Given as goal
-
-abbrev pub invariant-loop-place : goal.invariant-loop-place
-invariant-loop-place l = AreRead (2 ^ l.bits) l.word (length l.initial.row) l.place l.rest l.row
