@@ -4,7 +4,7 @@ use models::each_kind;
 use onlookers::each_hint;
 
 /// The program's version, and the logic in which it is proved: the last two words that `rt version` prints.
-pub const VERSION: &str = "1.5.0
+pub const VERSION: &str = "1.6.0
 logic dac8208d650f15bf";
 
 pub const ABOUT: &str = "Judges whether what clients saw of a store is linearizable";
