@@ -18,10 +18,10 @@ pub enum Remark {
         name: Name,
         meant: Option<ModelKind>,
     },
-    /// The budget of the key did not suffice. A wide kind of the same object may do with it.
+    /// The budget of the key did not suffice. Another kind of the same object may do with it.
     Blown {
         key: Key,
-        wide: Option<ModelKind>,
+        kind: ModelKind,
     },
 }
 
@@ -56,10 +56,10 @@ pub fn remark_on(monitor: &Monitor, verdict: &Verdict) -> Option<Remark> {
     match verdict {
         Verdict::Legal => None,
         Verdict::Illegal { key, index } => none_of_the_kind(monitor, *key, *index),
-        Verdict::Unknown { key, .. } => Some(Remark::Blown {
-            key: *key,
-            wide: wide_kind(monitor, *key),
-        }),
+        Verdict::Unknown { key, .. } => {
+            let kind = kind_of(monitor, *key)?;
+            Some(Remark::Blown { key: *key, kind })
+        }
     }
 }
 
@@ -84,13 +84,22 @@ fn none_of_the_kind(monitor: &Monitor, key: Key, index: u32) -> Option<Remark> {
     })
 }
 
-// The kind of the key's object of which fewer ends are counted, if there is one.
-fn wide_kind(monitor: &Monitor, key: Key) -> Option<ModelKind> {
-    match kind_of(monitor, key)? {
+// What the budget of a key of this kind limits.
+fn counted(kind: ModelKind) -> &'static str {
+    match kind {
+        ModelKind::WideRegister => "lean ends",
+        ModelKind::WideCasRegister => "fronts",
+        _ => "ends",
+    }
+}
+
+// The wide kind of a plain kind's object, if there is one.
+fn wide_kind(kind: ModelKind) -> Option<ModelKind> {
+    match kind {
         ModelKind::Register => Some(ModelKind::WideRegister),
         ModelKind::CasRegister => Some(ModelKind::WideCasRegister),
-        ModelKind::Set => Some(ModelKind::WideSet),
         ModelKind::FifoQueue => Some(ModelKind::WideFifoQueue),
+        ModelKind::Set => Some(ModelKind::WideSet),
         ModelKind::UnorderedQueue => Some(ModelKind::WideUnorderedQueue),
         _ => None,
     }
@@ -136,9 +145,19 @@ impl fmt::Display for Remark {
                     None => Ok(()),
                 }
             }
-            Remark::Blown { key, wide } => {
-                write!(f, "key {key} has more ends than its budget: ")?;
-                if let Some(wide) = wide {
+            Remark::Blown {
+                key,
+                kind: ModelKind::WideFifoQueue,
+            } => {
+                write!(
+                    f,
+                    "two enqueues of one value to key {key} did not fail: take the model fifo-queue, or enqueue each value once",
+                )
+            }
+            Remark::Blown { key, kind } => {
+                let counted = counted(*kind);
+                write!(f, "key {key} has more {counted} than its budget: ")?;
+                if let Some(wide) = wide_kind(*kind) {
                     let wide = wide.name();
                     write!(f, "take the model {wide}, ")?;
                 }
