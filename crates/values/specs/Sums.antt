@@ -11,14 +11,16 @@ use Rattle.values.specs.Multisets.{NeverFalls}
 unfoldable pub folded : ℕ → ℕ
 folded n = bit_xor ((bit_xor n 2685821657736338717 * 11400714819323198485) % 2 ^ 64) ((bit_xor n 2685821657736338717 * 11400714819323198485) % 2 ^ 64 / 2 ^ 32)
 
--- the product of that with its second mixing, each greater by 2^64, so that neither is zero
-unfoldable pub product : ℕ → ℕ
-product n = (((folded n + 2 ^ 64) % 2 ^ 128)
-    * (((bit_xor (folded n) 11507291218515648293 * 15485907386658061715) % 2 ^ 64 + 2 ^ 64) % 2 ^ 128)) % 2 ^ 128
+-- the same once more, with other factors
+unfoldable pub turned : ℕ → ℕ
+turned n = bit_xor ((bit_xor n 11507291218515648293 * 15485907386658061715) % 2 ^ 64) ((bit_xor n 11507291218515648293 * 15485907386658061715) % 2 ^ 64 / 2 ^ 32)
 
--- a number spread over 128 bits: the product, its upper half laid over the lower one
+unfoldable pub product : ℕ → ℕ
+product n = (folded n * turned (folded n)) % 2 ^ 128
+
+-- a number spread over 128 bits: the lower half is the number mixed twice, the upper half comes from the product of both mixings
 unfoldable pub spread : ℕ → ℕ
-spread n = bit_xor (product n) (product n / 2 ^ 64)
+spread n = (((bit_xor (product n) (product n / 2 ^ 64) + folded n) % 2 ^ 128 * 2 ^ 64) % 2 ^ 128 + turned (folded n)) % 2 ^ 128
 
 unfoldable pub mixed : ℤ → ℕ
 mixed v = spread (cast_unsigned w64 v)

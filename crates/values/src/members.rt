@@ -65,18 +65,21 @@ impl Listed {
     }
 }
 
-// The summand of a value in the sum of its set, its multiset or its queue. It is a number that is spread over 128 bits, so that few have
-// the same sum, also if somebody has chosen the values for that. Neither factor is zero, as one of them would be for two values.
+// The summand of a value in the sum of its set, its multiset or its queue. It is a number that is spread over 128 bits, so that few lists
+// have the same sum, also if somebody has chosen the values for that. Its lower half is the value itself, mixed by steps that can be
+// undone. So different values have different lower halves, and at any two places of a queue their weighed summands differ too.
 pub(crate) fn mixed(value: i64) -> u128
     ensures { result ≡ mixed value }
 {
     let lower = (value.cast_unsigned() ^ 0x2545_f491_4f6c_dd1d).wrapping_mul(0x9e37_79b9_7f4a_7c15);
     let folded = lower ^ (lower >> 32);
-    let turned = (folded ^ 0x9fb2_1c65_1e98_df25).wrapping_mul(0xd6e8_feb8_6659_fd93);
-    let product = (folded as u128)
-        .wrapping_add(1 << 64)
-        .wrapping_mul((turned as u128).wrapping_add(1 << 64));
-    product ^ (product >> 64)
+    let upper = (folded ^ 0x9fb2_1c65_1e98_df25).wrapping_mul(0xd6e8_feb8_6659_fd93);
+    let turned = upper ^ (upper >> 32);
+    let product = (folded as u128).wrapping_mul(turned as u128);
+    (product ^ (product >> 64))
+        .wrapping_add(folded as u128)
+        .wrapping_mul(1 << 64)
+        .wrapping_add(turned as u128)
 }
 
 // The sum of the values' summands, up to a multiple of 2^128.
