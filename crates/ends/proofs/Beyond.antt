@@ -12,13 +12,13 @@ use Rattle.linspec.specs.Ends.{End}
 use Rattle.linspec.proofs.Filters.{from_map}
 use Rattle.linspec.proofs.Lists.{Contains-head, Contains-nil, Contains-cons_cases}
 use Rattle.linspec.proofs.Steps.{in_listed}
-use Rattle.ends.specs.declared.pending_op.PendingOp.{PendingOp}
-use Rattle.ends.specs.declared.table.Table.{Table}
-use Rattle.ends.specs.EndSteps.{Grows, IsReached, ReachesMoreThan, TakesLast, is_in, with_call}
-use Rattle.ends.specs.Tables.{Shows, found_by}
-use Rattle.ends.proofs.Leading.{takes}
-use Rattle.ends.proofs.Reaching.{closed_has, reached_next}
-use Rattle.ends.proofs.Rows.{not_in_by, with_state, zero_none}
+use Rattle.moves.specs.declared.pending_op.PendingOp.{PendingOp}
+use Rattle.moves.specs.declared.table.Table.{Table}
+use Rattle.moves.specs.EndSteps.{Grows, IsReached, ReachesMoreThan, TakesLast, is_in, with_call}
+use Rattle.moves.specs.Tables.{Shows, found_by}
+use Rattle.moves.proofs.Leading.{takes}
+use Rattle.moves.proofs.Reaching.{closed_has, reached_next}
+use Rattle.moves.proofs.Rows.{not_in_by, with_state, zero_none}
 
 -- if f is different for different elements, its results have no repeats
 mapped_once : {X Y : Type 0} (f : X → Y) (xs : List X) → AllPairs (λ x y. f x ≢ f y) xs → Pairwise (λ d e. d ≢ e) (map f xs)

@@ -12,13 +12,13 @@ use Rattle.linspec.specs.Ends.{End}
 use Rattle.linspec.proofs.Filters.{filter-no, filter-yes, from_filter}
 use Rattle.linspec.proofs.Lists.{Contains-cons_cases, Contains-head, Contains-nil, Contains-tail}
 use Rattle.linspec.proofs.FinLaws.{get-remove_other}
-use Rattle.ends.specs.declared.pending_op.PendingOp.{PendingOp}
-use Rattle.ends.specs.declared.table.Table.{Table}
-use Rattle.ends.specs.EndSteps.{Adds, Along, AreClosed, Fails, IsReached, Next, Settles, TakesLast, is_in, is_other, settled, with_call}
-use Rattle.ends.specs.Tables.{HasEachOnce, IsThat, ShownWith, found_in_end}
-use Rattle.ends.proofs.JustInTime.{commute}
-use Rattle.ends.proofs.Reaching.{reached_itself, reached_next}
-use Rattle.ends.proofs.Rows.{not_in_by, not_told, told_without, with_state}
+use Rattle.moves.specs.declared.pending_op.PendingOp.{PendingOp}
+use Rattle.moves.specs.declared.table.Table.{Table}
+use Rattle.moves.specs.EndSteps.{Adds, Along, AreClosed, Fails, IsReached, Next, Settles, TakesLast, is_in, is_other, settled, with_call}
+use Rattle.moves.specs.Tables.{HasEachOnce, IsThat, ShownWith, found_in_end}
+use Rattle.moves.proofs.JustInTime.{commute}
+use Rattle.moves.proofs.Reaching.{reached_itself, reached_next}
+use Rattle.moves.proofs.Rows.{not_in_by, not_told, told_without, with_state}
 use Rattle.interned.proofs.Lists.{get_front, has_place, one_of, some_at}
 use Rattle.ends.proofs.Starting.{back, to}
 

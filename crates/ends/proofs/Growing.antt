@@ -4,12 +4,13 @@ use Rattle.std.specs.List.{Contains}
 use Rattle.std.proofs.Math.Nat.{mul-le-mul_left}
 use Rattle.models.specs.Objects.{Object}
 use Rattle.linspec.specs.Ends.{End}
-use Rattle.ends.specs.declared.pending_op.PendingOp.{PendingOp}
+use Rattle.moves.specs.declared.pending_op.PendingOp.{PendingOp}
 use Rattle.std.specs.declared.alloc.AllocError.{AllocError}
-use Rattle.ends.specs.declared.table.Table.{Table}
-use Rattle.ends.specs.EndSteps.{Adds, AreClosed, Grows, IsReached, Next}
-use Rattle.ends.specs.Tables.{AreShown, Asked, FindsLeft, HasEachOnce, IsAdvanced, IsLeft, ReachesOver, ShownGrown, rows_of}
-use Rattle.ends.proofs.Reaching.{closed_has, reached_itself}
+use Rattle.moves.specs.declared.table.Table.{Table}
+use Rattle.moves.specs.EndSteps.{Adds, AreClosed, Grows, IsReached, Next}
+use Rattle.moves.specs.Tables.{AreShown, HasEachOnce, rows_of}
+use Rattle.ends.specs.Oks.{Asked, FindsLeft, IsAdvanced, IsLeft, ReachesOver, ShownGrown}
+use Rattle.moves.proofs.Reaching.{closed_has, reached_itself}
 
 pub Grows-itself : (o : Object) (calls : List PendingOp) (ends : List (End o.State)) → Grows o calls ends ends
 Grows-itself o calls ends = record { kept = λ e h. h; reached = λ e h. reached_itself o calls ends e h; once = λ h. h }

@@ -12,13 +12,14 @@ use Rattle.linspec.specs.Ends.{End}
 use Rattle.rows.specs.RowSets.{IsPutIf, PutsMarked, is_marked, mark_of}
 use Rattle.interned.specs.Numbers.{IsSlot}
 use Rattle.interned.proofs.Lists.{one_of}
-use Rattle.ends.specs.declared.pending_op.PendingOp.{PendingOp}
-use Rattle.ends.specs.declared.table.Table.{Table}
-use Rattle.ends.specs.EndSteps.{Along, Fails, FitsAt, IsOut, Settles, is_other, settled}
-use Rattle.ends.specs.Tables.{AreMarksOf, AreShown, HasEachOnce, IsOpenAt, Shows, ShownWith, rows_of, with_rows}
-use Rattle.ends.proofs.Adding.{Adds-skip}
+use Rattle.moves.specs.declared.pending_op.PendingOp.{PendingOp}
+use Rattle.moves.specs.declared.table.Table.{Table}
+use Rattle.moves.specs.EndSteps.{Along, Fails, FitsAt, IsOut, Settles, is_other, settled}
+use Rattle.moves.specs.Tables.{AreShown, HasEachOnce, IsOpenAt, Shows, ShownWith, rows_of, with_rows}
+use Rattle.ends.specs.Oks.{AreMarksOf}
+use Rattle.moves.proofs.Adding.{Adds-skip}
 use Rattle.ends.proofs.Settling.{out_by_zero, says_without, settled_out, told_open, zero_by_out}
-use Rattle.ends.proofs.Showing.{end_at, shown_after, shown_first, shown_no_rows, widens_itself, widens_rows}
+use Rattle.moves.proofs.Showing.{end_at, shown_after, shown_first, shown_no_rows, widens_itself, widens_rows}
 
 -- one more end that leaves nothing
 shown_less : {S : Type 0} (calls : List PendingOp) (t : Table S) (R : End S → End S → Type 0) (ends : List (End S)) (i : ℕ) (e : End S) → slice_get ends i ≡ Some e → ((f : End S) → ¬ R e f) → ShownWith t calls [] (Along R (take i ends))

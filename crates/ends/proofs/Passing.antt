@@ -7,19 +7,19 @@ use Rattle.models.specs.declared.operation.Op.{Op}
 use Rattle.models.specs.Objects.{Object, of_table}
 use Rattle.linspec.specs.Ends.{End}
 use Rattle.linspec.proofs.Lists.{Contains-nil}
-use Rattle.ends.specs.declared.moves.Known.{Known}
-use Rattle.ends.specs.declared.moves.Move.TheVariants.{Nowhere}
-use Rattle.ends.specs.declared.pending_op.PendingOp.{PendingOp}
-use Rattle.ends.specs.declared.table.Table.{Table}
-use Rattle.ends.specs.EndSteps.{Next, TakesLast}
-use Rattle.ends.specs.Moves.{AreMoves, IsStuck}
-use Rattle.ends.specs.Tables.{Shows, ShownWith}
+use Rattle.moves.specs.declared.moves.Known.{Known}
+use Rattle.moves.specs.declared.moves.Move.TheVariants.{Nowhere}
+use Rattle.moves.specs.declared.pending_op.PendingOp.{PendingOp}
+use Rattle.moves.specs.declared.table.Table.{Table}
+use Rattle.moves.specs.EndSteps.{Next, TakesLast}
+use Rattle.moves.specs.Moves.{AreMoves, IsStuck}
+use Rattle.moves.specs.Tables.{Shows, ShownWith}
 use Rattle.interned.proofs.Lists.{some_at}
-use Rattle.ends.proofs.Adding.{Adds-none, IsFront-itself}
-use Rattle.ends.proofs.Leading.{led_nowhere}
-use Rattle.ends.proofs.Moving.{alike_to, known_does}
-use Rattle.ends.proofs.Rows.{in_unless}
-use Rattle.ends.proofs.Showing.{next_there}
+use Rattle.moves.proofs.Adding.{Adds-none, IsFront-itself}
+use Rattle.moves.proofs.Leading.{led_nowhere}
+use Rattle.moves.proofs.Moving.{alike_to, known_does}
+use Rattle.moves.proofs.Rows.{in_unless}
+use Rattle.moves.proofs.Showing.{next_there}
 
 -- n equal calls from one place on
 module _ (o : Object) (calls : List PendingOp) (e : End o.State) (ends : List (End o.State)) (from : ℕ) (t : Table o.State) where

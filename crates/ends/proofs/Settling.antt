@@ -12,18 +12,18 @@ use Rattle.linspec.specs.Ends.{End}
 use Rattle.linspec.proofs.Filters.{filter-no, filter-yes, from_filter, to_filter}
 use Rattle.linspec.proofs.Lists.{Contains-head, Contains-tail}
 use Rattle.linspec.proofs.FinLaws.{get-remove_same, get-remove_other}
-use Rattle.ends.specs.declared.pending_op.PendingOp.{PendingOp}
-use Rattle.ends.specs.declared.table.Table.{Table}
-use Rattle.ends.specs.EndSteps.{Adds, Along, FitsAt, IsOut, Settles, is_other, settled}
-use Rattle.ends.specs.KeptEnds.{IsIncluded}
-use Rattle.ends.specs.Tables.{AreShown, HasEachOnce, IsOpenAt, Says, found_by, found_in_end}
+use Rattle.moves.specs.declared.pending_op.PendingOp.{PendingOp}
+use Rattle.moves.specs.declared.table.Table.{Table}
+use Rattle.moves.specs.EndSteps.{Adds, Along, FitsAt, IsOut, Settles, is_other, settled}
+use Rattle.moves.specs.KeptEnds.{IsIncluded}
+use Rattle.moves.specs.Tables.{AreShown, HasEachOnce, IsOpenAt, Says, found_by, found_in_end}
 use Rattle.interned.specs.Numbers.{IsSlot}
-use Rattle.ends.proofs.Adding.{Adds-none}
-use Rattle.ends.proofs.Rows.{not_in_by, not_told, other_ids, told_pending, zero_none}
-use Rattle.ends.proofs.Changes.{same_parts}
+use Rattle.moves.proofs.Adding.{Adds-none}
+use Rattle.moves.proofs.Rows.{not_in_by, not_told, other_ids, told_pending, zero_none}
+use Rattle.moves.proofs.Changes.{same_parts}
 use Rattle.std.specs.Cmp.{nat_cmp_total}
 use Rattle.interned.proofs.Lists.{clash, has_place, one_of, place_of}
-use Rattle.ends.proofs.Showing.{end_here}
+use Rattle.moves.proofs.Showing.{end_here}
 
 module _ {S : Type 0} (calls : List PendingOp) where
   -- the answer of an open call in the end

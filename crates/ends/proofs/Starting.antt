@@ -4,9 +4,9 @@ use Rattle.std.specs.List.{Contains}
 use Rattle.models.specs.Objects.{Object}
 use Rattle.linspec.specs.Ends.{End}
 use Rattle.linspec.proofs.Lists.{Contains-nil}
-use Rattle.ends.specs.declared.pending_op.PendingOp.{PendingOp}
-use Rattle.ends.specs.EndSteps.{Adds, Along}
-use Rattle.ends.specs.Tables.{IsThat}
+use Rattle.moves.specs.declared.pending_op.PendingOp.{PendingOp}
+use Rattle.moves.specs.EndSteps.{Adds, Along}
+use Rattle.moves.specs.Tables.{IsThat}
 
 module _ (o : Object) (calls : List PendingOp) (ends first : List (End o.State)) (adds : Adds (Along IsThat ends) [] first) where
   pub to : (e : End o.State) → Contains ends e → Contains first e

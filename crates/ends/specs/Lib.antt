@@ -1,5 +1,1 @@
-pub mod KeptEnds
-pub mod EndSteps
-pub mod Tables
-pub mod Notes
-pub mod Moves
+pub mod Oks

@@ -2,17 +2,16 @@
 ghost use Rattle.std.specs.Prelude.{◌≡◌, ◌↔◌, ◌<◌, ◌+◌, ℕ, List, [], IsTrue, false, None, map, length};
 ghost use Rattle.std.specs.Prelude.{IfOk, OnOk, IfSome};
 ghost use Rattle.linspec.specs.Ends.{End};
-ghost use Rattle.ends.specs.KeptEnds.{end_kept};
+ghost use Rattle.moves.specs.KeptEnds.{end_kept};
 ghost use Rattle.std.specs.List.{filter};
-ghost use Rattle.ends.specs.EndSteps.{Fails, Along, after_crash, is_other};
-ghost use Rattle.ends.specs.Tables.{AreMarksOf, AreShown, HasEachOnce, IsLeft, IsOpenAt, ShownWith, asked_by, with_rows};
+ghost use Rattle.moves.specs.EndSteps.{Fails, Along, after_crash, is_other};
+ghost use Rattle.moves.specs.Tables.{AreShown, HasEachOnce, IsOpenAt, ShownWith, with_rows};
+ghost use Rattle.ends.specs.Oks.{AreMarksOf, IsLeft, asked_by};
 
-use crate::kept_end::{KeptEnd, copy_of};
-use crate::pending_op::PendingOp;
 use crate::returning::Returning;
-use crate::table::{self, Table};
 use interned::Founds;
 use models::{Answer, SeqObject, finding};
+use moves::{KeptEnd, PendingOp, Table, copy_of};
 use rows::RowSet;
 use std::alloc::{AllocError, Global};
 use std::hash::Hash;

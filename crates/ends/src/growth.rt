@@ -3,17 +3,18 @@ ghost use Rattle.std.specs.Prelude.{◌≡◌, ℕ, ◌+◌, ◌<◌, ◌≤◌,
 ghost use Rattle.std.specs.Prelude.{List, [], ◌∷◌, get_or, length, slice_get, Some, IfOk, OnOk};
 ghost use Rattle.models.specs.Objects.{of_table};
 ghost use Rattle.linspec.specs.Ends.{End};
-ghost use Rattle.ends.specs.Moves.{AreAlike, AreMoves, IsAlike, IsKnown, KeepMoves, targets_of};
-ghost use Rattle.ends.specs.EndSteps.{AreClosed, TakesLast, Next, ReachesMoreThan, is_in};
-ghost use Rattle.ends.specs.Tables.{AreShown, FindsLeft, HasEachOnce, OnlyAdds, OnlyPuts, OnlyTries, PutsLed, ReachesOver, ShownGrown};
-ghost use Rattle.ends.specs.Tables.{ShownWith, Shows, asked_by, most_steps, rows_of, with_rows};
+ghost use Rattle.moves.specs.Moves.{AreAlike, AreMoves, IsAlike, IsKnown, KeepMoves, targets_of};
+ghost use Rattle.moves.specs.EndSteps.{AreClosed, TakesLast, Next, ReachesMoreThan, is_in};
+ghost use Rattle.moves.specs.Tables.{AreShown, HasEachOnce, OnlyAdds, OnlyTries};
+ghost use Rattle.ends.specs.Oks.{FindsLeft, OnlyPuts, PutsLed, ReachesOver, ShownGrown};
+ghost use Rattle.moves.specs.Tables.{ShownWith, Shows, rows_of, with_rows};
+ghost use Rattle.ends.specs.Oks.{asked_by, most_steps};
 
 use crate::after;
-use crate::moves::{self, Attempt, Move, Moves};
-use crate::pending_op::PendingOp;
 use crate::returning::Returning;
-use crate::table::{self, Table};
 use models::SeqObject;
+use moves::table::{self, Table};
+use moves::{Attempt, Move, Moves, PendingOp};
 use rows::{Row, RowSet};
 use std::alloc::{AllocError, Global};
 use std::hash::Hash;

@@ -11,19 +11,13 @@
 #![tactic(auto)]
 
 mod after;
-mod copies;
 mod growth;
-mod kept_end;
-mod moves;
-mod notes;
-mod pending_op;
 mod returning;
-mod table;
 
 pub use after::{crashed_ends, failed, mark_fitting, place_of_open};
-pub use copies::{copied, copied_whole};
 pub use growth::{Room, advance};
-pub use kept_end::KeptEnd;
-pub use pending_op::{PendingOp, copy_calls, crash_call, drop_call, is_read};
+pub use moves::{
+    KeptEnd, PendingOp, Table, clear, copied, copied_whole, copy_calls, crash_call, drop_call,
+    empty, ends_of_table, is_read, refill, step, table_of_ends, told_by,
+};
 pub use returning::Returning;
-pub use table::{Table, clear, empty, ends_of_table, refill, step, table_of_ends, told_by};

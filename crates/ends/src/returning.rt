@@ -1,7 +1,7 @@
 //! What an ok asks.
 
-use crate::pending_op::PendingOp;
 use models::Answer;
+use moves::PendingOp;
 
 /// An open operation of a key that returns: the calls, its id and its answer. The first `tried` calls were tried on the kept ends, and the
 /// budget is the greatest number of ends just before it.

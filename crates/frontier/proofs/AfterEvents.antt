@@ -16,10 +16,10 @@ use Rattle.linspec.specs.Ends.{End, Leaves, IsEnd}
 use Rattle.linspec.proofs.Lists.{Contains-nil, Contains-head, Contains-cons_cases}
 use Rattle.linspec.proofs.Fates.{end_is}
 use Rattle.linspec.proofs.Completions.{ok_after, ok_before}
-use Rattle.ends.specs.declared.kept_end.KeptEnd.{KeptEnd}
-use Rattle.ends.specs.KeptEnds.{ArePending, end_kept, pending_in, crashed_in}
-use Rattle.ends.specs.EndSteps.{Settles, Along, Adds}
-use Rattle.ends.proofs.Changes.{same_parts}
+use Rattle.moves.specs.declared.kept_end.KeptEnd.{KeptEnd}
+use Rattle.moves.specs.KeptEnds.{ArePending, end_kept, pending_in, crashed_in}
+use Rattle.moves.specs.EndSteps.{Settles, Along, Adds}
+use Rattle.moves.proofs.Changes.{same_parts}
 use Rattle.frontier.proofs.TheEnds.{AreTheEnds}
 
 pub none_from : {X : Type 0} (r : Option X) → is_some r ≡ false → r ≡ None

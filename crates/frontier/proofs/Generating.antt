@@ -18,12 +18,12 @@ use Rattle.linspec.proofs.Filters.{from_map, to_map}
 use Rattle.linspec.proofs.Completions.{fail_after, fail_before, info_after_by, info_before_by}
 use Rattle.linspec.proofs.Reach.{Reaches, invoke_after, invoke_before}
 use Rattle.linspec.proofs.Fronts.{IsLinearizable-end}
-use Rattle.ends.specs.declared.pending_op.PendingOp.{PendingOp}
-use Rattle.ends.specs.KeptEnds.{ArePending}
-use Rattle.ends.specs.EndSteps.{Crashes, Fails, after_crash, is_in, Along, Adds, IsReached, ReachesMoreThan}
+use Rattle.moves.specs.declared.pending_op.PendingOp.{PendingOp}
+use Rattle.moves.specs.KeptEnds.{ArePending}
+use Rattle.moves.specs.EndSteps.{Crashes, Fails, after_crash, is_in, Along, Adds, IsReached, ReachesMoreThan}
 use Rattle.frontier.proofs.TheEnds.{AreTheEnds}
-use Rattle.ends.proofs.Reaching.{end_further, calls_of, reaches_of, reached_itself}
-use Rattle.ends.proofs.JustInTime.{Reaches-append, Reaches-new, Reaches-failed, Reaches-crashed, Reaches-aside, aside, none_before}
+use Rattle.moves.proofs.Reaching.{end_further, calls_of, reaches_of, reached_itself}
+use Rattle.moves.proofs.JustInTime.{Reaches-append, Reaches-new, Reaches-failed, Reaches-crashed, Reaches-aside, aside, none_before}
 use Rattle.frontier.proofs.AfterEvents.{none_from}
 
 -- each of them is an end, and each end is reached from one of them

@@ -16,13 +16,13 @@ use Rattle.linspec.specs.Ends.{End}
 use Rattle.linspec.proofs.FinLaws.{get-remove_same, get-remove_other, contains-insert_other}
 use Rattle.linspec.proofs.Filters.{to_filter, to_map}
 use Rattle.linspec.proofs.Lists.{Contains-nil, Contains-cons_cases}
-use Rattle.ends.specs.declared.pending_op.PendingOp.{PendingOp}
-use Rattle.ends.specs.declared.kept_end.KeptEnd.{KeptEnd}
-use Rattle.ends.specs.KeptEnds.{ArePending, AreIncluded, IsIncluded, crashed_in, end_kept, pending_in}
-use Rattle.ends.specs.EndSteps.{TakesLast, Next, ReachesIn, IsReached, Settles, settled, Crashes, crashed_if, is_other, crash_call, calls_after_crash, Along, Adds}
-use Rattle.ends.proofs.CallsInTurn.{crash_call-same, crash_call-other}
-use Rattle.ends.proofs.Changes.{same_parts}
-use Rattle.ends.proofs.Rows.{included_with}
+use Rattle.moves.specs.declared.pending_op.PendingOp.{PendingOp}
+use Rattle.moves.specs.declared.kept_end.KeptEnd.{KeptEnd}
+use Rattle.moves.specs.KeptEnds.{ArePending, AreIncluded, IsIncluded, crashed_in, end_kept, pending_in}
+use Rattle.moves.specs.EndSteps.{TakesLast, Next, ReachesIn, IsReached, Settles, settled, Crashes, crashed_if, is_other, crash_call, calls_after_crash, Along, Adds}
+use Rattle.moves.proofs.CallsInTurn.{crash_call-same, crash_call-other}
+use Rattle.moves.proofs.Changes.{same_parts}
+use Rattle.moves.proofs.Rows.{included_with}
 use Rattle.interned.proofs.Lists.{clash}
 
 stays : (calls : List PendingOp) (id : ℕ) (c : PendingOp) (q : ℕ) → Contains calls c → c.id ≡ q → q ≢ id → Contains (filter (is_other id) calls) c

@@ -9,19 +9,20 @@ use Rattle.linspec.specs.Operations.{IsOpen}
 use Rattle.linspec.specs.Orders.{Pairwise}
 use Rattle.linspec.specs.Ends.{End, HasMoreThan}
 use Rattle.linspec.proofs.Counts.{more_ends}
-use Rattle.ends.specs.declared.pending_op.PendingOp.{PendingOp}
+use Rattle.moves.specs.declared.pending_op.PendingOp.{PendingOp}
 use Rattle.frontier.specs.declared.frontier.Frontier.{Frontier}
-use Rattle.ends.specs.declared.table.Table.{Table}
-use Rattle.ends.specs.declared.kept_end.KeptEnd.{KeptEnd}
-use Rattle.ends.specs.KeptEnds.{AreIncluded, ArePending, end_kept}
-use Rattle.ends.specs.EndSteps.{Along, AreClosed, Fails, ReachesMoreThan, is_other}
+use Rattle.moves.specs.declared.table.Table.{Table}
+use Rattle.moves.specs.declared.kept_end.KeptEnd.{KeptEnd}
+use Rattle.moves.specs.KeptEnds.{AreIncluded, ArePending, end_kept}
+use Rattle.moves.specs.EndSteps.{Along, AreClosed, Fails, ReachesMoreThan, is_other}
 use Rattle.frontier.specs.Kept.{IsListed, Lists, StandsFor, table_of}
 use Rattle.judging.specs.Meaning.{Keeps, StepsOfOk}
-use Rattle.ends.specs.Tables.{AreShown, Asked, HasEachOnce, IsAdvanced, IsOpenAt, ShownWith}
+use Rattle.moves.specs.Tables.{AreShown, HasEachOnce, IsOpenAt, ShownWith}
+use Rattle.ends.specs.Oks.{Asked, IsAdvanced}
 use Rattle.frontier.proofs.AfterEvents.{ends_after_ok}
 use Rattle.ends.proofs.Closing.{among_front, closed_after_fail, closed_after_ok, closed_fewer, one_fewer}
 use Rattle.ends.proofs.Growing.{cost_within}
-use Rattle.ends.proofs.Showing.{included_shown}
+use Rattle.moves.proofs.Showing.{included_shown}
 use Rattle.frontier.proofs.Generating.{Generates, all_found, generates_after_fail, generates_all, more_found}
 use Rattle.frontier.proofs.Including.{included_after_ok, included_all}
 use Rattle.frontier.proofs.Pending.{AreOnce, calls_after_fail, calls_after_ok, no_more_calls, once_without, open_at}

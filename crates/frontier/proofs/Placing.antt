@@ -5,9 +5,9 @@ use Rattle.std.specs.Global.{Box}
 use Rattle.models.specs.Objects.{Object, ReadsLeave}
 use Rattle.events.specs.Events.{Mark}
 use Rattle.events.specs.Events.Mark.{Invoked}
-use Rattle.ends.specs.KeptEnds.{AreIncluded, ArePending}
-use Rattle.ends.specs.EndSteps.{AreClosed}
-use Rattle.ends.specs.Tables.{AreShown, rows_of, with_rows}
+use Rattle.moves.specs.KeptEnds.{AreIncluded, ArePending}
+use Rattle.moves.specs.EndSteps.{AreClosed}
+use Rattle.moves.specs.Tables.{AreShown, rows_of, with_rows}
 use Rattle.ends.proofs.Closing.{tried_still}
 use Rattle.products.specs.Products.{Family, rows_in}
 use Rattle.frontier.specs.declared.product_form.ProductForm.{ProductForm}

@@ -11,12 +11,12 @@ use Rattle.frontier.specs.declared.change.Change.TheVariants.{Nothing, Invoked a
 use Rattle.frontier.specs.declared.change.Fresh.{Fresh}
 use Rattle.frontier.specs.declared.frontier.Frontier.{Frontier}
 use Rattle.judging.specs.declared.step.Step.{Step}
-use Rattle.ends.specs.declared.pending_op.PendingOp.{PendingOp}
-use Rattle.ends.specs.declared.table.Table.{Table}
+use Rattle.moves.specs.declared.pending_op.PendingOp.{PendingOp}
+use Rattle.moves.specs.declared.table.Table.{Table}
 use Rattle.judging.specs.Meaning.{Commits, Costs, FrontierView, IsReturn, Keeps, Observes, Prepares, StepsOfOk, TakesAlways}
 use Rattle.frontier.specs.Kept.{IsIdle, IsListed, IsOf, Lists, ListsBut, Makes, StandsFor, StandsWith, WillStandFor, table_of}
-use Rattle.ends.specs.Tables.{AreShown, Widens, rows_of}
-use Rattle.ends.proofs.Showing.{shown_more}
+use Rattle.moves.specs.Tables.{AreShown, Widens, rows_of}
+use Rattle.moves.proofs.Showing.{shown_more}
 use Rattle.frontier.proofs.Standing.{stands_too}
 
 module _ {M : Type 0} (o : Object) (f g : Frontier M o.State) where

@@ -9,10 +9,10 @@ use Rattle.linspec.specs.Orders.{Pairwise}
 use Rattle.linspec.proofs.Lists.{Contains-nil}
 use Rattle.interned.specs.Numbers.{IsOnceIn}
 use Rattle.interned.proofs.Lists.{has_place, one_of}
-use Rattle.ends.specs.declared.pending_op.PendingOp.{PendingOp}
-use Rattle.ends.specs.declared.table.Table.{Table}
-use Rattle.ends.specs.EndSteps.{Along, AreClosed}
-use Rattle.ends.specs.Tables.{AreShown, IsThat, ShownWith, rows_of, with_rows}
+use Rattle.moves.specs.declared.pending_op.PendingOp.{PendingOp}
+use Rattle.moves.specs.declared.table.Table.{Table}
+use Rattle.moves.specs.EndSteps.{Along, AreClosed}
+use Rattle.moves.specs.Tables.{AreShown, IsThat, ShownWith, rows_of, with_rows}
 use Rattle.products.specs.Products.{IsInOne, rows_in}
 use Rattle.product_ends.proofs.RowsIn.{contains_rows_in}
 use Rattle.product_ends.proofs.Saying.{reordered}

@@ -3,16 +3,16 @@ use Rattle.std.proofs.Common.{◌≡◌, ◌≢◌, ◌↔◌, ℕ, ◌+◌, ◌
 use Rattle.models.specs.Objects.{Object}
 use Rattle.events.specs.Events.{Mark}
 use Rattle.linspec.specs.Orders.{Pairwise}
-use Rattle.ends.specs.declared.pending_op.PendingOp.{PendingOp}
-use Rattle.ends.specs.declared.kept_end.KeptEnd.{KeptEnd}
+use Rattle.moves.specs.declared.pending_op.PendingOp.{PendingOp}
+use Rattle.moves.specs.declared.kept_end.KeptEnd.{KeptEnd}
 use Rattle.frontier.specs.declared.frontier.Frontier.{Frontier}
 use Rattle.judging.specs.declared.step.Step.{Step}
 use Rattle.judging.specs.declared.step.Step.TheVariants.{Alive, Dead, Over}
-use Rattle.ends.specs.KeptEnds.{AreIncluded, ArePending, IsIncluded, IsWellKept, end_kept}
-use Rattle.ends.specs.Tables.{AreShown, IsThat, Says, Shows, ShownWith, found_by, rows_of, with_rows}
+use Rattle.moves.specs.KeptEnds.{AreIncluded, ArePending, IsIncluded, IsWellKept, end_kept}
+use Rattle.moves.specs.Tables.{AreShown, IsThat, Says, Shows, ShownWith, found_by, rows_of, with_rows}
 use Rattle.interned.specs.Numbers.{IsSlot}
-use Rattle.ends.specs.declared.table.Table.{Table}
-use Rattle.ends.proofs.Showing.{included_shown}
+use Rattle.moves.specs.declared.table.Table.{Table}
+use Rattle.moves.proofs.Showing.{included_shown}
 use Rattle.interned.proofs.Lists.{get_last, get_push, has_place, one_of, some_at}
 use Rattle.std.specs.FinMap as finmap
 use Rattle.std.specs.List.{Contains}
@@ -27,7 +27,7 @@ use Rattle.ends.proofs.Starting.{back, to}
 use Rattle.ends.proofs.Closing.{closed_again}
 use Rattle.frontier.specs.Kept.{IsStepOf, Lists, table_of}
 use Rattle.judging.specs.Meaning.{Blows, IsStep}
-use Rattle.ends.specs.EndSteps.{Adds, Along, AreClosed, IsReached}
+use Rattle.moves.specs.EndSteps.{Adds, Along, AreClosed, IsReached}
 use Rattle.frontier.proofs.Including.{included_more}
 use Rattle.frontier.proofs.Generating.{Generates, generates_by, reached_by, none_left, some_left}
 

@@ -9,8 +9,8 @@ use Rattle.events.specs.Events.{Mark}
 use Rattle.events.specs.Events.Mark.{Invoked}
 use Rattle.linspec.specs.MarkRule.{MayFollow}
 use Rattle.linspec.specs.Ends.{End, IsEnd}
-use Rattle.ends.specs.declared.pending_op.PendingOp.{PendingOp}
-use Rattle.ends.specs.declared.table.Table.{Table}
+use Rattle.moves.specs.declared.pending_op.PendingOp.{PendingOp}
+use Rattle.moves.specs.declared.table.Table.{Table}
 use Rattle.frontier.specs.declared.change.AfterCrash.{AfterCrash}
 use Rattle.frontier.specs.declared.change.Fresh.{Fresh}
 use Rattle.frontier.specs.declared.change.Change.{Change}
@@ -18,12 +18,13 @@ use Rattle.frontier.specs.declared.change.Change.TheVariants.{Nothing, Crashed, 
 use Rattle.frontier.specs.declared.frontier.Frontier.{Frontier}
 use Rattle.judging.specs.declared.step.Step.{Step}
 use Rattle.judging.specs.declared.step.Step.TheVariants.{Alive, Dead, Over}
-use Rattle.ends.specs.KeptEnds.{IsWellKept}
-use Rattle.ends.specs.Tables.{AreShown, Asked, rows_of, with_rows}
+use Rattle.moves.specs.KeptEnds.{IsWellKept}
+use Rattle.moves.specs.Tables.{AreShown, rows_of, with_rows}
+use Rattle.ends.specs.Oks.{Asked}
 use Rattle.products.specs.Products.{rows_in}
 use Rattle.std.specs.Global.{Box}
 use Rattle.frontier.specs.declared.product_form.ProductForm.{ProductForm}
-use Rattle.ends.specs.EndSteps.{AreClosed, IsReached, is_other}
+use Rattle.moves.specs.EndSteps.{AreClosed, IsReached, is_other}
 use Rattle.judging.specs.Meaning.{FrontierView, Keeps}
 
 -- the rows of the kept products, if there are any, else these

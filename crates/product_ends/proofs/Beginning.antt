@@ -7,10 +7,10 @@ use Rattle.models.specs.declared.operation.Op.{Op}
 use Rattle.models.specs.declared.finding.Found.{Found}
 use Rattle.models.specs.Objects.{Object}
 use Rattle.linspec.specs.Ends.{End}
-use Rattle.ends.specs.declared.pending_op.PendingOp.{PendingOp}
-use Rattle.ends.specs.declared.table.Table.{Table}
-use Rattle.ends.specs.Tables.{AreShown, with_rows}
-use Rattle.ends.proofs.Reaching.{reached_itself}
+use Rattle.moves.specs.declared.pending_op.PendingOp.{PendingOp}
+use Rattle.moves.specs.declared.table.Table.{Table}
+use Rattle.moves.specs.Tables.{AreShown, with_rows}
+use Rattle.moves.proofs.Reaching.{reached_itself}
 use Rattle.products.specs.Products.{Product, rows_in}
 use Rattle.product_ends.specs.declared.room.Source.{Source}
 use Rattle.product_ends.specs.declared.room.Work.{Work}

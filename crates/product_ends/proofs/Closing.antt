@@ -5,12 +5,12 @@ use Rattle.std.proofs.lemmas.Bool.{cases_eq}
 use Rattle.std.proofs.lemmas.Option.{slice_get_within}
 use Rattle.models.specs.Objects.{Object}
 use Rattle.linspec.specs.Ends.{End}
-use Rattle.ends.specs.declared.pending_op.PendingOp.{PendingOp}
-use Rattle.ends.specs.declared.table.Table.{Table}
-use Rattle.ends.specs.EndSteps.{Next, TakesLast}
-use Rattle.ends.specs.Tables.{Shows, Widens}
-use Rattle.ends.proofs.Reaching.{closed_has}
-use Rattle.ends.proofs.Rows.{one_end}
+use Rattle.moves.specs.declared.pending_op.PendingOp.{PendingOp}
+use Rattle.moves.specs.declared.table.Table.{Table}
+use Rattle.moves.specs.EndSteps.{Next, TakesLast}
+use Rattle.moves.specs.Tables.{Shows, Widens}
+use Rattle.moves.proofs.Reaching.{closed_has}
+use Rattle.moves.proofs.Rows.{one_end}
 use Rattle.interned.proofs.Lists.{one_of, place_of}
 use Rattle.products.specs.Products.{IsIn, IsInAt, IsInOne, Product}
 use Rattle.products.proofs.Sets.{are_in_long}

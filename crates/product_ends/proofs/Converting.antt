@@ -3,10 +3,10 @@ use Rattle.std.proofs.Common.{◌≡◌, ◌↔◌, ◌+◌, ◌<◌, ℕ, Some,
 use Rattle.std.proofs.lemmas.Option.{get_or_from_slice_get, slice_get-get_or, slice_get_within}
 use Rattle.linspec.specs.Ends.{End}
 use Rattle.interned.proofs.Lists.{has_place, one_of, place_of}
-use Rattle.ends.specs.declared.pending_op.PendingOp.{PendingOp}
-use Rattle.ends.specs.declared.table.Table.{Table}
-use Rattle.ends.specs.EndSteps.{Along}
-use Rattle.ends.specs.Tables.{AreShown, IsThat, Shows, ShownWith, rows_of, with_rows}
+use Rattle.moves.specs.declared.pending_op.PendingOp.{PendingOp}
+use Rattle.moves.specs.declared.table.Table.{Table}
+use Rattle.moves.specs.EndSteps.{Along}
+use Rattle.moves.specs.Tables.{AreShown, IsThat, Shows, ShownWith, rows_of, with_rows}
 use Rattle.products.specs.Products.{AreApart, IsIn, Product, Puts, rows_in}
 use Rattle.products.proofs.Leaving.{AreSoFar, puts_with, so_far_more}
 use Rattle.product_ends.proofs.Saying.{end_of, row_of, shown_by_products}

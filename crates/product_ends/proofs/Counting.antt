@@ -9,9 +9,9 @@ use Rattle.products.specs.Products.{AreApart, AreIn, Has, IsInOne, Product, numb
 use Rattle.products.proofs.Lists.{Once, fewer}
 use Rattle.products.proofs.Numbers.{contains_numbers}
 use Rattle.products.proofs.Sets.{are_in_at}
-use Rattle.ends.specs.declared.table.Table.{Table}
-use Rattle.ends.specs.Tables.{OnlyTries}
-use Rattle.ends.proofs.Showing.{tries_on}
+use Rattle.moves.specs.declared.table.Table.{Table}
+use Rattle.moves.specs.Tables.{OnlyTries}
+use Rattle.moves.proofs.Showing.{tries_on}
 use Rattle.product_ends.specs.Deeds.{TriesAtMost}
 use Rattle.product_ends.specs.Growing.{IsPaid}
 use Rattle.product_ends.proofs.RowsIn.{contains_rows_in, rows_in_once}

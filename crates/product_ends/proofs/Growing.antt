@@ -3,10 +3,10 @@ use Rattle.std.proofs.Common.{rules, ◌≡◌, ℕ, Bool, true, ◌+◌, ◌-�
 use Rattle.std.proofs.lemmas.Bool.{true≢false}
 use Rattle.models.specs.declared.operation.Op.{Op}
 use Rattle.models.specs.declared.finding.Found.{Found}
-use Rattle.ends.specs.declared.pending_op.PendingOp.{PendingOp}
-use Rattle.ends.specs.declared.table.Table.{Table}
-use Rattle.ends.specs.Tables.{OnlyTries}
-use Rattle.ends.proofs.Showing.{tries_on}
+use Rattle.moves.specs.declared.pending_op.PendingOp.{PendingOp}
+use Rattle.moves.specs.declared.table.Table.{Table}
+use Rattle.moves.specs.Tables.{OnlyTries}
+use Rattle.moves.proofs.Showing.{tries_on}
 use Rattle.products.specs.Products.{AreApart, Family, IsIn, IsInOne, Product, rows_in}
 use Rattle.product_ends.specs.declared.room.Work.{Work}
 use Rattle.product_ends.specs.Deeds.{AreSound, HasOneOutcome, IsTried, TriesAtMost}

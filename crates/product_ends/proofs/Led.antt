@@ -5,10 +5,10 @@ use Rattle.models.specs.declared.operation.Op.{Op}
 use Rattle.models.specs.declared.finding.Found.{Found}
 use Rattle.models.specs.Objects.{Object, of_table}
 use Rattle.linspec.specs.Ends.{End}
-use Rattle.ends.specs.declared.pending_op.PendingOp.{PendingOp}
-use Rattle.ends.specs.declared.table.Table.{Table}
-use Rattle.ends.specs.Tables.{HasEachOnce, Shows, Widens}
-use Rattle.ends.proofs.Showing.{shows_more}
+use Rattle.moves.specs.declared.pending_op.PendingOp.{PendingOp}
+use Rattle.moves.specs.declared.table.Table.{Table}
+use Rattle.moves.specs.Tables.{HasEachOnce, Shows, Widens}
+use Rattle.moves.proofs.Showing.{shows_more}
 use Rattle.products.specs.Products.{AreIn, Has, IsInOne, Product}
 use Rattle.products.proofs.Sets.{are_in_at, are_in_long}
 use Rattle.product_ends.specs.declared.deeds.Deed.{Deed}

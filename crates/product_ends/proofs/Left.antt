@@ -6,13 +6,14 @@ use Rattle.rows.specs.RowSets.{is_marked}
 use Rattle.rows.proofs.Elements.{Contains-nil}
 use Rattle.models.specs.declared.finding.Answer.{Answer}
 use Rattle.linspec.specs.Ends.{End}
-use Rattle.ends.specs.declared.pending_op.PendingOp.{PendingOp}
-use Rattle.ends.specs.declared.table.Table.{Table}
-use Rattle.ends.specs.EndSteps.{Along, Fails, Settles, is_other, settled}
-use Rattle.ends.specs.Tables.{AreMarksOf, AreShown, HasEachOnce, IsOpenAt, Shows, ShownWith, with_rows}
+use Rattle.moves.specs.declared.pending_op.PendingOp.{PendingOp}
+use Rattle.moves.specs.declared.table.Table.{Table}
+use Rattle.moves.specs.EndSteps.{Along, Fails, Settles, is_other, settled}
+use Rattle.moves.specs.Tables.{AreShown, HasEachOnce, IsOpenAt, Shows, ShownWith, with_rows}
+use Rattle.ends.specs.Oks.{AreMarksOf}
 use Rattle.ends.proofs.Marking.{fits_marked, marked_fits, marked_out, out_marked}
 use Rattle.ends.proofs.Settling.{says_without, settled_out}
-use Rattle.ends.proofs.Showing.{shown_no_rows}
+use Rattle.moves.proofs.Showing.{shown_no_rows}
 use Rattle.products.specs.Products.{AreApart, HavePlaces, IsIn, IsInOne, IsLeft, Product, rows_in}
 use Rattle.products.proofs.Sets.{are_in_long}
 use Rattle.product_ends.proofs.Saying.{end_in, row_in, shown_by_products}

@@ -8,10 +8,10 @@ use Rattle.models.specs.declared.finding.Found.{Found}
 use Rattle.models.specs.Objects.{Object, of_table}
 use Rattle.interned.proofs.Lists.{get_taken, one_of, some_at}
 use Rattle.linspec.specs.Ends.{End}
-use Rattle.ends.specs.declared.pending_op.PendingOp.{PendingOp}
-use Rattle.ends.specs.declared.table.Table.{Table}
-use Rattle.ends.specs.Tables.{HasEachOnce, Shows, Widens}
-use Rattle.ends.proofs.Showing.{shows_more}
+use Rattle.moves.specs.declared.pending_op.PendingOp.{PendingOp}
+use Rattle.moves.specs.declared.table.Table.{Table}
+use Rattle.moves.specs.Tables.{HasEachOnce, Shows, Widens}
+use Rattle.moves.proofs.Showing.{shows_more}
 use Rattle.products.specs.Products.{Has, IsIn, IsInAt, IsInOne, Product, Puts}
 use Rattle.product_ends.specs.declared.deeds.Deed.{Deed}
 use Rattle.product_ends.specs.declared.deeds.Deed.TheVariants.{To}

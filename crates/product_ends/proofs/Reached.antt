@@ -5,12 +5,13 @@ use Rattle.models.specs.Objects.{Object}
 use Rattle.linspec.specs.Ends.{End}
 use Rattle.linspec.specs.Orders.{Pairwise}
 use Rattle.linspec.proofs.Lists.{Contains-nil}
-use Rattle.ends.specs.declared.pending_op.PendingOp.{PendingOp}
-use Rattle.ends.specs.declared.table.Table.{Table}
-use Rattle.ends.specs.EndSteps.{Along, AreClosed, IsReached, ReachesMoreThan, Settles, is_other}
-use Rattle.ends.specs.Tables.{AreShown, Asked, IsAdvanced, Shows, ShownWith, rows_of, with_rows}
+use Rattle.moves.specs.declared.pending_op.PendingOp.{PendingOp}
+use Rattle.moves.specs.declared.table.Table.{Table}
+use Rattle.moves.specs.EndSteps.{Along, AreClosed, IsReached, ReachesMoreThan, Settles, is_other}
+use Rattle.moves.specs.Tables.{AreShown, Shows, ShownWith, rows_of, with_rows}
+use Rattle.ends.specs.Oks.{Asked, IsAdvanced}
 use Rattle.ends.proofs.Growing.{Grows-itself, grown_all}
-use Rattle.ends.proofs.Reaching.{reached_itself}
+use Rattle.moves.proofs.Reaching.{reached_itself}
 use Rattle.std.specs.List.{filter}
 use Rattle.products.specs.Products.{AreApart, IsInOne, Product, rows_in}
 use Rattle.product_ends.specs.Growing.{HoldReached}

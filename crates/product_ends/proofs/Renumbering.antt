@@ -8,12 +8,12 @@ use Rattle.events.specs.Events.{IsFront}
 use Rattle.linspec.specs.Ends.{End}
 use Rattle.interned.specs.Numbers.{IsOnceIn, IsSlot}
 use Rattle.interned.proofs.Lists.{get_front, get_last}
-use Rattle.ends.specs.declared.pending_op.PendingOp.{PendingOp}
-use Rattle.ends.specs.declared.table.Table.{Table}
-use Rattle.ends.specs.EndSteps.{Along}
-use Rattle.ends.specs.Tables.{AreShown, IsThat, Shows, ShownWith, found_by, with_rows}
-use Rattle.ends.proofs.Rows.{slot_more}
-use Rattle.ends.proofs.Showing.{no_get}
+use Rattle.moves.specs.declared.pending_op.PendingOp.{PendingOp}
+use Rattle.moves.specs.declared.table.Table.{Table}
+use Rattle.moves.specs.EndSteps.{Along}
+use Rattle.moves.specs.Tables.{AreShown, IsThat, Shows, ShownWith, found_by, with_rows}
+use Rattle.moves.proofs.Rows.{slot_more}
+use Rattle.moves.proofs.Showing.{no_get}
 use Rattle.products.specs.Products.{AreApart, AreIn, Has, HasWith, IsIn, IsInAt, IsInOne, Product, Puts, rows_in}
 use Rattle.products.proofs.Leaving.{puts_with}
 use Rattle.products.proofs.Numbers.{by_bits, has_alone, has_nothing}

@@ -7,12 +7,12 @@ use Rattle.linspec.specs.Orders.{Pairwise}
 use Rattle.linspec.specs.Ends.{End}
 use Rattle.interned.specs.Numbers.{IsOnceIn}
 use Rattle.interned.proofs.Lists.{clash, has_place, one_of, place_of, some_at}
-use Rattle.ends.specs.declared.pending_op.PendingOp.{PendingOp}
-use Rattle.ends.specs.declared.table.Table.{Table}
-use Rattle.ends.specs.EndSteps.{Along}
-use Rattle.ends.specs.Tables.{AreShown, IsThat, Shows, ShownWith, with_rows}
-use Rattle.ends.proofs.Rows.{one_end, one_row}
-use Rattle.ends.proofs.Showing.{end_at}
+use Rattle.moves.specs.declared.pending_op.PendingOp.{PendingOp}
+use Rattle.moves.specs.declared.table.Table.{Table}
+use Rattle.moves.specs.EndSteps.{Along}
+use Rattle.moves.specs.Tables.{AreShown, IsThat, Shows, ShownWith, with_rows}
+use Rattle.moves.proofs.Rows.{one_end, one_row}
+use Rattle.moves.proofs.Showing.{end_at}
 use Rattle.products.specs.Products.{AreApart, IsInOne, Product, rows_in}
 use Rattle.product_ends.proofs.RowsIn.{contains_rows_in, rows_in_once}
 

@@ -9,14 +9,14 @@ use Rattle.models.specs.Objects.{IsOneOf, Object, of_table}
 use Rattle.interned.specs.Numbers.{IsSlot}
 use Rattle.interned.proofs.Lists.{has_place}
 use Rattle.linspec.specs.Ends.{End}
-use Rattle.ends.specs.declared.pending_op.PendingOp.{PendingOp}
-use Rattle.ends.specs.declared.table.Table.{Table}
-use Rattle.ends.specs.EndSteps.{IsReached, TakesLast, is_in}
-use Rattle.ends.specs.Moves.{AreTo, IsTo}
-use Rattle.ends.specs.Tables.{AreLed, HasEachOnce, Shows, found_by, row_led, told_by}
-use Rattle.ends.proofs.Leading.{are_led}
-use Rattle.ends.proofs.Reaching.{reached_next}
-use Rattle.ends.proofs.Rows.{not_in_by, not_told, zero_none}
+use Rattle.moves.specs.declared.pending_op.PendingOp.{PendingOp}
+use Rattle.moves.specs.declared.table.Table.{Table}
+use Rattle.moves.specs.EndSteps.{IsReached, TakesLast, is_in}
+use Rattle.moves.specs.Moves.{AreTo, IsTo}
+use Rattle.moves.specs.Tables.{AreLed, HasEachOnce, Shows, found_by, row_led, told_by}
+use Rattle.moves.proofs.Leading.{are_led}
+use Rattle.moves.proofs.Reaching.{reached_next}
+use Rattle.moves.proofs.Rows.{not_in_by, not_told, zero_none}
 use Rattle.products.specs.Products.{AreIn, Has}
 use Rattle.products.proofs.Sets.{are_in_at, are_in_from, are_in_long}
 use Rattle.product_ends.specs.declared.deeds.Deed.TheVariants.{To}

@@ -7,11 +7,11 @@ use Rattle.models.specs.declared.operation.Op.{Op}
 use Rattle.models.specs.declared.finding.Found.{Found}
 use Rattle.events.specs.Events.{IsFront}
 use Rattle.interned.proofs.Lists.{get_front, get_last, get_push, one_of, some_at}
-use Rattle.ends.specs.declared.pending_op.PendingOp.{PendingOp}
-use Rattle.ends.specs.declared.table.Table.{Table}
-use Rattle.ends.specs.Tables.{Widens, told_by}
-use Rattle.ends.proofs.Adding.{IsFront-push}
-use Rattle.ends.proofs.Rows.{slot_more}
+use Rattle.moves.specs.declared.pending_op.PendingOp.{PendingOp}
+use Rattle.moves.specs.declared.table.Table.{Table}
+use Rattle.moves.specs.Tables.{Widens, told_by}
+use Rattle.moves.proofs.Adding.{IsFront-push}
+use Rattle.moves.proofs.Rows.{slot_more}
 use Rattle.products.specs.Products.{Has}
 use Rattle.product_ends.specs.declared.deeds.Deed.{Deed}
 use Rattle.product_ends.specs.declared.deeds.Deed.TheVariants.{Nowhere, To}

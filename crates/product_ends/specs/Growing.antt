@@ -5,10 +5,10 @@ use Rattle.models.specs.declared.finding.Found.{Found}
 use Rattle.models.specs.Objects.{Object}
 use Rattle.interned.specs.Numbers.{IsOnceIn}
 use Rattle.linspec.specs.Ends.{End}
-use Rattle.ends.specs.declared.pending_op.PendingOp.{PendingOp}
-use Rattle.ends.specs.declared.table.Table.{Table}
-use Rattle.ends.specs.EndSteps.{IsReached, TakesLast}
-use Rattle.ends.specs.Tables.{AreShown, HasEachOnce, Shows, with_rows}
+use Rattle.moves.specs.declared.pending_op.PendingOp.{PendingOp}
+use Rattle.moves.specs.declared.table.Table.{Table}
+use Rattle.moves.specs.EndSteps.{IsReached, TakesLast}
+use Rattle.moves.specs.Tables.{AreShown, HasEachOnce, Shows, with_rows}
 use Rattle.products.specs.Products.{AreApart, IsIn, IsInAt, IsInOne, Product, rows_in}
 use Rattle.product_ends.specs.declared.room.Work.{Work}
 use Rattle.product_ends.specs.Deeds.{AreSound, HasOneOutcome, IsTried}

@@ -2,8 +2,9 @@
 ghost use Rattle.std.specs.Prelude.{ℕ, List, [], OnOk};
 ghost use Rattle.std.specs.List.{filter};
 ghost use Rattle.linspec.specs.Ends.{End};
-ghost use Rattle.ends.specs.EndSteps.{Along, Fails, is_other};
-ghost use Rattle.ends.specs.Tables.{AreShown, HasEachOnce, IsLeft, IsOpenAt, ShownWith, asked_by, with_rows};
+ghost use Rattle.moves.specs.EndSteps.{Along, Fails, is_other};
+ghost use Rattle.moves.specs.Tables.{AreShown, HasEachOnce, IsOpenAt, ShownWith, with_rows};
+ghost use Rattle.ends.specs.Oks.{IsLeft, asked_by};
 ghost use Rattle.products.specs.Products.{rows_in};
 
 use ends::{PendingOp, Returning, Table, mark_fitting, place_of_open};

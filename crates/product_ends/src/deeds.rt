@@ -1,7 +1,7 @@
 //! The deeds of each call in the states that were tried.
 ghost use Rattle.std.specs.Prelude.{◌≡◌, ◌<◌, ◌≤◌, ◌+◌, ◌^◌, ℕ, IfOk, IfSome, IsSome, OnOk, Some, length, get_or, slice_get, slice_range};
 ghost use Rattle.models.specs.declared.finding.Found.{Found};
-ghost use Rattle.ends.specs.Tables.{OnlyTries};
+ghost use Rattle.moves.specs.Tables.{OnlyTries};
 ghost use Rattle.product_ends.specs.Deeds.{AreSound, AreStays, AreTriedToo, AreWithin, HasOneOutcome, IsDeed, IsOrderWith, IsStay, IsTried, TriesAtMost, order_in};
 
 use ends::{PendingOp, Table, step, told_by};

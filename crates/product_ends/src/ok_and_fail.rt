@@ -3,8 +3,9 @@ ghost use Rattle.std.specs.Prelude.{◌≤◌, ◌+◌, ℕ, List, [], OnOk, len
 ghost use Rattle.models.specs.Objects.{of_table};
 ghost use Rattle.linspec.specs.Ends.{End};
 ghost use Rattle.std.specs.List.{filter};
-ghost use Rattle.ends.specs.EndSteps.{Along, Fails, is_other};
-ghost use Rattle.ends.specs.Tables.{AreShown, FindsLeft, HasEachOnce, IsOpenAt, OnlyTries, ShownWith, asked_by, most_steps, with_rows};
+ghost use Rattle.moves.specs.EndSteps.{Along, Fails, is_other};
+ghost use Rattle.moves.specs.Tables.{AreShown, HasEachOnce, IsOpenAt, OnlyTries, ShownWith, with_rows};
+ghost use Rattle.ends.specs.Oks.{FindsLeft, asked_by, most_steps};
 ghost use Rattle.products.specs.Products.{rows_in};
 ghost use Rattle.product_ends.specs.Deeds.{HasOneOutcome};
 

@@ -1,8 +1,8 @@
 use Rattle.std.proofs.Common.{◌≡◌, ◌++◌, ◌∷◌, [], arith, length, map, ap, sym, ◌∙◌}
 use Rattle.std.proofs.lemmas.List.{length-map, map_push, take_all}
 use Rattle.linspec.specs.Ends.{End}
-use Rattle.ends.specs.KeptEnds.{end_kept}
-use Rattle.ends.specs.EndSteps.{after_crash}
+use Rattle.moves.specs.KeptEnds.{end_kept}
+use Rattle.moves.specs.EndSteps.{after_crash}
 use Rattle.interned.proofs.Lists.{mapped_at, taken_more}
 use Rattle.ends.proofs.after.crashed_ends.Goals as goal
 

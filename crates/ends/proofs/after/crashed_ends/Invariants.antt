@@ -1,6 +1,6 @@
 use Rattle.std.proofs.Common.{◌≡◌, map, take}
-use Rattle.ends.specs.KeptEnds.{end_kept}
-use Rattle.ends.specs.EndSteps.{after_crash}
+use Rattle.moves.specs.KeptEnds.{end_kept}
+use Rattle.moves.specs.EndSteps.{after_crash}
 use Rattle.ends.proofs.after.crashed_ends.Given as goal
 
 abbrev pub invariant-loop-kept : goal.invariant-loop-kept

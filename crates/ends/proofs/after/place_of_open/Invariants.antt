@@ -1,5 +1,5 @@
 use Rattle.std.proofs.Common.{ℕ, ◌<◌}
-use Rattle.ends.specs.Tables.{IsOpenAt}
+use Rattle.moves.specs.Tables.{IsOpenAt}
 use Rattle.ends.proofs.after.place_of_open.Given as goal
 
 abbrev pub invariant-loop-at : goal.invariant-loop-at

@@ -2,11 +2,11 @@ use Rattle.std.proofs.Common.{◌+◌, Bool, List, [], length, subst}
 use Rattle.std.specs.List.{filter}
 use Rattle.std.proofs.lemmas.Result.{on_ok_weaker}
 use Rattle.rows.specs.RowSets.{PutsMarked}
-use Rattle.ends.specs.EndSteps.{is_other}
-use Rattle.ends.proofs.Adding.{IsFront-itself}
+use Rattle.moves.specs.EndSteps.{is_other}
+use Rattle.moves.proofs.Adding.{IsFront-itself}
 use Rattle.ends.proofs.Marking.{left_settled}
 use Rattle.ends.proofs.Settling.{none_settles}
-use Rattle.ends.proofs.Showing.{shown_no_rows}
+use Rattle.moves.proofs.Showing.{shown_no_rows}
 use Rattle.ends.proofs.after.put_left_by_ok.Goals as goal
 
 pub returns-in_ok-mark_fitting-in-Some : goal.returns-in_ok-mark_fitting-in-Some

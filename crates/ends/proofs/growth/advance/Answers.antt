@@ -1,6 +1,7 @@
 use Rattle.std.proofs.Common.{◌≡◌, Ok, OnOk, sym, ◌∙◌, subst, rules}
 use Rattle.models.specs.Objects.{of_table}
-use Rattle.ends.specs.Tables.{FindsLeft, IsLeft, asked_by, with_rows}
+use Rattle.moves.specs.Tables.{with_rows}
+use Rattle.ends.specs.Oks.{FindsLeft, IsLeft, asked_by}
 use Rattle.ends.proofs.Growing.{finds_left, finds_none}
 use Rattle.ends.proofs.growth.advance.Goals as goal
 use Rattle.ends.proofs.growth.advance.Goals.{in-Ok-true, in_default, in_default-2}

@@ -3,18 +3,18 @@ use Rattle.std.proofs.lemmas.Bool.{true≢false}
 use Rattle.std.proofs.lemmas.Option.{get_or_from_slice_get}
 use Rattle.models.specs.Objects.{of_table}
 use Rattle.linspec.proofs.Lists.{Contains-nil}
-use Rattle.ends.specs.declared.moves.Like.{Like}
-use Rattle.ends.specs.declared.moves.Known.{Known}
-use Rattle.ends.specs.Moves.{AreAlike}
-use Rattle.ends.specs.Notes.{AreUntried}
-use Rattle.ends.specs.Tables.{rows_of}
+use Rattle.moves.specs.declared.moves.Like.{Like}
+use Rattle.moves.specs.declared.moves.Known.{Known}
+use Rattle.moves.specs.Moves.{AreAlike}
+use Rattle.moves.specs.Notes.{AreUntried}
+use Rattle.moves.specs.Tables.{rows_of}
 use Rattle.ends.proofs.Growing.{Grows-itself, cost_more}
 use Rattle.ends.proofs.Closing.{all_tried}
-use Rattle.ends.proofs.Moving.{moves_none}
-use Rattle.ends.proofs.Showing.{adds_itself, adds_on, all_done, done_on, end_at, grows_on, none_more}
+use Rattle.moves.proofs.Moving.{moves_none}
+use Rattle.moves.proofs.Showing.{adds_itself, adds_on, all_done, done_on, end_at, grows_on, none_more}
 use Rattle.ends.proofs.Beyond.{beyond_found, beyond_from}
 use Rattle.interned.proofs.Lists.{has_place, some_at}
-use Rattle.ends.proofs.Adding.{IsFront-itself, IsFront-trans}
+use Rattle.moves.proofs.Adding.{IsFront-itself, IsFront-trans}
 use Rattle.ends.proofs.growth.grow.Goals as goal
 
 pub loop-from-init : goal.loop-from-init

@@ -2,10 +2,10 @@ use Rattle.std.proofs.Common.{◌≤◌, ◌+◌, ◌*◌, List, length, take}
 use Rattle.models.specs.Objects.{of_table}
 use Rattle.events.specs.Events.{IsFront}
 use Rattle.linspec.specs.Ends.{End}
-use Rattle.ends.specs.EndSteps.{AreClosed, Grows}
-use Rattle.ends.specs.Moves.{AreAlike, AreMoves}
-use Rattle.ends.specs.Tables.{AreShown, HasEachOnce, OnlyAdds}
-use Rattle.ends.proofs.Showing.{AreDone}
+use Rattle.moves.specs.EndSteps.{AreClosed, Grows}
+use Rattle.moves.specs.Moves.{AreAlike, AreMoves}
+use Rattle.moves.specs.Tables.{AreShown, HasEachOnce, OnlyAdds}
+use Rattle.moves.proofs.Showing.{AreDone}
 use Rattle.ends.proofs.growth.grow.Given as goal
 
 abbrev pub invariant-loop-from : goal.invariant-loop-from

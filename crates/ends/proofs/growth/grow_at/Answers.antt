@@ -1,12 +1,12 @@
 use Rattle.std.proofs.Common.{◌≡◌, ◌+◌, [], get_or, sym, ap, ◌∙◌, subst}
 use Rattle.std.proofs.lemmas.Result.{on_ok_weaker}
 use Rattle.models.specs.Objects.{of_table}
-use Rattle.ends.specs.Moves.{targets_of}
+use Rattle.moves.specs.Moves.{targets_of}
 use Rattle.events.specs.Events.{IsFront}
-use Rattle.ends.specs.Tables.{AreLed, Shows, row_led, rows_of}
-use Rattle.ends.proofs.Adding.{IsFront-itself}
-use Rattle.ends.proofs.Moving.{moves_wider, on_ok}
-use Rattle.ends.proofs.Showing.{all_led, led_none, shown_more, widens_on, widens_rows}
+use Rattle.moves.specs.Tables.{AreLed, Shows, row_led, rows_of}
+use Rattle.moves.proofs.Adding.{IsFront-itself}
+use Rattle.moves.proofs.Moving.{moves_wider, on_ok}
+use Rattle.moves.proofs.Showing.{all_led, led_none, shown_more, widens_on, widens_rows}
 use Rattle.ends.proofs.growth.grow_at.Goals as goal
 
 pub returns-clause-moves : goal.returns-clause-moves

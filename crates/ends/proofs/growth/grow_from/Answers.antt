@@ -2,13 +2,13 @@ use Rattle.std.proofs.Common.{◌≡◌, ◌+◌, Some, slice_get, Vec, Global, 
 use Rattle.std.proofs.lemmas.Bool.{true≢false}
 use Rattle.std.proofs.lemmas.List.{take_all}
 use Rattle.models.specs.Objects.{of_table}
-use Rattle.ends.specs.declared.moves.Like.{Like}
-use Rattle.ends.specs.EndSteps.{Next}
-use Rattle.ends.specs.Moves.{AreAlike}
-use Rattle.ends.specs.Tables.{ShownWith, rows_of}
+use Rattle.moves.specs.declared.moves.Like.{Like}
+use Rattle.moves.specs.EndSteps.{Next}
+use Rattle.moves.specs.Moves.{AreAlike}
+use Rattle.moves.specs.Tables.{ShownWith, rows_of}
 use Rattle.interned.proofs.Lists.{some_at}
-use Rattle.ends.proofs.Showing.{adds_itself, adds_on, front_stays, front_within, next_there, none_yet, shows_more}
-use Rattle.ends.proofs.Adding.{IsFront-itself}
+use Rattle.moves.proofs.Showing.{adds_itself, adds_on, front_stays, front_within, next_there, none_yet, shows_more}
+use Rattle.moves.proofs.Adding.{IsFront-itself}
 use Rattle.ends.proofs.Passing.{in_already, pass, stuck_there}
 use Rattle.ends.proofs.growth.grow_from.Goals as goal
 

@@ -1,9 +1,9 @@
 use Rattle.std.proofs.Common.{◌≡◌, ◌-◌, ◌<◌, [], get_or, ◌≤◌, ◌+◌, List, length, take, drop}
 use Rattle.models.specs.Objects.{of_table}
 use Rattle.linspec.specs.Ends.{End}
-use Rattle.ends.specs.EndSteps.{Next}
-use Rattle.ends.specs.Moves.{AreAlike, AreMoves, KeepMoves}
-use Rattle.ends.specs.Tables.{AreShown, HasEachOnce, OnlyAdds, Shows, ShownWith, rows_of}
+use Rattle.moves.specs.EndSteps.{Next}
+use Rattle.moves.specs.Moves.{AreAlike, AreMoves, KeepMoves}
+use Rattle.moves.specs.Tables.{AreShown, HasEachOnce, OnlyAdds, Shows, ShownWith, rows_of}
 use Rattle.ends.proofs.growth.grow_from.Given as goal
 
 abbrev pub invariant-calls : goal.invariant-calls

@@ -2,9 +2,9 @@ use Rattle.std.proofs.Common.{◌≡◌, ◌<◌, ◌≤◌, ◌+◌, Some, get_
 use Rattle.std.proofs.lemmas.Bool.{cases_eq, true≢false}
 use Rattle.std.proofs.lemmas.Option.{slice_get-get_or, slice_get_within}
 use Rattle.models.specs.Objects.{AreApart}
-use Rattle.ends.specs.declared.pending_op.PendingOp.{PendingOp}
+use Rattle.moves.specs.declared.pending_op.PendingOp.{PendingOp}
 use Rattle.ends.proofs.Beyond.{beyond_by, few_by, not_in_row}
-use Rattle.ends.proofs.Rows.{in_unless}
+use Rattle.moves.proofs.Rows.{in_unless}
 use Rattle.interned.proofs.Lists.{has_place, one_of}
 use Rattle.ends.proofs.growth.leads_beyond.Goals as goal
 use Rattle.ends.proofs.growth.leads_beyond.Goals.{else-has_more_outcomes-via-then-has_more_outcomes+else-has_zero, else-has_more_outcomes-via-else-has_more_outcomes}

@@ -1,8 +1,8 @@
 use Rattle.std.proofs.Common.{◌≡◌, ◌<◌, ◌≤◌, ℕ, false, Some, length, slice_get}
 use Rattle.linspec.specs.Ends.{End}
-use Rattle.ends.specs.declared.pending_op.PendingOp.{PendingOp}
-use Rattle.ends.specs.EndSteps.{is_in}
-use Rattle.ends.specs.Tables.{Shows}
+use Rattle.moves.specs.declared.pending_op.PendingOp.{PendingOp}
+use Rattle.moves.specs.EndSteps.{is_in}
+use Rattle.moves.specs.Tables.{Shows}
 use Rattle.ends.proofs.growth.leads_beyond.Given as goal
 
 abbrev pub invariant-loop-at : goal.invariant-loop-at

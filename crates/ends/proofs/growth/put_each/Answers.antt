@@ -3,10 +3,10 @@ use Rattle.std.proofs.lemmas.List.{take_all}
 use Rattle.std.proofs.lemmas.List.Elements.{Contains-get_or}
 use Rattle.std.proofs.lemmas.Option.{get_or_from_slice_get, slice_get-get_or, slice_get_within}
 use Rattle.words.specs.Puts.{IsPut}
-use Rattle.ends.specs.EndSteps.{Along}
-use Rattle.ends.specs.Tables.{Shows, ShownWith, row_led, rows_of, with_rows}
-use Rattle.ends.proofs.Adding.{IsFront-trans}
-use Rattle.ends.proofs.Showing.{front_by, front_stays, front_within, led_more}
+use Rattle.moves.specs.EndSteps.{Along}
+use Rattle.moves.specs.Tables.{Shows, ShownWith, row_led, rows_of, with_rows}
+use Rattle.moves.proofs.Adding.{IsFront-trans}
+use Rattle.moves.proofs.Showing.{front_by, front_stays, front_within, led_more}
 use Rattle.ends.proofs.growth.put_each.Goals as goal
 
 pub put_next-requires-clause-within : goal.put_next-requires-clause-within

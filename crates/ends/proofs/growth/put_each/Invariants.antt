@@ -2,9 +2,9 @@ use Rattle.std.proofs.Common.{◌≡◌, ◌<◌, ℕ, List, [], length, get_or,
 use Rattle.std.specs.List.{Contains}
 use Rattle.events.specs.Events.{IsFront}
 use Rattle.linspec.specs.Ends.{End}
-use Rattle.ends.specs.declared.pending_op.PendingOp.{PendingOp}
-use Rattle.ends.specs.EndSteps.{Along}
-use Rattle.ends.specs.Tables.{AreShown, Shows, ShownWith, row_led, rows_of}
+use Rattle.moves.specs.declared.pending_op.PendingOp.{PendingOp}
+use Rattle.moves.specs.EndSteps.{Along}
+use Rattle.moves.specs.Tables.{AreShown, Shows, ShownWith, row_led, rows_of}
 use Rattle.ends.proofs.growth.put_each.Given as goal
 
 abbrev pub invariant-loop-at : goal.invariant-loop-at

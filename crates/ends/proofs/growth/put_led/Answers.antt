@@ -3,10 +3,10 @@ use Rattle.std.specs.List.{Contains}
 use Rattle.std.proofs.lemmas.List.Elements.{Contains-push}
 use Rattle.std.proofs.lemmas.Option.{get_or_from_slice_get, slice_get_within}
 use Rattle.std.proofs.lemmas.Result.{on_ok_weaker}
-use Rattle.ends.specs.EndSteps.{Along}
-use Rattle.ends.specs.Moves.{targets_of}
-use Rattle.ends.specs.Tables.{Shows, ShownWith, row_led, rows_of, with_rows}
-use Rattle.ends.proofs.Showing.{led_one}
+use Rattle.moves.specs.EndSteps.{Along}
+use Rattle.moves.specs.Moves.{targets_of}
+use Rattle.moves.specs.Tables.{Shows, ShownWith, row_led, rows_of, with_rows}
+use Rattle.moves.proofs.Showing.{led_one}
 use Rattle.ends.proofs.growth.put_led.Goals as goal
 
 pub put_next-requires-clause-within : goal.put_next-requires-clause-within

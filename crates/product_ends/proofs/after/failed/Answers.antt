@@ -1,6 +1,6 @@
 use Rattle.products.specs.Products.{Family, HavePlaces}
 use Rattle.std.proofs.Common.{ap, sym, subst}
-use Rattle.ends.specs.EndSteps.{Fails}
+use Rattle.moves.specs.EndSteps.{Fails}
 use Rattle.product_ends.proofs.Left.{left_failed, shown_none, too_short}
 use Rattle.product_ends.proofs.after.failed.Goals as goal
 use Rattle.product_ends.proofs.after.failed.Goals.{in_default-via-in-Some+else-call-places, in_default-via-in_default}

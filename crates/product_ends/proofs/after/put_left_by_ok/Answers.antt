@@ -1,7 +1,8 @@
 use Rattle.std.proofs.Common.{inr, ap, sym, subst}
 use Rattle.rows.proofs.Elements.{Contains-nil}
-use Rattle.ends.specs.EndSteps.{Settles}
-use Rattle.ends.specs.Tables.{AreMarksOf, with_rows}
+use Rattle.moves.specs.EndSteps.{Settles}
+use Rattle.moves.specs.Tables.{with_rows}
+use Rattle.ends.specs.Oks.{AreMarksOf}
 use Rattle.ends.proofs.Settling.{none_settles}
 use Rattle.products.specs.Products.{Family, HavePlaces, rows_in}
 use Rattle.product_ends.proofs.Left.{left_settled, shown_none, too_short}

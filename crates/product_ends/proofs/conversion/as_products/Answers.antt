@@ -1,5 +1,5 @@
 use Rattle.std.proofs.Common.{◌≡◌, ◌<◌, ◌∙◌, length, ap, subst, arith}
-use Rattle.ends.specs.Tables.{rows_of}
+use Rattle.moves.specs.Tables.{rows_of}
 use Rattle.products.specs.Products.{Family}
 use Rattle.products.proofs.Leaving.{AreSoFar, so_far_none}
 use Rattle.product_ends.proofs.Converting.{StandsAt, all_rows, first_is, row_more, same_parts}

@@ -1,6 +1,6 @@
 -- So far the products have the rows of the table before this place.
 use Rattle.std.proofs.Common.{◌≡◌}
-use Rattle.ends.specs.Tables.{rows_of}
+use Rattle.moves.specs.Tables.{rows_of}
 use Rattle.products.proofs.Leaving.{AreSoFar}
 use Rattle.product_ends.proofs.Converting.{StandsAt}
 use Rattle.product_ends.proofs.conversion.as_products.Given as goal

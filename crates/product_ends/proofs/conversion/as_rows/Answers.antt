@@ -1,6 +1,6 @@
 use Rattle.std.proofs.Common.{◌≡◌, ◌∷◌, ◌++◌, [], ℕ, List, length, refl, subst, sym, arith}
 use Rattle.interned.specs.Numbers.{IsOnceIn}
-use Rattle.ends.proofs.Showing.{no_get}
+use Rattle.moves.proofs.Showing.{no_get}
 use Rattle.product_ends.proofs.Saying.{places_once}
 use Rattle.products.proofs.Leaving.{product_there}
 use Rattle.product_ends.specs.Conversion.{GoesOn, HasMore}

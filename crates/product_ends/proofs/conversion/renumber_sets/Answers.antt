@@ -1,6 +1,6 @@
 use Rattle.std.proofs.Common.{◌+◌, List, ℕ, get_or, refl, sym, subst}
 use Rattle.std.specs.Option.{IfSome}
-use Rattle.ends.proofs.Adding.{IsFront-itself, IsFront-trans}
+use Rattle.moves.proofs.Adding.{IsFront-itself, IsFront-trans}
 use Rattle.product_ends.specs.Conversion.{AreRenumbered, IsRenumbered}
 use Rattle.product_ends.proofs.Renumbering.{sets_more, sets_none}
 use Rattle.product_ends.proofs.conversion.renumber_sets.Goals as goal

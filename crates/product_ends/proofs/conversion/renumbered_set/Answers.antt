@@ -5,7 +5,7 @@ use Rattle.std.specs.Option.{IfSome}
 use Rattle.std.proofs.lemmas.Option.{IfSome_then}
 use Rattle.interned.specs.Numbers.{IsOnceIn}
 use Rattle.events.specs.Events.{IsFront}
-use Rattle.ends.proofs.Adding.{IsFront-itself, IsFront-trans}
+use Rattle.moves.proofs.Adding.{IsFront-itself, IsFront-trans}
 use Rattle.product_ends.specs.Conversion.{IsSameFound}
 use Rattle.product_ends.specs.Deeds.{IsAlone}
 use Rattle.product_ends.proofs.Renumbering.{IsRenumberedTo, renumbered_alone, renumbered_bits, renumbered_more, renumbered_none, renumbered_skip}

@@ -2,8 +2,8 @@ use Rattle.std.proofs.Common.{rules, ◌≡◌, [], Some, slice_get, ◌∷◌, 
 use Rattle.models.specs.declared.finding.Found.{Found}
 use Rattle.interned.specs.Numbers.{IsSlot}
 use Rattle.interned.proofs.Lists.{get_front}
-use Rattle.ends.proofs.Moving.{alone}
-use Rattle.ends.specs.Tables.{told_by}
+use Rattle.moves.proofs.Moving.{alone}
+use Rattle.moves.specs.Tables.{told_by}
 use Rattle.product_ends.proofs.deeds.try_call.Goals as goal
 
 pub returns-in_ok-singleton-in-Some-pop-clause-deed : goal.returns-in_ok-singleton-in-Some-pop-clause-deed

@@ -4,8 +4,8 @@ use Rattle.std.proofs.lemmas.Option.{slice_get_read}
 use Rattle.std.proofs.lemmas.Result.{on_ok_weaker}
 use Rattle.std.specs.Global.{Vec}
 use Rattle.events.specs.Events.{IsFront}
-use Rattle.ends.proofs.Adding.{IsFront-push, IsFront-trans}
-use Rattle.ends.proofs.Showing.{tries_on}
+use Rattle.moves.proofs.Adding.{IsFront-push, IsFront-trans}
+use Rattle.moves.proofs.Showing.{tries_on}
 use Rattle.product_ends.specs.declared.deeds.Deed.{Deed}
 use Rattle.product_ends.specs.declared.deeds.Deeds.{Deeds}
 use Rattle.product_ends.specs.Deeds.{AreStaysTo, AreTriedTo, IsOrderWith}

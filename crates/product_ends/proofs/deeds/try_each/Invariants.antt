@@ -1,6 +1,6 @@
 use Rattle.std.proofs.Common.{◌≡◌, ◌+◌, ◌≤◌, length}
 use Rattle.events.specs.Events.{IsFront}
-use Rattle.ends.specs.Tables.{OnlyTries}
+use Rattle.moves.specs.Tables.{OnlyTries}
 use Rattle.product_ends.specs.Deeds.{AreStaysTo, AreTriedTo}
 use Rattle.product_ends.proofs.deeds.try_each.Given as goal
 

@@ -2,7 +2,7 @@ use Rattle.std.proofs.Common.{rules, ◌∙◌, ⊎_elim, length, sym, ap, refl,
 use Rattle.std.proofs.lemmas.Bool.{cases_eq}
 use Rattle.std.proofs.lemmas.Option.{slice_get_within}
 use Rattle.models.specs.Objects.{of_table}
-use Rattle.ends.proofs.Showing.{tries_on}
+use Rattle.moves.proofs.Showing.{tries_on}
 use Rattle.products.specs.Products.{Family, IsIn, IsInAt, IsInOne}
 use Rattle.product_ends.specs.Widening.{product_in}
 use Rattle.product_ends.proofs.Beginning.{grown_none, none_reached, to_itself}

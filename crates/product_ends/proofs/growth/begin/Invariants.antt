@@ -1,6 +1,6 @@
 use Rattle.std.proofs.Common.{◌≡◌, ◌<◌, ℕ, true, List, []}
 use Rattle.models.specs.Objects.{of_table}
-use Rattle.ends.specs.Tables.{OnlyTries}
+use Rattle.moves.specs.Tables.{OnlyTries}
 use Rattle.products.specs.Products.{IsInAt, IsInOne}
 use Rattle.product_ends.specs.Growing.{AreGrown, StaysReached}
 use Rattle.product_ends.proofs.growth.begin.Given as goal

@@ -1,7 +1,7 @@
 use Rattle.std.proofs.Common.{refl, sym, arith}
 use Rattle.std.proofs.lemmas.Bool.{true≢false}
 use Rattle.models.specs.Objects.{of_table}
-use Rattle.ends.proofs.Showing.{shows_more, tries_on}
+use Rattle.moves.proofs.Showing.{shows_more, tries_on}
 use Rattle.product_ends.proofs.Beginning.{kept_reached}
 use Rattle.product_ends.proofs.Closing.{all_said}
 use Rattle.product_ends.proofs.Growing.{grown_on, grown_told, may_grow, no_steps, steps_rest}

@@ -1,6 +1,6 @@
 use Rattle.std.proofs.Common.{◌-◌, ◌^◌, true, []}
 use Rattle.models.specs.Objects.{of_table}
-use Rattle.ends.specs.Tables.{OnlyTries}
+use Rattle.moves.specs.Tables.{OnlyTries}
 use Rattle.product_ends.specs.Growing.{AreClosedTo, AreGrown, AreReached, LosesNoRow, StaysReached}
 use Rattle.product_ends.proofs.growth.grow.Given as goal
 

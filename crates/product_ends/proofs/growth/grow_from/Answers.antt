@@ -1,7 +1,7 @@
 use Rattle.std.proofs.Common.{rules, ◌≡◌, ◌+◌, ⊎_elim, length, sym, refl, subst, ap, arith}
 use Rattle.std.proofs.lemmas.Bool.{cases_eq}
 use Rattle.models.specs.Objects.{of_table}
-use Rattle.ends.proofs.Showing.{tries_on}
+use Rattle.moves.proofs.Showing.{tries_on}
 use Rattle.products.specs.Products.{Product}
 use Rattle.product_ends.specs.Growing.{LeadsAt}
 use Rattle.product_ends.specs.Widening.{product_in}

@@ -1,6 +1,6 @@
 use Rattle.std.proofs.Common.{◌<◌, ◌+◌, ℕ, true}
 use Rattle.models.specs.Objects.{of_table}
-use Rattle.ends.specs.Tables.{OnlyTries}
+use Rattle.moves.specs.Tables.{OnlyTries}
 use Rattle.product_ends.specs.Growing.{AreGrown, AreReached, KeepsSource, LeadsAt, StaysReached}
 use Rattle.product_ends.specs.Widening.{product_in}
 use Rattle.product_ends.proofs.growth.grow_from.Given as goal

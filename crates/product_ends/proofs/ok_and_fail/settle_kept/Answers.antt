@@ -1,8 +1,8 @@
 use Rattle.std.proofs.Common.{rules, ◌≤◌, ◌<◌, length, subst, arith}
 use Rattle.std.proofs.lemmas.List.{take_all}
 use Rattle.models.specs.Objects.{of_table}
-use Rattle.ends.specs.EndSteps.{AreClosed}
-use Rattle.ends.specs.Tables.{with_rows}
+use Rattle.moves.specs.EndSteps.{AreClosed}
+use Rattle.moves.specs.Tables.{with_rows}
 use Rattle.products.specs.Products.{rows_in}
 use Rattle.product_ends.proofs.Reached.{kept_advanced, kept_beyond}
 use Rattle.product_ends.proofs.ok_and_fail.settle_kept.Goals as goal

@@ -1,7 +1,8 @@
 use Rattle.std.proofs.Common.{List, sym, subst}
 use Rattle.models.specs.Objects.{of_table}
-use Rattle.ends.specs.declared.pending_op.PendingOp.{PendingOp}
-use Rattle.ends.specs.Tables.{FindsLeft, rows_of, with_rows}
+use Rattle.moves.specs.declared.pending_op.PendingOp.{PendingOp}
+use Rattle.moves.specs.Tables.{rows_of, with_rows}
+use Rattle.ends.specs.Oks.{FindsLeft}
 use Rattle.products.specs.Products.{rows_in}
 use Rattle.frontier.specs.declared.product_form.ProductForm.{ProductForm}
 use Rattle.frontier.specs.Kept.{left_by, rows_by, table_of}

@@ -1,7 +1,7 @@
 use Rattle.std.proofs.Common.{rules, sym, subst}
-use Rattle.ends.specs.Tables.{ShowTheSame, rows_of, with_rows}
+use Rattle.moves.specs.Tables.{ShowTheSame, rows_of, with_rows}
 use Rattle.frontier.specs.Kept.{rows_by, table_of}
-use Rattle.ends.proofs.Renewing.{shown_same}
+use Rattle.moves.proofs.Renewing.{shown_same}
 use Rattle.frontier.proofs.frontier.Frontier.copied_form.Goals as goal
 
 pub returns-in_ok-copy-in-Some : goal.returns-in_ok-copy-in-Some

@@ -1,8 +1,8 @@
 use Rattle.std.proofs.Common.{ℕ, List, [], OnOk, sym, subst}
 use Rattle.std.specs.List.{filter}
 use Rattle.linspec.specs.Ends.{End}
-use Rattle.ends.specs.EndSteps.{Along, Fails, is_other}
-use Rattle.ends.specs.Tables.{AreShown, HasEachOnce, IsOpenAt, ShownWith, rows_of, with_rows}
+use Rattle.moves.specs.EndSteps.{Along, Fails, is_other}
+use Rattle.moves.specs.Tables.{AreShown, HasEachOnce, IsOpenAt, ShownWith, rows_of, with_rows}
 use Rattle.products.specs.Products.{rows_in}
 use Rattle.frontier.specs.Kept.{left_by, rows_by, table_of}
 use Rattle.frontier.proofs.Reordering.{shown_products}

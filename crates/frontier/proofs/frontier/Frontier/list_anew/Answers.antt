@@ -1,11 +1,11 @@
 use Rattle.std.proofs.Common.{◌∷◌, ◌≡◌, ◌≤◌, ◌+◌, ◌++◌, [], false, ap, length, length-append, map, refl, sym, take, ◌∙◌, subst, arith, rules}
 use Rattle.models.specs.Objects.{of_table}
 use Rattle.events.specs.Events.Mark.{Invoked}
-use Rattle.ends.specs.declared.pending_op.PendingOp.{PendingOp}
-use Rattle.ends.specs.KeptEnds.{AreIncluded, end_kept}
+use Rattle.moves.specs.declared.pending_op.PendingOp.{PendingOp}
+use Rattle.moves.specs.KeptEnds.{AreIncluded, end_kept}
 use Rattle.frontier.proofs.Standing.{generates_of, shown_of, stands_shown}
-use Rattle.ends.specs.EndSteps.{Along, AreClosed}
-use Rattle.ends.specs.Tables.{IsThat, ShownWith}
+use Rattle.moves.specs.EndSteps.{Along, AreClosed}
+use Rattle.moves.specs.Tables.{IsThat, ShownWith}
 use Rattle.ends.proofs.Closing.{tried_still}
 use Rattle.frontier.proofs.Judging.{kept_ends}
 use Rattle.frontier.proofs.Generating.{Generates, generates_after_invoke}

@@ -1,8 +1,8 @@
 use Rattle.std.proofs.Common.{rules, refl, sym, [], subst}
 use Rattle.std.specs.Prelude.{IfSome}
 use Rattle.models.specs.Objects.{of_table}
-use Rattle.ends.specs.EndSteps.{Along}
-use Rattle.ends.specs.Tables.{IsThat, ShownWith, with_rows}
+use Rattle.moves.specs.EndSteps.{Along}
+use Rattle.moves.specs.Tables.{IsThat, ShownWith, with_rows}
 use Rattle.products.specs.Products.{Family, rows_in}
 use Rattle.frontier.proofs.Reordering.{idle_again, shown_rows}
 use Rattle.frontier.proofs.frontier.Frontier.make_products.Goals as goal

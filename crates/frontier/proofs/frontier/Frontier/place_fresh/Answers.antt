@@ -1,7 +1,7 @@
 use Rattle.std.proofs.Common.{◌≡◌, ◌∙◌, ◌∷◌, ◌++◌, [], None, refl, sym, ap, rules}
 use Rattle.std.proofs.lemmas.Result.{err_from_is_err_and}
 use Rattle.models.specs.Objects.{of_table}
-use Rattle.ends.specs.Tables.{rows_of, with_rows}
+use Rattle.moves.specs.Tables.{rows_of, with_rows}
 use Rattle.products.specs.Products.{Family, rows_in}
 use Rattle.frontier.specs.declared.product_form.ProductForm.{ProductForm}
 use Rattle.frontier.specs.Kept.{IsIdle, IsListed, call_of, rows_by}

@@ -5,8 +5,8 @@ use Rattle.linspec.specs.Ends.{End}
 use Rattle.frontier.specs.declared.change.AfterCrash.{AfterCrash}
 use Rattle.frontier.specs.declared.change.Change.TheVariants.{Crashed as ToCrashed}
 use Rattle.frontier.specs.declared.frontier.Frontier.{Frontier}
-use Rattle.ends.specs.KeptEnds.{end_kept}
-use Rattle.ends.specs.EndSteps.{HasRead, after_crash, calls_after_crash}
+use Rattle.moves.specs.KeptEnds.{end_kept}
+use Rattle.moves.specs.EndSteps.{HasRead, after_crash, calls_after_crash}
 use Rattle.frontier.proofs.Standing.{generates_of, shown_of, stands_shown}
 use Rattle.ends.proofs.Closing.{closed_none}
 use Rattle.frontier.proofs.Judging.{kept_ends}

@@ -4,8 +4,8 @@ use Rattle.std.specs.Vec.{vec_len}
 use Rattle.models.specs.Objects.{of_table}
 use Rattle.events.specs.Events.Mark.{Returned}
 use Rattle.linspec.specs.Ends.{HasMoreThan}
-use Rattle.ends.specs.EndSteps.{is_other}
-use Rattle.ends.specs.Tables.{with_rows}
+use Rattle.moves.specs.EndSteps.{is_other}
+use Rattle.moves.specs.Tables.{with_rows}
 use Rattle.judging.specs.declared.step.Step.TheVariants.{Over}
 use Rattle.frontier.specs.Kept.{StandsFor, left_of, table_of}
 use Rattle.judging.specs.Meaning.{Answers}

@@ -1,9 +1,9 @@
 use Rattle.std.proofs.Common.{rules, refl, [], subst}
 use Rattle.std.specs.Prelude.{IfSome}
 use Rattle.models.specs.Objects.{of_table}
-use Rattle.ends.specs.declared.table.Table.{Table}
-use Rattle.ends.specs.EndSteps.{Along}
-use Rattle.ends.specs.Tables.{IsThat, ShownWith, with_rows}
+use Rattle.moves.specs.declared.table.Table.{Table}
+use Rattle.moves.specs.EndSteps.{Along}
+use Rattle.moves.specs.Tables.{IsThat, ShownWith, with_rows}
 use Rattle.products.specs.Products.{Family, rows_in}
 use Rattle.frontier.proofs.Reordering.{idle_again, shown_products}
 use Rattle.frontier.proofs.frontier.Frontier.renumber.Goals as goal

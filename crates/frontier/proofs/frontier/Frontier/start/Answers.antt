@@ -1,7 +1,7 @@
 use Rattle.std.proofs.Common.{◌≤◌, ap, refl, map, ◌∙◌, ◌∷◌, ◌++◌, [], arith}
 use Rattle.models.specs.Objects.{of_table}
-use Rattle.ends.specs.declared.kept_end.KeptEnd.{KeptEnd}
-use Rattle.ends.specs.KeptEnds.{end_kept}
+use Rattle.moves.specs.declared.kept_end.KeptEnd.{KeptEnd}
+use Rattle.moves.specs.KeptEnds.{end_kept}
 use Rattle.frontier.proofs.Standing.{shown_of, stands_shown}
 use Rattle.frontier.proofs.Preparing.{listed_stands}
 use Rattle.frontier.proofs.Generating.{generates_all}

@@ -1,5 +1,0 @@
-use Rattle.ends.specs.Tables.{SayTheSame}
-use Rattle.ends.proofs.copies.narrowed.Given as goal
-
-abbrev pub invariant-loop-from : goal.invariant-loop-from
-invariant-loop-from g l = SayTheSame l.table l.other l.from

@@ -1,5 +1,0 @@
-use Rattle.ends.proofs.Noting.{are_untried}
-use Rattle.ends.proofs.notes.Notes.forget.Goals as goal
-
-pub returns : goal.returns
-returns c = are_untried c.stamp_after-self-inside.new.list.items c.stamp_after-self-inside.result c.stamp_after-self-inside.ensures

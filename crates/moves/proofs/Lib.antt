@@ -1,0 +1,13 @@
+pub mod Included
+pub mod Adding
+pub mod Changes
+pub mod CallsInTurn
+pub mod JustInTime
+pub mod Reaching
+pub mod Rows
+pub mod Leading
+pub mod Showing
+pub mod Telling
+pub mod Noting
+pub mod Moving
+pub mod Renewing

@@ -1,0 +1,5 @@
+pub mod EndSteps
+pub mod KeptEnds
+pub mod Moves
+pub mod Notes
+pub mod Tables

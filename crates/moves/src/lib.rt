@@ -1,0 +1,24 @@
+//! The ends of the legal orders of one key's history, as rows of small numbers, and the moves of calls in their states.
+//!
+//! A row has the number of the end's state, and then a number for each call. The number is zero if the call is not in the end, else one
+//! more than the number of its answer. Equal ends are equal rows ([`Table`]). Ends become rows ([`table_of_ends`]), and rows ends
+//! ([`ends_of_table`]). A call is tried once in each state ([`step`]), and its move is remembered until the next ok ([`Moves`]).
+//!
+//! A call allocates only if its result can be `AllocError`, or a refusal because memory ran out.
+#![tactic(auto)]
+
+mod copies;
+mod kept_end;
+mod moves;
+mod notes;
+mod pending_op;
+pub mod table;
+
+pub use copies::{copied, copied_whole};
+pub use kept_end::{KeptEnd, copy_of};
+pub use moves::{
+    Attempt, Known, Like, Move, Moves, count_leading_nowhere, forget, note_likes,
+    run_of_equal_calls,
+};
+pub use pending_op::{PendingOp, copy_calls, crash_call, drop_call, is_read};
+pub use table::{Table, clear, empty, ends_of_table, refill, step, table_of_ends, told_by};
