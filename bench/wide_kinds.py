@@ -3,7 +3,8 @@
 [--kind NAME] [--clients N,..]`; JEPMON names the program.
 
 A load is one key of a correct object, whose clients never rest. At each step one client, drawn at random, invokes an operation, or its
-operation takes place, or it returns or times out. All values differ. A row has a load, and for each of both kinds the number of seeds that
+operation takes place, or it returns or times out. All values differ. Of a queue a read is a dequeue; one that finds nothing fails, as a cas
+does whose first value is not the state. A row has a load, and for each of both kinds the number of seeds that
 `jepmon check` decides at the budgets 4,096 and 65,536. If it decides all at 65,536, the row also has the least power of two that decides
 all of them. The last cell has the microseconds of the processor for an event. A key that takes more seconds of the processor than the limit
 is late.
@@ -21,7 +22,8 @@ sys.path.insert(0, str(pathlib.Path(__file__).resolve().parent.parent / "python"
 from jepmon.program import find_program  # noqa: E402
 
 GREATEST = 16  # the power of two that is the greatest budget
-UPDATES = {"register": "write", "set": "add"}
+UPDATES = {"register": "write", "cas-register": "write", "fifo-queue": "enqueue", "set": "add", "unordered-queue": "enqueue"}
+QUEUES = ("fifo-queue", "unordered-queue")
 CLIENTS = (5, 8, 12, 16, 20)
 READS = (0.3, 0.5, 0.9)
 TIMEOUTS = (0.0, 0.01, 0.05)
@@ -40,13 +42,41 @@ class Client:
     def __init__(self, process: int) -> None:
         self.process = process
         self.name, self.part, self.answer = "", "nil", ""
-        self.is_open = self.took_place = False
+        self.is_open = self.took_place = self.fails = False
 
 
 class Result(NamedTuple):
     is_decided: bool
     is_late: bool
     seconds: float  # of the processor
+
+
+def ask(load: Load, client: Client, draw: random.Random, value: int, state: List[int]) -> None:
+    """The client invokes an operation. A cas is half of the updates of a cas-register, and its first value is the state, three times of four."""
+    client.is_open, client.took_place, client.fails = True, False, False
+    if draw.random() < load.reads:
+        client.name, client.part = "dequeue" if load.kind in QUEUES else "read", "nil"
+    elif load.kind == "cas-register" and draw.random() < 0.5:
+        first = state[-1] if state and draw.random() < 0.75 else value - 1
+        client.name, client.part = "cas", f"[{first} {value}]"
+    else:
+        client.name, client.part = UPDATES[load.kind], str(value)
+
+
+def take_place(load: Load, client: Client, draw: random.Random, state: List[int]) -> None:
+    """The client's operation takes place, and finds its answer. The state of a register is its last value."""
+    client.took_place, client.answer = True, client.part
+    if client.name == "read":
+        client.answer = "#{" + " ".join(map(str, state)) + "}" if load.kind == "set" else str(state[-1]) if state else "nil"
+    elif client.name == "dequeue":
+        client.fails = not state
+        client.answer = str(state.pop(draw.randrange(len(state)) if load.kind == "unordered-queue" else 0)) if state else "nil"
+    elif client.name == "cas":
+        first, second = map(int, client.part[1:-1].split())
+        client.fails = not state or state[-1] != first
+        state += [] if client.fails else [second]
+    else:
+        state.append(int(client.part))
 
 
 def events_of(load: Load, operations: int, seed: int) -> Iterator[str]:
@@ -60,20 +90,15 @@ def events_of(load: Load, operations: int, seed: int) -> Iterator[str]:
         if not client.is_open:
             if invoked < operations:
                 invoked += 1
-                client.is_open, client.took_place = True, False
-                client.name, client.part = ("read", "nil") if draw.random() < load.reads else (UPDATES[load.kind], str(invoked))
+                ask(load, client, draw, invoked, state)
                 yield told(client, "invoke", client.part)
         elif not client.took_place:
-            client.took_place, client.answer = True, client.part
-            if client.name == "read":
-                client.answer = "#{" + " ".join(map(str, state)) + "}" if load.kind == "set" else str(state[-1]) if state else "nil"
-            else:
-                state.append(int(client.part))
+            take_place(load, client, draw, state)
         elif draw.random() < load.timeouts:
             yield told(client, "info", client.part)
             client.process, client.is_open = client.process + load.clients, False
         else:
-            yield told(client, "ok", client.answer)
+            yield told(client, "fail", client.part) if client.fails else told(client, "ok", client.answer)
             client.is_open = False
 
 
