@@ -1,46 +1,14 @@
-//! Histories of registers with compare and set that are judged by their ends, event by event.
-use crate::registers::Said::{Nil, One, Two};
-use crate::registers::{Row, part_of};
+//! Histories of registers with compare and set that are judged by their ends.
+use crate::rows::Said::{Nil, One, Two};
+use crate::rows::{Case, Row, assert_steps, steps_of};
 use events::EventKind::{Fail as Failed, Info as Crashed, Invoke, Ok as Done};
-use judging::Step::{Alive, Dead, Over};
+use frontier::Step::{Alive, Dead, Over};
+use models::ModelKind;
 use models::Name::{Cas, Read, Write};
-use models::Op;
 use std::alloc::{AllocError, Global};
-use std::test::Fail;
 use wide_cas_register::WideCasRegister;
 
-// Each event is prepared and committed, and observed by a copy.
-fn judge_next(register: &mut WideCasRegister, row: Row) -> Result<bool, AllocError> {
-    let (id, kind, name, said, want) = row;
-    let op = Op {
-        name,
-        key: 7,
-        part: part_of(said),
-    };
-    let mut other = register.copy()?;
-    let step = register.prepare(id, kind, &op)?;
-    register.commit();
-    Ok(
-        step == want
-            && other.observe(id, kind, &op)? == want
-            && other.applied() == register.applied(),
-    )
-}
-
-// How many steps the history takes, if each answer is as it is to be.
-fn judge(alloc: Global, budget: u32, rows: &[Row]) -> Result<Option<u64>, AllocError> {
-    let mut register = WideCasRegister::start(alloc, budget)?;
-    for row in rows {
-        if !judge_next(&mut register, *row)? {
-            return Ok(None);
-        }
-    }
-    Ok(if register.budget() == budget {
-        Some(register.applied())
-    } else {
-        None
-    })
-}
+const KIND: ModelKind = ModelKind::WideCasRegister;
 
 const STALE_READ: [Row; 6] = [
     (0, Invoke, Write, One(5), Alive),
@@ -115,42 +83,50 @@ const THREE_FRONTS_OF_TWO: [Row; 4] = [
     (1, Failed, Write, One(6), Alive),
 ];
 
+const LEGAL: [Case; 1] = [(2, &NIL_FITS_ALWAYS, Some(3))];
+
 #[test]
-fn wide_cas_register_is_legal(rt: HostRuntime) -> Result<(), Fail> {
-    let alloc = rt.alloc();
-    let nil = judge(alloc, 2, &NIL_FITS_ALWAYS)?;
-    assert!(rt; nil == Some(3), "nil");
-    Ok(())
+fn wide_cas_register_is_legal(rt: HostRuntime) {
+    assert_steps(&rt, rt.alloc(), KIND, &LEGAL, false);
+}
+
+const ILLEGAL: [Case; 2] = [
+    (2, &STALE_READ, Some(5)),
+    (1, &NO_VALUE_TO_COMPARE, Some(1)),
+];
+
+#[test]
+fn wide_cas_register_is_illegal(rt: HostRuntime) {
+    assert_steps(&rt, rt.alloc(), KIND, &ILLEGAL, false);
+}
+
+const PLACED: [Case; 2] = [
+    (2, &CAS_THAT_TIMED_OUT, Some(8)),
+    (4, &TWO_IN_A_ROW, Some(21)),
+];
+
+#[test]
+fn wide_cas_register_places_operations(rt: HostRuntime) {
+    assert_steps(&rt, rt.alloc(), KIND, &PLACED, false);
+    let hidden = steps_of(rt.alloc(), KIND, 9, &HIDDEN_WRITE_IS_FOUND, false);
+    assert!(rt; matches!(hidden, Ok(Some(_))));
+}
+
+const COUNTED: [Case; 2] = [
+    (3, &THREE_FRONTS, Some(6)),
+    (2, &THREE_FRONTS_OF_TWO, Some(2)),
+];
+
+#[test]
+fn wide_cas_register_is_over(rt: HostRuntime) {
+    assert_steps(&rt, rt.alloc(), KIND, &COUNTED, false);
+}
+
+fn budget_of_nine(alloc: Global) -> Result<u32, AllocError> {
+    Ok(WideCasRegister::start(alloc, 9)?.budget())
 }
 
 #[test]
-fn wide_cas_register_is_illegal(rt: HostRuntime) -> Result<(), Fail> {
-    let alloc = rt.alloc();
-    let stale = judge(alloc, 2, &STALE_READ)?;
-    let none = judge(alloc, 1, &NO_VALUE_TO_COMPARE)?;
-    assert!(rt; stale == Some(5), "stale read");
-    assert!(rt; none == Some(1), "no value to compare");
-    Ok(())
-}
-
-#[test]
-fn wide_cas_register_places_operations(rt: HostRuntime) -> Result<(), Fail> {
-    let alloc = rt.alloc();
-    let late = judge(alloc, 2, &CAS_THAT_TIMED_OUT)?;
-    let two = judge(alloc, 4, &TWO_IN_A_ROW)?;
-    let hidden = judge(alloc, 9, &HIDDEN_WRITE_IS_FOUND)?;
-    assert!(rt; late == Some(8), "a cas that timed out");
-    assert!(rt; two == Some(21), "two in a row");
-    assert!(rt; hidden.is_some(), "a hidden write");
-    Ok(())
-}
-
-#[test]
-fn wide_cas_register_is_over(rt: HostRuntime) -> Result<(), Fail> {
-    let alloc = rt.alloc();
-    let three = judge(alloc, 3, &THREE_FRONTS)?;
-    let two = judge(alloc, 2, &THREE_FRONTS_OF_TWO)?;
-    assert!(rt; three == Some(6), "three fronts, by a budget of three");
-    assert!(rt; two == Some(2), "three fronts, by a budget of two");
-    Ok(())
+fn wide_cas_register_keeps_its_budget(rt: HostRuntime) {
+    assert!(rt; budget_of_nine(rt.alloc()) == Ok(9));
 }

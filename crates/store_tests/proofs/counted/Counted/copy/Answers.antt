@@ -1,5 +1,5 @@
-use Rattle.trial_tests.proofs.Counting.{rest_counted}
-use Rattle.trial_tests.proofs.counted.Counted.copy.Goals as goal
+use Rattle.store_tests.proofs.Counting.{rest_counted}
+use Rattle.store_tests.proofs.counted.Counted.copy.Goals as goal
 
 pub invariant_of-result : goal.invariant_of-result
 invariant_of-result c = record {

@@ -1,52 +1,12 @@
-//! Histories of queues, event by event.
-use events::EventKind;
+//! Histories of queues.
+use crate::rows::Said::{Nil, One};
+use crate::rows::{Case, Row, assert_steps};
 use events::EventKind::{Fail as Failed, Info as Crashed, Invoke, Ok as Done};
-use judging::Step;
-use judging::Step::{Alive, Dead, Over};
+use frontier::Step::{Alive, Dead, Over};
+use models::ModelKind;
 use models::Name::{Dequeue, Enqueue, Read};
-use models::{Name, Op, Part};
-use std::alloc::{AllocError, Global};
-use std::test::Fail;
-use wide_fifo_queue::WideFifoQueue;
 
-// What an event carries: nothing, or a value.
-#[derive(Clone, Copy)]
-enum Said {
-    Nil,
-    One(i64),
-}
-
-use Said::{Nil, One};
-
-fn part_of(said: Said) -> Part {
-    match said {
-        Nil => Part::Nil,
-        One(value) => Part::Int(value),
-    }
-}
-
-// An event of the operation with this id, and its answer.
-type Row = (u32, EventKind, Name, Said, Step);
-
-// Whether each event is answered so, by one queue, or each event by a copy of the queue before it. Nothing is tried.
-fn judge(alloc: Global, rows: &[Row], copies: bool) -> Result<bool, AllocError> {
-    let mut queue = WideFifoQueue::start(alloc, 1);
-    for row in rows {
-        let (id, kind, name, said, want) = *row;
-        if copies {
-            queue = queue.copy()?;
-        }
-        let op = Op {
-            name,
-            key: 7,
-            part: part_of(said),
-        };
-        if queue.observe(id, kind, &op)? != want {
-            return Ok(false);
-        }
-    }
-    Ok(queue.applied() == 0)
-}
+const KIND: ModelKind = ModelKind::WideFifoQueue;
 
 // The values overlap, so either may come out first, but not twice.
 const EITHER_FIRST: [Row; 10] = [
@@ -141,30 +101,26 @@ const NEVER_ENQUEUED: [Row; 2] = [
 
 const NO_READS: [Row; 2] = [(0, Invoke, Read, Nil, Alive), (0, Done, Read, One(5), Dead)];
 
+const CASES: [Case; 10] = [
+    (1, &EITHER_FIRST, Some(0)),
+    (1, &OUT_OF_TURN, Some(0)),
+    (1, &CRASHED_TAKER, Some(0)),
+    (1, &FAILED_TAKER, Some(0)),
+    (1, &FAILED_ENQUEUE_CAME_OUT, Some(0)),
+    (1, &FAILED_ENQUEUE, Some(0)),
+    (1, &EQUAL_VALUES, Some(0)),
+    (1, &NIL_IS_NO_VALUE, Some(0)),
+    (1, &NEVER_ENQUEUED, Some(0)),
+    (1, &NO_READS, Some(0)),
+];
+
+// Nothing is tried.
 #[test]
-fn wide_queue_answers(rt: HostRuntime) -> Result<(), Fail> {
-    let alloc = rt.alloc();
-    assert!(rt; judge(alloc, &EITHER_FIRST, false)?, "either first");
-    assert!(rt; judge(alloc, &OUT_OF_TURN, false)?, "out of turn");
-    assert!(rt; judge(alloc, &CRASHED_TAKER, false)?, "a crashed taker");
-    assert!(rt; judge(alloc, &FAILED_TAKER, false)?, "a failed taker");
-    assert!(rt;
-        judge(alloc, &FAILED_ENQUEUE_CAME_OUT, false)?,
-        "a failed enqueue came out"
-    );
-    assert!(rt; judge(alloc, &FAILED_ENQUEUE, false)?, "a failed enqueue");
-    assert!(rt; judge(alloc, &EQUAL_VALUES, false)?, "equal values");
-    assert!(rt; judge(alloc, &NIL_IS_NO_VALUE, false)?, "nil is no value");
-    assert!(rt; judge(alloc, &NEVER_ENQUEUED, false)?, "never enqueued");
-    assert!(rt; judge(alloc, &NO_READS, false)?, "no reads");
-    Ok(())
+fn wide_queue_answers(rt: HostRuntime) {
+    assert_steps(&rt, rt.alloc(), KIND, &CASES, false);
 }
 
 #[test]
-fn copies_of_wide_queues(rt: HostRuntime) -> Result<(), Fail> {
-    let alloc = rt.alloc();
-    assert!(rt; judge(alloc, &EITHER_FIRST, true)?, "either first");
-    assert!(rt; judge(alloc, &CRASHED_TAKER, true)?, "a crashed taker");
-    assert!(rt; judge(alloc, &EQUAL_VALUES, true)?, "equal values");
-    Ok(())
+fn copies_of_wide_queues(rt: HostRuntime) {
+    assert_steps(&rt, rt.alloc(), KIND, &CASES, true);
 }

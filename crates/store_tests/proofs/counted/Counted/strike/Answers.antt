@@ -1,5 +1,5 @@
-use Rattle.trial_tests.proofs.Counting.{fault_counted}
-use Rattle.trial_tests.proofs.counted.Counted.strike.Goals as goal
+use Rattle.store_tests.proofs.Counting.{fault_counted}
+use Rattle.store_tests.proofs.counted.Counted.strike.Goals as goal
 
 pub invariant_of-self : goal.invariant_of-self
 invariant_of-self c = record {

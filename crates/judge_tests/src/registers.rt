@@ -1,68 +1,14 @@
-//! Histories of registers that are judged by lean ends, event by event.
-use events::EventKind;
+//! Histories of registers that are judged by lean ends.
+use crate::rows::Said::{Nil, One, Two};
+use crate::rows::{Case, Row, assert_steps, steps_of};
 use events::EventKind::{Fail as Failed, Info as Crashed, Invoke, Ok as Done};
-use judging::Step;
-use judging::Step::{Alive, Dead, Over};
+use frontier::Step::{Alive, Dead, Over};
+use models::ModelKind;
 use models::Name::{Cas, Read, Write};
-use models::{Name, Op, Part};
 use std::alloc::{AllocError, Global};
-use std::test::Fail;
 use wide_register::WideRegister;
 
-/// What an event carries: nothing, a value, or two.
-#[derive(Clone, Copy)]
-pub enum Said {
-    Nil,
-    One(i64),
-    Two(i64, i64),
-}
-
-use Said::{Nil, One, Two};
-
-/// The part of an operation.
-pub fn part_of(said: Said) -> Part {
-    match said {
-        Nil => Part::Nil,
-        One(value) => Part::Int(value),
-        Two(old, new) => Part::Pair(old, new),
-    }
-}
-
-/// An event of the operation with this id, and its answer.
-pub type Row = (u32, EventKind, Name, Said, Step);
-
-// Each event is prepared and committed, and observed by a copy.
-fn judge_next(register: &mut WideRegister, row: Row) -> Result<bool, AllocError> {
-    let (id, kind, name, said, want) = row;
-    let op = Op {
-        name,
-        key: 7,
-        part: part_of(said),
-    };
-    let mut other = register.copy()?;
-    let step = register.prepare(id, kind, &op)?;
-    register.commit();
-    Ok(
-        step == want
-            && other.observe(id, kind, &op)? == want
-            && other.applied() == register.applied(),
-    )
-}
-
-// How many steps the history takes, if each answer is as it is to be.
-fn judge(alloc: Global, budget: u32, rows: &[Row]) -> Result<Option<u64>, AllocError> {
-    let mut register = WideRegister::start(alloc, budget)?;
-    for row in rows {
-        if !judge_next(&mut register, *row)? {
-            return Ok(None);
-        }
-    }
-    Ok(if register.budget() == budget {
-        Some(register.applied())
-    } else {
-        None
-    })
-}
+const KIND: ModelKind = ModelKind::WideRegister;
 
 const STALE_READ: [Row; 6] = [
     (0, Invoke, Write, One(5), Alive),
@@ -188,52 +134,54 @@ const TWO_ENDS_OF_ONE: [Row; 7] = [
     (0, Crashed, Write, One(5), Alive),
 ];
 
+const LEGAL: [Case; 4] = [
+    (1, &OLD_VALUE_OF_A_READ_THAT_IS_OPEN, Some(2)),
+    (2, &ANOTHER_WRITE_OF_THE_VALUE_STAYS, Some(2)),
+    (1, &WRITE_BEFORE_ANOTHER_ONE, None),
+    (1, &NIL_FITS_ALWAYS, Some(1)),
+];
+
 #[test]
-fn wide_register_is_legal(rt: HostRuntime) -> Result<(), Fail> {
-    let alloc = rt.alloc();
-    let old_value = judge(alloc, 1, &OLD_VALUE_OF_A_READ_THAT_IS_OPEN)?;
-    let another_write = judge(alloc, 2, &ANOTHER_WRITE_OF_THE_VALUE_STAYS)?;
-    let before = judge(alloc, 1, &WRITE_BEFORE_ANOTHER_ONE)?;
-    let nil = judge(alloc, 1, &NIL_FITS_ALWAYS)?;
-    assert!(rt; old_value == Some(2), "old value");
-    assert!(rt; another_write == Some(2), "another write");
-    assert!(rt; before == None, "before, by one end");
-    assert!(rt; nil == Some(1), "nil");
-    Ok(())
+fn wide_register_is_legal(rt: HostRuntime) {
+    assert_steps(&rt, rt.alloc(), KIND, &LEGAL, false);
+}
+
+const ILLEGAL: [Case; 3] = [
+    (1, &STALE_READ, Some(2)),
+    (1, &FAILED_WRITE_WAS_READ, Some(1)),
+    (1, &NO_CAS, Some(0)),
+];
+
+#[test]
+fn wide_register_is_illegal(rt: HostRuntime) {
+    assert_steps(&rt, rt.alloc(), KIND, &ILLEGAL, false);
+}
+
+const PLACED: [Case; 3] = [
+    (1, &NO_WRITE_BEFORE_ITS_INVOCATION, Some(2)),
+    (2, &WRITE_BEFORE_ANOTHER_ONE, Some(2)),
+    (1, &WRITE_TWICE, Some(3)),
+];
+
+#[test]
+fn wide_register_places_writes(rt: HostRuntime) {
+    assert_steps(&rt, rt.alloc(), KIND, &PLACED, false);
+    let hidden = steps_of(rt.alloc(), KIND, 9, &HIDDEN_WRITE_IS_FOUND, false);
+    assert!(rt; matches!(hidden, Ok(Some(_))));
+}
+
+const COUNTED: [Case; 2] = [(2, &TWO_ENDS, Some(4)), (1, &TWO_ENDS_OF_ONE, Some(2))];
+
+#[test]
+fn wide_register_is_over(rt: HostRuntime) {
+    assert_steps(&rt, rt.alloc(), KIND, &COUNTED, false);
+}
+
+fn budget_of_nine(alloc: Global) -> Result<u32, AllocError> {
+    Ok(WideRegister::start(alloc, 9)?.budget())
 }
 
 #[test]
-fn wide_register_is_illegal(rt: HostRuntime) -> Result<(), Fail> {
-    let alloc = rt.alloc();
-    let stale = judge(alloc, 1, &STALE_READ)?;
-    let failed = judge(alloc, 1, &FAILED_WRITE_WAS_READ)?;
-    let no_cas = judge(alloc, 1, &NO_CAS)?;
-    assert!(rt; stale == Some(2), "stale read");
-    assert!(rt; failed == Some(1), "a failed write was read");
-    assert!(rt; no_cas == Some(0), "no cas");
-    Ok(())
-}
-
-#[test]
-fn wide_register_places_writes(rt: HostRuntime) -> Result<(), Fail> {
-    let alloc = rt.alloc();
-    let hidden = judge(alloc, 9, &HIDDEN_WRITE_IS_FOUND)?;
-    let invoked = judge(alloc, 1, &NO_WRITE_BEFORE_ITS_INVOCATION)?;
-    let before = judge(alloc, 2, &WRITE_BEFORE_ANOTHER_ONE)?;
-    let twice = judge(alloc, 1, &WRITE_TWICE)?;
-    assert!(rt; hidden.is_some(), "a hidden write");
-    assert!(rt; invoked == Some(2), "no write before its invocation");
-    assert!(rt; before == Some(2), "a write before another one");
-    assert!(rt; twice == Some(3), "a write takes place once");
-    Ok(())
-}
-
-#[test]
-fn wide_register_is_over(rt: HostRuntime) -> Result<(), Fail> {
-    let alloc = rt.alloc();
-    let two = judge(alloc, 2, &TWO_ENDS)?;
-    let one = judge(alloc, 1, &TWO_ENDS_OF_ONE)?;
-    assert!(rt; two == Some(4), "two ends, by a budget of two");
-    assert!(rt; one == Some(2), "two ends, by a budget of one");
-    Ok(())
+fn wide_register_keeps_its_budget(rt: HostRuntime) {
+    assert!(rt; budget_of_nine(rt.alloc()) == Ok(9));
 }

@@ -1,6 +1,6 @@
 use Rattle.std.proofs.Common.{◌≤◌, arith}
-use Rattle.trial_tests.proofs.Counting.{serve_counted}
-use Rattle.trial_tests.proofs.counted.Counted.serve.Goals as goal
+use Rattle.store_tests.proofs.Counting.{serve_counted}
+use Rattle.store_tests.proofs.counted.Counted.serve.Goals as goal
 
 pub serve-outcome-requires-clause-versions : goal.serve-outcome-requires-clause-versions
 serve-outcome-requires-clause-versions c held h =
