@@ -1,7 +1,6 @@
 //! Clients that wait for each other.
 ghost use Rattle.std.specs.Prelude.{◌≡◌};
 
-use crate::boards::{TURNS, comes};
 use crate::client_boards::{blank, read};
 use board::{Blank, Tag};
 use clients::{NoWatch, run_clients};
@@ -12,6 +11,7 @@ use std::process::Abort;
 use std::sync::Wait;
 use std::sync::atomic::{AtomicBool, Ordering};
 use std::thread::Threads;
+use waiting::{TURNS, comes};
 
 // Each of two clients waits before its first command until the other is there too; and the first, after the answer to it,
 // until the second has its own.

@@ -1,4 +1,4 @@
-use Rattle.board_tests.proofs.news_across.news_between_threads.Given as goal
+use Rattle.client_tests.proofs.news_across.news_between_threads.Given as goal
 
 abbrev pub ghosts-tell-B-Tag : goal.ghosts-tell-B-Tag
 ghosts-tell-B-Tag g a = record { word = a.blank.word }

@@ -1,8 +1,8 @@
 -- Threads may share the board of the one-thread object and get its seats and news.
 use denote.Param.Send.{param_send, param_sync}
 use Rattle.board.proofs.Crossing.{board_sync, seat_send}
-use Rattle.board_tests.proofs.Crossing.{news_send}
-use Rattle.board_tests.proofs.news_across.tell.Goals as goal
+use Rattle.client_tests.proofs.Crossing.{news_send}
+use Rattle.client_tests.proofs.news_across.tell.Goals as goal
 
 pub tell_across-first-requires-sync-M : goal.tell_across-first-requires-sync-M
 tell_across-first-requires-sync-M g c κs within =

@@ -1,7 +1,6 @@
 //! Rewinds and changes of kind under running clients.
 ghost use Rattle.std.specs.Prelude.{◌≡◌};
 
-use crate::boards::TURNS;
 use crate::client_boards::{blank, read, write};
 use crate::commanded::CommandedBoard;
 use board::{Blank, Tag};
@@ -17,6 +16,7 @@ use std::process::Abort;
 use std::sync::Wait;
 use std::thread;
 use std::thread::{Threads, join};
+use waiting::TURNS;
 
 const CUTS: u32 = 50;
 

@@ -1,4 +1,4 @@
-use Rattle.board_tests.proofs.overlap.clients_overlap.Given as goal
+use Rattle.client_tests.proofs.overlap.clients_overlap.Given as goal
 
 abbrev pub ghosts-overlap-B-Tag : goal.ghosts-overlap-B-Tag
 ghosts-overlap-B-Tag g a = record { word = a.blank.word }

@@ -1,4 +1,4 @@
-use Rattle.board_tests.proofs.striking.due_faults_strike.Given as goal
+use Rattle.client_tests.proofs.striking.due_faults_strike.Given as goal
 
 abbrev pub ghosts-strike-B-Tag : goal.ghosts-strike-B-Tag
 ghosts-strike-B-Tag g a = record { word = a.blank.word }

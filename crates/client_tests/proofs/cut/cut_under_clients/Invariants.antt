@@ -1,4 +1,4 @@
-use Rattle.board_tests.proofs.cut.cut_under_clients.Given as goal
+use Rattle.client_tests.proofs.cut.cut_under_clients.Given as goal
 
 abbrev pub ghosts-run_and_cut-B-Tag : goal.ghosts-run_and_cut-B-Tag
 ghosts-run_and_cut-B-Tag g a = record { word = a.blank.word }

@@ -1,7 +1,6 @@
 //! Faults that are due before a client begins.
 ghost use Rattle.std.specs.Prelude.{◌≡◌};
 
-use crate::boards::TURNS;
 use crate::client_boards::{blank_under, read};
 use board::{Blank, Tag};
 use clients::{Watch, run_clients};
@@ -16,6 +15,7 @@ use std::sync::Wait;
 use std::sync::atomic::{AtomicBool, AtomicU64, Ordering};
 use std::thread;
 use std::thread::Threads;
+use waiting::TURNS;
 
 // The tries after the first one by which all three faults have struck.
 const TRIES: u64 = 2;
