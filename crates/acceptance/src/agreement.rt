@@ -409,8 +409,8 @@ fn compare_all(
     Ok(all)
 }
 
-/// There are 480 histories, 60 of each kind, and the rows have how many are legal. In 416 an operation is open at the end, in
-/// 246 one has failed, in 264 one has crashed.
+/// There are 600 histories, 60 of each kind but wide fifo queues, since values are equal here. The rows have how many are legal. In 520 an
+/// operation is open at the end, in 296 one has failed, in 326 one has crashed.
 #[test]
 fn orders_and_ends_agree(rt: HostRuntime) -> Result<(), Fail> {
     let kinds = [
@@ -422,10 +422,12 @@ fn orders_and_ends_agree(rt: HostRuntime) -> Result<(), Fail> {
         (ModelKind::UnorderedQueue, 23),
         (ModelKind::WideRegister, 34),
         (ModelKind::WideSet, 17),
+        (ModelKind::WideCasRegister, 28),
+        (ModelKind::WideUnorderedQueue, 20),
     ];
     let all = compare_all(rt.alloc(), 1, Form::Mixed, 60, &kinds)?;
-    assert!(rt; (all.legal, all.illegal) == (190, 290));
-    assert!(rt; (all.open, all.failed, all.crashed) == (416, 246, 264));
+    assert!(rt; (all.legal, all.illegal) == (238, 362));
+    assert!(rt; (all.open, all.failed, all.crashed) == (520, 296, 326));
     Ok(())
 }
 
@@ -447,18 +449,23 @@ fn orders_and_ends_agree_on_eight_open(rt: HostRuntime) -> Result<(), Fail> {
     Ok(())
 }
 
-/// So it is of 40 more, 20 of each wide kind. In 28 an operation has failed, in 35 one has crashed.
+/// So it is of 80 more, 20 of each wide kind but that of fifo queues. In 56 an operation has failed, in 65 one has crashed.
 #[test]
 fn wide_kinds_agree_on_eight_open(rt: HostRuntime) -> Result<(), Fail> {
-    let kinds = [(ModelKind::WideRegister, 14), (ModelKind::WideSet, 12)];
+    let kinds = [
+        (ModelKind::WideRegister, 14),
+        (ModelKind::WideSet, 12),
+        (ModelKind::WideCasRegister, 12),
+        (ModelKind::WideUnorderedQueue, 8),
+    ];
     let all = compare_all(rt.alloc(), 4, Form::AllOpen, 20, &kinds)?;
-    assert!(rt; (all.legal, all.illegal) == (26, 14));
-    assert!(rt; (all.failed, all.crashed) == (28, 35));
+    assert!(rt; (all.legal, all.illegal) == (46, 34));
+    assert!(rt; (all.failed, all.crashed) == (56, 65));
     Ok(())
 }
 
-/// There are 300 more histories, 50 of each kind that reads and 50 of unordered queues; half of their reads that end crash. The
-/// rows have how many are legal. In 190 a read has crashed, in 161 an operation has failed.
+/// There are 400 more histories, 50 of each kind that reads and of each kind of unordered queues; half of their reads that end crash. The
+/// rows have how many are legal. In 217 a read has crashed, in 214 an operation has failed.
 #[test]
 fn orders_and_ends_agree_on_crashed_reads(rt: HostRuntime) -> Result<(), Fail> {
     let kinds = [
@@ -468,9 +475,11 @@ fn orders_and_ends_agree_on_crashed_reads(rt: HostRuntime) -> Result<(), Fail> {
         (ModelKind::UnorderedQueue, 10),
         (ModelKind::WideRegister, 27),
         (ModelKind::WideSet, 28),
+        (ModelKind::WideCasRegister, 18),
+        (ModelKind::WideUnorderedQueue, 18),
     ];
     let all = compare_all(rt.alloc(), 3, Form::Crashing, 50, &kinds)?;
-    assert!(rt; (all.legal, all.illegal) == (145, 155));
-    assert!(rt; (all.failed, all.crashed, all.crashed_read) == (161, 248, 190));
+    assert!(rt; (all.legal, all.illegal) == (181, 219));
+    assert!(rt; (all.failed, all.crashed, all.crashed_read) == (214, 315, 217));
     Ok(())
 }
