@@ -7,9 +7,9 @@ mod cas_registers;
 #[cfg(test)]
 mod fifo_queues;
 #[cfg(test)]
-mod registers;
+mod judge_rows;
 #[cfg(test)]
-mod rows;
+mod registers;
 #[cfg(test)]
 mod sets;
 #[cfg(test)]

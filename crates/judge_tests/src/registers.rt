@@ -1,6 +1,6 @@
 //! Histories of registers that are judged by lean ends.
-use crate::rows::Said::{Nil, One, Two};
-use crate::rows::{Case, Row, assert_steps, steps_of};
+use crate::judge_rows::Said::{Nil, One, Two};
+use crate::judge_rows::{Case, Row, assert_steps, steps_of};
 use events::EventKind::{Fail as Failed, Info as Crashed, Invoke, Ok as Done};
 use frontier::Step::{Alive, Dead, Over};
 use models::ModelKind;

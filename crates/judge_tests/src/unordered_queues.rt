@@ -1,6 +1,6 @@
 //! Histories of queues without an order.
-use crate::rows::Said::{Nil, One};
-use crate::rows::{Case, Row, assert_steps};
+use crate::judge_rows::Said::{Nil, One};
+use crate::judge_rows::{Case, Row, assert_steps};
 use events::EventKind::{Fail as Failed, Info as Crashed, Invoke, Ok as Done};
 use frontier::Step::{Alive, Dead};
 use models::ModelKind;
