@@ -5,7 +5,8 @@ of their own in instructions (bad_inputs.py).
 
 usage: growth.py [--size N] [--seconds S] [--mebibytes M] [--only WORD]. JEPMON names the program. Prints for each load the processor time,
 the time an event, the peak of memory and the verdict. Each must take at most S seconds and M MiB. Prints for each bad input its
-instructions, counted by valgrind, and the limit; without valgrind they count as skipped. The last line is how many passed and failed.
+instructions, counted by valgrind, and the limit; without valgrind they count as skipped. The last line is how many passed and failed, and
+how many were skipped.
 """
 from __future__ import annotations
 
@@ -182,11 +183,12 @@ def main() -> int:
         passed, failed = passed + fits, failed + (not fits)
         print(f"{load.name}: {'ok' if fits else 'FAILED'}, {took.seconds:.2f} s, {took.seconds / events * 1e6:.2f} us an event, "
               f"{took.mebibytes:.0f} MiB, {took.says}", flush=True)
-    if shutil.which("valgrind"):
-        kept, broken = count_all(given.only)
-        passed, failed = passed + kept, failed + broken
-    else:
+    if shutil.which("valgrind") is None:
         print("bad inputs: skipped, since valgrind is not installed")
+        print(f"{passed} passed, {failed} failed, {len(bad_inputs())} skipped")
+        return 1 if failed else 0
+    kept, broken = count_all(given.only)
+    passed, failed = passed + kept, failed + broken
     print(f"{passed} passed, {failed} failed")
     return 1 if failed else 0
 
