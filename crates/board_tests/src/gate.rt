@@ -1,12 +1,13 @@
 //! When a gate is called.
 
 use crate::beside::{Beside, Told, hold_call};
-use crate::boards::{TURNS, blank, comes};
+use crate::boards::blank;
 use crate::said::Said;
 use crate::shared::SharedBoard;
 use edn::Gate;
 use std::sync::Wait;
 use std::sync::atomic::{AtomicBool, Ordering};
+use waiting::{TURNS, comes};
 
 /// The turns for which a gate holds its call, if no other is answered meanwhile.
 const HELD: u32 = 20_000;

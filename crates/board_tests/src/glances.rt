@@ -2,12 +2,13 @@
 
 use crate::acts::{Act, Line, act_in_turn};
 use crate::beside::{Beside, Told, hold_call};
-use crate::boards::{TURNS, blank, comes};
+use crate::boards::blank;
 use crate::said::Said;
 use crate::shared::SharedBoard;
 use edn::Gate;
 use std::sync::Wait;
 use std::sync::atomic::{AtomicBool, AtomicU32, Ordering};
+use waiting::{TURNS, comes};
 
 /// A seat that learns nothing sees each call of another. So a glance that remembers what it showed, and never enters the
 /// published copy, fails here.

@@ -21,7 +21,7 @@ pub fn strict_law()
 {}
 
 /// No version is greater than the number of serves: a serve raises the greatest version by one at most, and a fault by
-/// none. `trial_tests` cites it, and the law `counted_law` of `machine` rests on it.
+/// none. `store_tests` cites it, and the law `counted_law` of `machine` rests on it.
 pub fn versions_law()
     ensures opening { (n : ℕ) (mode : Mode) (kind : ModelKind)
         → VersionsWithin (opening n mode kind) 0 }

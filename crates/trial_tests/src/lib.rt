@@ -1,14 +1,9 @@
 //! Worked rows of trials on a `Core`: draws, serves, completions and faults, with every refusal that such commands meet, and thousands of
-//! steps under faults. Further rows are of the generators, schedules and stores of a trial. Each answer follows from the definitions by
-//! hand. It has tests alone.
+//! steps under faults. Each answer follows from the definitions by hand. It has tests alone.
 #![tactic(auto)]
 
 #[cfg(test)]
 mod answers;
-#[cfg(test)]
-mod counted;
-#[cfg(test)]
-mod draws;
 #[cfg(test)]
 mod full_history;
 #[cfg(test)]
@@ -16,17 +11,11 @@ mod halves;
 #[cfg(test)]
 mod openings;
 #[cfg(test)]
-mod outcomes;
-#[cfg(test)]
 mod refusals;
-#[cfg(test)]
-mod schedules;
 #[cfg(test)]
 mod seeded;
 #[cfg(test)]
 mod setups;
-#[cfg(test)]
-mod stores;
 #[cfg(test)]
 mod trials;
 #[cfg(test)]

@@ -3,20 +3,7 @@
 use edn::Gate;
 use std::sync::atomic::{AtomicBool, AtomicU64, Ordering};
 use std::thread;
-
-/// The turns that a piece waits for another.
-pub const TURNS: u32 = 1_000_000;
-
-// Whether another thread sets the flag within a number of turns.
-fn comes(flag: &AtomicBool) -> bool {
-    for _ in 0..TURNS {
-        if flag.load(Ordering::SeqCst) {
-            return true;
-        }
-        thread::yield_now();
-    }
-    false
-}
+use waiting::{TURNS, comes};
 
 /// The state of a piece: it was begun; it saw the other piece begin, if it waits for that; it was ended.
 #[derive(Drop)]
@@ -40,7 +27,7 @@ impl Piece {
     fn begin(&self, other: &Piece) {
         self.begun.store(true, Ordering::SeqCst);
         if self.waits {
-            self.saw.store(comes(&other.begun), Ordering::SeqCst);
+            self.saw.store(comes(&other.begun, TURNS), Ordering::SeqCst);
         }
     }
 

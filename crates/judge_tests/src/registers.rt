@@ -1,0 +1,187 @@
+//! Histories of registers that are judged by lean ends.
+use crate::rows::Said::{Nil, One, Two};
+use crate::rows::{Case, Row, assert_steps, steps_of};
+use events::EventKind::{Fail as Failed, Info as Crashed, Invoke, Ok as Done};
+use frontier::Step::{Alive, Dead, Over};
+use models::ModelKind;
+use models::Name::{Cas, Read, Write};
+use std::alloc::{AllocError, Global};
+use wide_register::WideRegister;
+
+const KIND: ModelKind = ModelKind::WideRegister;
+
+const STALE_READ: [Row; 6] = [
+    (0, Invoke, Write, One(5), Alive),
+    (0, Done, Write, One(5), Alive),
+    (1, Invoke, Write, One(6), Alive),
+    (1, Done, Write, One(6), Alive),
+    (2, Invoke, Read, Nil, Alive),
+    (2, Done, Read, One(5), Dead),
+];
+
+// The read began before the second write returned, and may find the first one's value.
+const OLD_VALUE_OF_A_READ_THAT_IS_OPEN: [Row; 6] = [
+    (0, Invoke, Write, One(5), Alive),
+    (0, Done, Write, One(5), Alive),
+    (1, Invoke, Read, Nil, Alive),
+    (2, Invoke, Write, One(6), Alive),
+    (2, Done, Write, One(6), Alive),
+    (1, Done, Read, One(5), Alive),
+];
+
+const FAILED_WRITE_WAS_READ: [Row; 4] = [
+    (0, Invoke, Write, One(5), Alive),
+    (1, Invoke, Read, Nil, Alive),
+    (1, Done, Read, One(5), Alive),
+    (0, Failed, Write, One(5), Dead),
+];
+
+const ANOTHER_WRITE_OF_THE_VALUE_STAYS: [Row; 7] = [
+    (0, Invoke, Write, One(5), Alive),
+    (1, Invoke, Write, One(5), Alive),
+    (2, Invoke, Read, Nil, Alive),
+    (2, Done, Read, One(5), Alive),
+    (0, Failed, Write, One(5), Alive),
+    (1, Crashed, Write, One(5), Alive),
+    (3, Invoke, Cas, Two(5, 6), Alive),
+];
+
+// The first read needs the first write, which may come just before the second one or behind it. The second read may find it
+// there too, and the third read shows that the second write came last.
+const HIDDEN_WRITE_IS_FOUND: [Row; 12] = [
+    (0, Invoke, Read, Nil, Alive),
+    (1, Invoke, Read, Nil, Alive),
+    (2, Invoke, Write, One(5), Alive),
+    (3, Invoke, Write, One(6), Alive),
+    (3, Done, Write, One(6), Alive),
+    (0, Done, Read, One(5), Alive),
+    (1, Done, Read, One(5), Alive),
+    (4, Invoke, Read, Nil, Alive),
+    (4, Done, Read, One(6), Alive),
+    (2, Done, Write, One(5), Alive),
+    (5, Invoke, Read, Nil, Alive),
+    (5, Done, Read, One(5), Dead),
+];
+
+// The write that timed out began after the first one had returned, so it came behind it.
+const NO_WRITE_BEFORE_ITS_INVOCATION: [Row; 8] = [
+    (0, Invoke, Read, Nil, Alive),
+    (1, Invoke, Write, One(5), Alive),
+    (1, Done, Write, One(5), Alive),
+    (2, Invoke, Write, One(6), Alive),
+    (2, Crashed, Write, One(6), Alive),
+    (0, Done, Read, One(6), Alive),
+    (3, Invoke, Read, Nil, Alive),
+    (3, Done, Read, One(5), Dead),
+];
+
+// The write that timed out began before the other one returned, so it may have come before it.
+const WRITE_BEFORE_ANOTHER_ONE: [Row; 8] = [
+    (0, Invoke, Read, Nil, Alive),
+    (1, Invoke, Write, One(5), Alive),
+    (2, Invoke, Write, One(6), Alive),
+    (1, Done, Write, One(5), Alive),
+    (2, Crashed, Write, One(6), Alive),
+    (0, Done, Read, One(6), Alive),
+    (3, Invoke, Read, Nil, Alive),
+    (3, Done, Read, One(5), Alive),
+];
+
+// A write takes place once.
+const WRITE_TWICE: [Row; 10] = [
+    (0, Invoke, Write, One(5), Alive),
+    (0, Crashed, Write, One(5), Alive),
+    (1, Invoke, Read, Nil, Alive),
+    (1, Done, Read, One(5), Alive),
+    (2, Invoke, Write, One(6), Alive),
+    (2, Done, Write, One(6), Alive),
+    (3, Invoke, Read, Nil, Alive),
+    (3, Done, Read, One(5), Dead),
+    (4, Invoke, Read, Nil, Alive),
+    (4, Crashed, Read, Nil, Alive),
+];
+
+const NIL_FITS_ALWAYS: [Row; 4] = [
+    (0, Invoke, Write, One(5), Alive),
+    (0, Done, Write, One(5), Alive),
+    (1, Invoke, Read, Nil, Alive),
+    (1, Done, Read, Nil, Alive),
+];
+
+const NO_CAS: [Row; 2] = [
+    (0, Invoke, Cas, Two(0, 5), Alive),
+    (0, Done, Cas, Two(0, 5), Dead),
+];
+
+// The read leaves two lean ends: the first write came last, or the second one. The last ok meets both.
+const TWO_ENDS: [Row; 6] = [
+    (0, Invoke, Write, One(5), Alive),
+    (1, Invoke, Write, One(6), Alive),
+    (2, Invoke, Read, Nil, Alive),
+    (1, Done, Write, One(6), Alive),
+    (2, Done, Read, One(5), Alive),
+    (0, Done, Write, One(5), Alive),
+];
+
+// After Over the register stands for what it stood for.
+const TWO_ENDS_OF_ONE: [Row; 7] = [
+    (0, Invoke, Write, One(5), Alive),
+    (1, Invoke, Write, One(6), Alive),
+    (2, Invoke, Read, Nil, Alive),
+    (1, Done, Write, One(6), Alive),
+    (2, Done, Read, One(5), Alive),
+    (0, Done, Write, One(5), Over),
+    (0, Crashed, Write, One(5), Alive),
+];
+
+const LEGAL: [Case; 4] = [
+    (1, &OLD_VALUE_OF_A_READ_THAT_IS_OPEN, Some(2)),
+    (2, &ANOTHER_WRITE_OF_THE_VALUE_STAYS, Some(2)),
+    (1, &WRITE_BEFORE_ANOTHER_ONE, None),
+    (1, &NIL_FITS_ALWAYS, Some(1)),
+];
+
+#[test]
+fn wide_register_is_legal(rt: HostRuntime) {
+    assert_steps(&rt, rt.alloc(), KIND, &LEGAL, false);
+}
+
+const ILLEGAL: [Case; 3] = [
+    (1, &STALE_READ, Some(2)),
+    (1, &FAILED_WRITE_WAS_READ, Some(1)),
+    (1, &NO_CAS, Some(0)),
+];
+
+#[test]
+fn wide_register_is_illegal(rt: HostRuntime) {
+    assert_steps(&rt, rt.alloc(), KIND, &ILLEGAL, false);
+}
+
+const PLACED: [Case; 3] = [
+    (1, &NO_WRITE_BEFORE_ITS_INVOCATION, Some(2)),
+    (2, &WRITE_BEFORE_ANOTHER_ONE, Some(2)),
+    (1, &WRITE_TWICE, Some(3)),
+];
+
+#[test]
+fn wide_register_places_writes(rt: HostRuntime) {
+    assert_steps(&rt, rt.alloc(), KIND, &PLACED, false);
+    let hidden = steps_of(rt.alloc(), KIND, 9, &HIDDEN_WRITE_IS_FOUND, false);
+    assert!(rt; matches!(hidden, Ok(Some(_))));
+}
+
+const COUNTED: [Case; 2] = [(2, &TWO_ENDS, Some(4)), (1, &TWO_ENDS_OF_ONE, Some(2))];
+
+#[test]
+fn wide_register_is_over(rt: HostRuntime) {
+    assert_steps(&rt, rt.alloc(), KIND, &COUNTED, false);
+}
+
+fn budget_of_nine(alloc: Global) -> Result<u32, AllocError> {
+    Ok(WideRegister::start(alloc, 9)?.budget())
+}
+
+#[test]
+fn wide_register_keeps_its_budget(rt: HostRuntime) {
+    assert!(rt; budget_of_nine(rt.alloc()) == Ok(9));
+}
