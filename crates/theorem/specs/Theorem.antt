@@ -106,3 +106,11 @@ IsJudgedSo concurrency kind budget bytes verdict text =
     (events : List Event) × IsRead bytes concurrency [] events None
     × IsRight (recorded concurrency kind budget events) verdict
     × IsReport (recorded concurrency kind budget events) text
+
+-- 5. An order that is shown
+
+-- the bytes spell events, each of which is well-formed after the events before it. The operations of all keys together, each an object of
+-- this kind, have a legal order
+abbrev pub IsShownSo : ℕ → ModelKind → ℕ → List ℕ → Type 0
+IsShownSo concurrency kind budget bytes =
+    (events : List Event) × IsRead bytes concurrency [] events None × Means (recorded concurrency kind budget events) Legal

@@ -2,6 +2,7 @@
 ghost use Rattle.std.specs.Prelude.{◌≡◌, ℕ, Bool, List, [], Option, Result, Ok, Err, Some, None};
 ghost use mathlib.Core.List.{IsPrefix};
 ghost use Rattle.edn.specs.declared.refusal.Refusal.{Refusal};
+ghost use Rattle.models.specs.declared.model_kind.ModelKind.{ModelKind};
 ghost use Rattle.events.specs.declared.event.Event.{Event};
 ghost use Rattle.linspec.specs.declared.verdict.Verdict.{Verdict};
 ghost use Rattle.machine.specs.declared.command.Command.{Command};
@@ -15,8 +16,11 @@ ghost use Rattle.scripts.specs.Reply.{MayReply, Script, Shows, script};
 ghost use Rattle.checks.specs.Reading.{IsRead};
 ghost use Rattle.checks.specs.Recorded.{ComesTo};
 ghost use Rattle.checks.specs.declared.recorded.Findings.{Findings};
+ghost use Rattle.witness.specs.declared.confirming.Confirmation.{Confirmation};
+ghost use Rattle.confirms.specs.Found.{ComesTo as Confirms};
+ghost use Rattle.confirms.specs.declared.found.Found.{Found};
 ghost use Rattle.board.specs.CoreTape.{CoreTape, LeadsTo, opening_tape};
-ghost use Rattle.theorem.specs.Theorem.{Answers, Changes, Declines, EndsBy, IsJudgedSo, opened};
+ghost use Rattle.theorem.specs.Theorem.{Answers, Changes, Declines, EndsBy, IsJudgedSo, IsShownSo, opened};
 ghost use Rattle.theorem.specs.Bridges.{IsOfHistory, IsRightTape, SaysOf, session_of};
 
 /// The bytes of a script. `scripts::run_script` promises its reply text over the one-thread object; this law promises the same over
@@ -50,6 +54,14 @@ pub fn check_law()
     ensures refused { (setup : Setup) (bytes : List ℕ) (i : ℕ) (why : Refusal) →
         ComesTo setup bytes (Findings.RefusedEvent i why)
         → (events : List Event) × IsRead bytes setup.concurrency [] events (Some (i, why)) }
+{}
+
+/// The bytes of a recorded history and of an order, of which `confirms::confirm_bytes` promises its finding by `ComesTo`. If it finds
+/// `linearizable`, the history that the first bytes spell is linearizable by the definition of Herlihy and Wing, over all keys together.
+pub fn confirm_law()
+    ensures { (concurrency : ℕ) (kind : ModelKind) (budget : ℕ) (bytes order : List ℕ) →
+        Confirms concurrency kind bytes order (Found.Shown Confirmation.Linearizable)
+        → IsShownSo concurrency kind budget bytes }
 {}
 
 /// The tape of a board. Each verdict on a legal tape is right by the definition of Herlihy and Wing. It is right of the history to which
