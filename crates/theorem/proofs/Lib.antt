@@ -4,4 +4,4 @@ pub mod Lines
 pub mod Scripts
 pub mod Listed
 pub mod Tapes
-mod Shown
+pub mod Shown
