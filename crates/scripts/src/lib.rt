@@ -11,5 +11,5 @@ mod script;
 
 pub use command::{LineCommand, read_command};
 pub use hello::{KINDS, VERSION, hello_text};
-pub use laws::{one_reply, one_script_text, stays_open};
+pub use laws::{hello_law, one_reply, one_script_text, stays_open};
 pub use script::run_script;
