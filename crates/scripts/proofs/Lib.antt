@@ -1,5 +1,5 @@
 pub mod Answering
 pub mod Elements
-pub mod Hello
+pub mod KindsInHello
 pub mod OneReply
 pub mod Opening

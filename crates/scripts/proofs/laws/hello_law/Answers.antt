@@ -1,4 +1,4 @@
-use Rattle.scripts.proofs.Hello.{one_of_kinds}
+use Rattle.scripts.proofs.KindsInHello.{one_of_kinds}
 use Rattle.scripts.proofs.laws.hello_law.Goals as goal
 
 pub returns-clause-clients : goal.returns-clause-clients
