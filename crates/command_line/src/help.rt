@@ -2,10 +2,16 @@
 
 use models::each_kind;
 use onlookers::each_hint;
+use scripts::with_version;
+
+macro_rules! with_logic {
+    (; $version:literal) => {
+        concat!($version, "\nlogic dac8208d650f15bf")
+    };
+}
 
 /// The program's version, and the logic in which it is proved: the last two words that `rt version` prints.
-pub const VERSION: &str = "1.6.0
-logic dac8208d650f15bf";
+pub const VERSION: &str = with_version!(with_logic;);
 
 pub const ABOUT: &str = "Judges whether what clients saw of a store is linearizable";
 
@@ -144,6 +150,7 @@ pub const SCRIPT_FORMS: &str = each_hint!(with_forms;
   {:type :invoke, :process 0, :f :write, :value [7 3]}
                      an event: process 0 begins to write 3 to key 7
   [:verdict]         the verdict is asked for
+  [:hello]           the program's version, kinds and limits are asked for
   [:rewind N]        the first N events are kept
   [:model KEY KIND]  the key is of this kind, as [:model 7 :mutex]
   [:budget KEY N]    the key has this budget",

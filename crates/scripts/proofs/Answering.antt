@@ -11,6 +11,8 @@ use Rattle.machine.specs.declared.command.Command.{Command}
 use Rattle.machine.specs.declared.command.Command.TheVariants.{Append, Rewind, SetModel, SetBudget, Verdict as Ask, Draw, Serve, Finish, Nemesis}
 use Rattle.machine.specs.declared.command.Reply.{Reply}
 use Rattle.machine.specs.declared.command.Reply.TheVariants.{Verdict as Says}
+use Rattle.scripts.specs.declared.command.LineCommand.{LineCommand}
+use Rattle.scripts.specs.declared.command.LineCommand.TheVariants.{Step}
 use Rattle.scripts.specs.Command.{Asks}
 use Rattle.scripts.specs.Reply.{AnswersTo, MayAnswer, Script, MayReply}
 use Rattle.scripts.proofs.Elements.{MayAsk, line_may_ask}
@@ -18,7 +20,7 @@ use Rattle.scripts.proofs.Elements.{MayAsk, line_may_ask}
 abbrev IsVerdict : Reply → Type 0
 IsVerdict reply = (verdict : Verdict) × (reply ≡ Says verdict)
 
-says : (old new : Machine) (command : Command) (reply : Reply) → MayAsk (Ok command) → Replies old command reply new → IsVerdict reply
+says : (old new : Machine) (command : Command) (reply : Reply) → MayAsk (Ok (Step command)) → Replies old command reply new → IsVerdict reply
 says old new (Append event) (Says v) may h = (v, refl)
 says old new (Rewind n) (Says v) may h = (v, refl)
 says old new (SetModel key kind) (Says v) may h = (v, refl)
@@ -34,8 +36,8 @@ says old new (Serve number) _ may h = absurd may
 says old new (Finish number) _ may h = absurd may
 says old new Nemesis _ may h = absurd may
 
-pub line_says : (line : List ℕ) (command : Command) (old new : Machine) (reply : Reply) → Asks line (Ok (Some command)) → Replies old command reply new → IsVerdict reply
-line_says line command old new reply asks = says old new command reply (line_may_ask line command asks)
+pub line_says : (line : List ℕ) (command : Command) (old new : Machine) (reply : Reply) → Asks line (Ok (Some (Step command))) → Replies old command reply new → IsVerdict reply
+line_says line command old new reply asks = says old new command reply (line_may_ask line (Step command) asks)
 
 true_is_not_false : true ≡ false → ⊥
 true_is_not_false e = cc
@@ -53,7 +55,7 @@ and_true true = refl
 and_true false = refl
 
 -- and one within the limit
-pub answered_within : (old new : Machine) (line text : List ℕ) (is_refused : Bool) → length line ≤ line_limit → (asked : Result (Option Command) Refusal) × Asks line asked × AnswersTo old asked text is_refused new → MayAnswer old line text is_refused new
+pub answered_within : (old new : Machine) (line text : List ℕ) (is_refused : Bool) → length line ≤ line_limit → (asked : Result (Option LineCommand) Refusal) × Asks line asked × AnswersTo old asked text is_refused new → MayAnswer old line text is_refused new
 answered_within old new line text is_refused short answers = record { within = λ _. answers; over = λ long. absurd (omega (arith, short, long)) }
 
 -- one over it is refused

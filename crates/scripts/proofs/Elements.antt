@@ -17,8 +17,9 @@ use Rattle.models.specs.declared.model_kind.ModelKind.TheVariants.{Register, Cas
 use Rattle.models.specs.Names.{name_of, Finds}
 use Rattle.events.specs.declared.event.Event.{Event}
 use Rattle.events.specs.Spelling.{Spells, WhyUnspelled}
-use Rattle.machine.specs.declared.command.Command.{Command}
 use Rattle.machine.specs.declared.command.Command.TheVariants.{Append, Rewind, SetBudget, Verdict, Draw, Serve, Finish, Nemesis}
+use Rattle.scripts.specs.declared.command.LineCommand.{LineCommand}
+use Rattle.scripts.specs.declared.command.LineCommand.TheVariants.{Hello, Step}
 use Rattle.scripts.specs.Command.{rewind_to, kind_named, kind_in, key_in, model_of, budget_of, command_named, vector_command, Appends, ElementAsks, AskFor, Asks}
 
 -- no command takes three arguments
@@ -63,7 +64,7 @@ named name None other =
     rw (unnamed name Register (other Register), unnamed name CasRegister (other CasRegister), unnamed name Mutex (other Mutex), unnamed name FifoQueue (other FifoQueue), unnamed name Set (other Set), unnamed name UnorderedQueue (other UnorderedQueue), unnamed name WideRegister (other WideRegister), unnamed name WideCasRegister (other WideCasRegister), unnamed name WideSet (other WideSet), unnamed name WideFifoQueue (other WideFifoQueue), unnamed name WideUnorderedQueue (other WideUnorderedQueue)) refl
 
 -- an element other than a vector is an event
-appended : (v : Value) (asked : Result Command Refusal) → elements_in v ≡ None → Appends v asked → ElementAsks v asked
+appended : (v : Value) (asked : Result LineCommand Refusal) → elements_in v ≡ None → Appends v asked → ElementAsks v asked
 appended (vector vs) asked is appends = cc
 appended nil asked is appends = appends
 appended (bool b) asked is appends = appends
@@ -73,8 +74,8 @@ appended (keyword s) asked is appends = appends
 appended (pairs ps) asked is appends = appends
 appended (members vs) asked is appends = appends
 
-pub appends : (v : Value) (event : Event) → elements_in v ≡ None → Spells v event → ElementAsks v (Ok (Append event))
-appends v event is spells = appended v (Ok (Append event)) is spells
+pub appends : (v : Value) (event : Event) → elements_in v ≡ None → Spells v event → ElementAsks v (Ok (Step (Append event)))
+appends v event is spells = appended v (Ok (Step (Append event))) is spells
 
 spells_none : (v : Value) (why : Refusal) → WhyUnspelled v why → why ≢ NoMemory → Appends v (Err why)
 spells_none v BadValue unspelled other = unspelled
@@ -85,20 +86,20 @@ pub refused_element : (v : Value) (why : Refusal) → elements_in v ≡ None →
 refused_element v why is unspelled other = appended v (Err why) is (spells_none v why unspelled other)
 
 -- the possible commands of an element: not a draw, a serve, a finish or a fault, and it is not refused as unreadable
-abbrev pub MayAsk : Result Command Refusal → Type 0
-MayAsk (Ok (Draw thread)) = ⊥
-MayAsk (Ok (Serve number)) = ⊥
-MayAsk (Ok (Finish number)) = ⊥
-MayAsk (Ok Nemesis) = ⊥
+abbrev pub MayAsk : Result LineCommand Refusal → Type 0
+MayAsk (Ok (Step (Draw thread))) = ⊥
+MayAsk (Ok (Step (Serve number))) = ⊥
+MayAsk (Ok (Step (Finish number))) = ⊥
+MayAsk (Ok (Step Nemesis)) = ⊥
 MayAsk (Err (Unreadable place)) = ⊥
 MayAsk _ = Unit {0}
 
-either : (b : Bool) (x y : Result Command Refusal) → MayAsk x → MayAsk y → MayAsk (if b then x else y)
+either : (b : Bool) (x y : Result LineCommand Refusal) → MayAsk x → MayAsk y → MayAsk (if b then x else y)
 either true x y p q = p
 either false x y p q = q
 
 may_ask_rewind_to : (v : Value) → MayAsk (rewind_to v)
-may_ask_rewind_to (int (pos n)) = either (nat_lt n (2 ^ 32)) (Ok (Rewind n)) (Err NoSuchIndex) tt tt
+may_ask_rewind_to (int (pos n)) = either (nat_lt n (2 ^ 32)) (Ok (Step (Rewind n))) (Err NoSuchIndex) tt tt
 may_ask_rewind_to (int _) = tt
 may_ask_rewind_to _ = tt
 
@@ -108,12 +109,14 @@ may_ask_model_of None kind = tt
 may_ask_model_of (Some key) None = tt
 
 may_ask_budget_of : (key : Option ℕ) (v : Value) → MayAsk (budget_of key v)
-may_ask_budget_of (Some key) (int (pos n)) = either (nat_lt n (2 ^ 32)) (Ok (SetBudget key n)) (Err BadBudget) tt tt
+may_ask_budget_of (Some key) (int (pos n)) = either (nat_lt n (2 ^ 32)) (Ok (Step (SetBudget key n))) (Err BadBudget) tt tt
 may_ask_budget_of (Some key) (int _) = tt
 may_ask_budget_of _ _ = tt
 
 may_ask_named : (name : List ℕ) (vs : Values) → MayAsk (command_named name vs)
-may_ask_named name none = either (bytes_eq name (codes "verdict")) (Ok Verdict) (Err BadValue) tt tt
+may_ask_named name none =
+    either (bytes_eq name (codes "verdict")) (Ok (Step Verdict)) (if bytes_eq name (codes "hello") then Ok Hello else Err BadValue) tt
+    (either (bytes_eq name (codes "hello")) (Ok Hello) (Err BadValue) tt tt)
 may_ask_named name (more n none) = either (bytes_eq name (codes "rewind")) (rewind_to n) (Err BadValue) (may_ask_rewind_to n) tt
 may_ask_named name (more k (more v none)) =
     either (bytes_eq name (codes "model")) (model_of (key_in k) (kind_in v)) (if bytes_eq name (codes "budget") then budget_of (key_in k) v else Err BadValue) (may_ask_model_of (key_in k) (kind_in v))
@@ -124,12 +127,12 @@ may_ask : (vs : Values) → MayAsk (vector_command vs)
 may_ask (more (keyword name) vs) = may_ask_named name vs
 may_ask _ = tt
 
-append_may_ask : (v : Value) (asked : Result Command Refusal) → Appends v asked → MayAsk asked
-append_may_ask v (Ok (Append event)) h = tt
+append_may_ask : (v : Value) (asked : Result LineCommand Refusal) → Appends v asked → MayAsk asked
+append_may_ask v (Ok (Step (Append event))) h = tt
 append_may_ask v (Err BadValue) h = tt
 append_may_ask v _ h = absurd h
 
-element_may_ask : (v : Value) (asked : Result Command Refusal) → ElementAsks v asked → MayAsk asked
+element_may_ask : (v : Value) (asked : Result LineCommand Refusal) → ElementAsks v asked → MayAsk asked
 element_may_ask (vector vs) asked h = subst MayAsk (sym h) (may_ask vs)
 element_may_ask nil asked h = append_may_ask nil asked h
 element_may_ask (bool b) asked h = append_may_ask (bool b) asked h
@@ -144,16 +147,16 @@ not_unreadable_for none place h = cc
 not_unreadable_for (more v none) place h = element_may_ask v (Err (Unreadable place)) h
 not_unreadable_for (more v (more w vs)) place h = cc
 
-elements_may_ask : (vs : Values) (command : Command) → AskFor vs (Ok (Some command)) → MayAsk (Ok command)
+elements_may_ask : (vs : Values) (command : LineCommand) → AskFor vs (Ok (Some command)) → MayAsk (Ok command)
 elements_may_ask none command h = cc
 elements_may_ask (more v none) command h = element_may_ask v (Ok command) h
 elements_may_ask (more v (more w vs)) command h = cc
 
-pub line_may_ask : (line : List ℕ) (command : Command) → Asks line (Ok (Some command)) → MayAsk (Ok command)
+pub line_may_ask : (line : List ℕ) (command : LineCommand) → Asks line (Ok (Some command)) → MayAsk (Ok command)
 line_may_ask line command (values, reads, h) = elements_may_ask values command h
 
 -- the command of a line is that of its elements
-pub line_asks : (line : List ℕ) (vs : Values) (asked : Result (Option Command) Refusal) → IsText line vs → AskFor vs asked → Asks line asked
+pub line_asks : (line : List ℕ) (vs : Values) (asked : Result (Option LineCommand) Refusal) → IsText line vs → AskFor vs asked → Asks line asked
 line_asks line vs (Ok command) reads h = (vs, reads, h)
 line_asks line vs (Err (Unreadable place)) reads h = absurd (not_unreadable_for vs place h)
 line_asks line vs (Err _) reads h = (vs, reads, h)

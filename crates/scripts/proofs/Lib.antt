@@ -1,4 +1,5 @@
 pub mod Answering
 pub mod Elements
+pub mod KindsInHello
 pub mod OneReply
 pub mod Opening

@@ -19,25 +19,27 @@ use Rattle.machine.proofs.OneStep.{step_one}
 use Rattle.line_loop.specs.ReplyText.{line_limit, IsReplyText, Replies}
 use Rattle.line_loop.specs.RefusalLine.{refusal_line}
 use Rattle.line_loop.proofs.OneCut.{one_reply_text_law}
+use Rattle.scripts.specs.declared.command.LineCommand.{LineCommand}
+use Rattle.scripts.specs.declared.command.LineCommand.TheVariants.{Hello, Step}
 use Rattle.scripts.specs.Command.{Appends, ElementAsks, AskFor, Asks}
 use Rattle.scripts.specs.Reply.{CarriesOut, AnswersTo, MayAnswer, Script, after, MayReply}
 use Rattle.report.specs.VerdictLine.{verdict_line}
 
 -- the possible readings of a line
 abbrev Outcome : Type 0
-Outcome = Result (Option Command) Refusal
+Outcome = Result (Option LineCommand) Refusal
 
 -- an element asks for one thing
-append_one : (v : Value) (asked other : Result Command Refusal) → Appends v asked → Appends v other → asked ≡ other
-append_one v (Ok (Append e)) (Ok (Append f)) p q = ap (λ (event : Event). let asked : Result Command Refusal = Ok (Append event) in asked) (spell_one v e f p q)
-append_one v (Ok (Append e)) (Err BadValue) p q = absurd (q e p)
-append_one v (Err BadValue) (Ok (Append f)) p q = absurd (p f q)
+append_one : (v : Value) (asked other : Result LineCommand Refusal) → Appends v asked → Appends v other → asked ≡ other
+append_one v (Ok (Step (Append e))) (Ok (Step (Append f))) p q = ap (λ (event : Event). let asked : Result LineCommand Refusal = Ok (Step (Append event)) in asked) (spell_one v e f p q)
+append_one v (Ok (Step (Append e))) (Err BadValue) p q = absurd (q e p)
+append_one v (Err BadValue) (Ok (Step (Append f))) p q = absurd (p f q)
 append_one v (Err BadValue) (Err BadValue) p q = refl
-append_one v (Ok (Append e)) _ p q = absurd q
+append_one v (Ok (Step (Append e))) _ p q = absurd q
 append_one v (Err BadValue) _ p q = absurd q
 append_one v _ other p q = absurd p
 
-element_one : (v : Value) (asked other : Result Command Refusal) → ElementAsks v asked → ElementAsks v other → asked ≡ other
+element_one : (v : Value) (asked other : Result LineCommand Refusal) → ElementAsks v asked → ElementAsks v other → asked ≡ other
 element_one (vector vs) asked other p q = p ∙ sym q
 element_one nil asked other p q = append_one nil asked other p q
 element_one (bool b) asked other p q = append_one (bool b) asked other p q
@@ -48,7 +50,7 @@ element_one (pairs ps) asked other p q = append_one (pairs ps) asked other p q
 element_one (members vs) asked other p q = append_one (members vs) asked other p q
 
 -- and so does a line
-as_one : Result Command Refusal → Outcome
+as_one : Result LineCommand Refusal → Outcome
 as_one (Ok command) = Ok (Some command)
 as_one (Err why) = Err why
 
@@ -116,7 +118,8 @@ one_carried_out old command said other r r' new next a b =
 
 one_answer : (old : Machine) (asked : Outcome) (said other : List ℕ) (r r' : Bool) (new next : Machine) → AnswersTo old asked said r new → AnswersTo old asked other r' next → Same said other r r' new next
 one_answer old (Ok None) said other r r' new next a b = (a.0 ∙ sym b.0, a.1 ∙ sym b.1, a.2 ∙ sym b.2)
-one_answer old (Ok (Some command)) said other r r' new next a b = one_carried_out old command said other r r' new next a b
+one_answer old (Ok (Some Hello)) said other r r' new next a b = (a.0 ∙ sym b.0, a.1 ∙ sym b.1, a.2 ∙ sym b.2)
+one_answer old (Ok (Some (Step command))) said other r r' new next a b = one_carried_out old command said other r r' new next a b
 one_answer old (Err refusal) said other r r' new next a b = (a.0 ∙ sym b.0, a.1 ∙ sym b.1, a.2 ∙ sym b.2)
 
 -- of a line within the limit and of one over it

@@ -1,3 +1,4 @@
 pub mod Command
+pub mod Hello
 pub mod Reply
 pub mod Unopened

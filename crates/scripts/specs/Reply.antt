@@ -9,7 +9,10 @@ use Rattle.linspec.specs.declared.verdict.Verdict.{Verdict}
 use Rattle.linspec.specs.JudgedHistory.{IsVerdictOn}
 use Rattle.line_loop.specs.RefusalLine.{refusal_line}
 use Rattle.line_loop.specs.ReplyText.{line_limit}
+use Rattle.scripts.specs.declared.command.LineCommand.{LineCommand}
+use Rattle.scripts.specs.declared.command.LineCommand.TheVariants.{Hello, Step}
 use Rattle.scripts.specs.Command.{Asks}
+use Rattle.scripts.specs.Hello.{hello_line}
 use Rattle.report.specs.VerdictLine.{verdict_line}
 
 -- the machine carries a command out, and the text is the line of the result: the command is answered by a verdict, or refused. Out of
@@ -20,15 +23,16 @@ CarriesOut old command text is_refused new =
     ⊎ ((refusal : Refusal) × MayStep old command (Err refusal) new × (refusal ≢ NoMemory)
     × (text ≡ refusal_line refusal) × (is_refused ≡ true))
 
--- this text answers the command, and says whether it is refused
-abbrev pub AnswersTo : Machine → Result (Option Command) Refusal → List ℕ → Bool → Machine → Type 0
+-- this text answers the command, and says whether it is refused. The hello line changes nothing
+abbrev pub AnswersTo : Machine → Result (Option LineCommand) Refusal → List ℕ → Bool → Machine → Type 0
 AnswersTo old (Ok None) text is_refused new = (text ≡ []) × (is_refused ≡ false) × (new ≡ old)
-AnswersTo old (Ok (Some command)) text is_refused new = CarriesOut old command text is_refused new
+AnswersTo old (Ok (Some Hello)) text is_refused new = (text ≡ hello_line) × (is_refused ≡ false) × (new ≡ old)
+AnswersTo old (Ok (Some (Step command))) text is_refused new = CarriesOut old command text is_refused new
 AnswersTo old (Err refusal) text is_refused new = (text ≡ refusal_line refusal) × (is_refused ≡ true) × (new ≡ old)
 
 -- the text answers a line if it answers the command of the line; a line over the limit is refused
 pub record MayAnswer (old : Machine) (line text : List ℕ) (is_refused : Bool) (new : Machine) : Type 0 where
-  pub within : length line ≤ line_limit → (asked : Result (Option Command) Refusal) × Asks line asked × AnswersTo old asked text is_refused new
+  pub within : length line ≤ line_limit → (asked : Result (Option LineCommand) Refusal) × Asks line asked × AnswersTo old asked text is_refused new
   pub over : line_limit < length line → (text ≡ refusal_line TooLong) × (is_refused ≡ true) × (new ≡ old)
 
 -- a script: its machine, whether it is strict, and whether it is closed

@@ -9,8 +9,18 @@ use models::{Key, ModelKind};
 use plain_events::plain_line;
 use std::alloc::Global;
 
+/// The command of a line.
+#[derive(Drop)]
+pub enum LineCommand {
+    /// The program says its version, its kinds and its limits.
+    Hello,
+    /// A command of the one-thread object.
+    Step(Command),
+}
+
 /// Reads a line as a command, or as nothing if it has no element. A map spells an event to append. `[:verdict]` asks for the verdict,
-/// `[:rewind n]` keeps the first n events, `[:model k m]` makes key k an object of kind m, and `[:budget k n]` gives it the budget n.
+/// `[:hello]` for the program's version, kinds and limits, `[:rewind n]` keeps the first n events, `[:model k m]` makes key k an object
+/// of kind m, and `[:budget k n]` gives it the budget n.
 ///
 /// An event that is spelled plainly costs one pass over the line, and memory for the members of a set alone. Any other line costs what
 /// [`read_all`](edn::read_all) and [`from_edn`](events::from_edn) cost.
@@ -19,18 +29,18 @@ use std::alloc::Global;
 ///
 /// `Unreadable` if the line is not text; `BadValue` if it has two elements or more, or one that is not a command. `NoSuchIndex` for a
 /// rewind and `BadBudget` for a budget to a number that is not of 32 bits; and `NoMemory` if memory is refused.
-pub fn read_command(alloc: Global, line: &[u8]) -> Result<Option<Command>, Refusal>
+pub fn read_command(alloc: Global, line: &[u8]) -> Result<Option<LineCommand>, Refusal>
     ensures { result ≢ Err Refusal.NoMemory → Asks line.now result }
 {
     if let Some(event) = plain_line(alloc, line) {
-        return Ok(Some(Command::Append(event)));
+        return Ok(Some(LineCommand::Step(Command::Append(event))));
     }
     let elements = edn::read_all(alloc, line)?;
     asked_by(alloc, elements.as_slice())
 }
 
 // The command in the elements of a line.
-fn asked_by(alloc: Global, elements: &[Edn]) -> Result<Option<Command>, Refusal>
+fn asked_by(alloc: Global, elements: &[Edn]) -> Result<Option<LineCommand>, Refusal>
     ensures { result ≢ Err Refusal.NoMemory → AskFor (values_of elements.now) result }
 {
     match elements {
@@ -41,17 +51,17 @@ fn asked_by(alloc: Global, elements: &[Edn]) -> Result<Option<Command>, Refusal>
 }
 
 // The command that an element asks for.
-fn command_of(alloc: Global, element: &Edn) -> Result<Command, Refusal>
+fn command_of(alloc: Global, element: &Edn) -> Result<LineCommand, Refusal>
     ensures { result ≢ Err Refusal.NoMemory → ElementAsks (value_of element.now) result }
 {
     match element.as_slice() {
         Some(items) => vector_command(items),
-        None => Ok(Command::Append(events::from_edn(alloc, element)?)),
+        None => Ok(LineCommand::Step(Command::Append(events::from_edn(alloc, element)?))),
     }
 }
 
 // The command that a vector of these elements is.
-fn vector_command(items: &[Edn]) -> Result<Command, Refusal>
+fn vector_command(items: &[Edn]) -> Result<LineCommand, Refusal>
     ensures { result ≡ vector_command (values_of items.now) }
 {
     match items {
@@ -62,12 +72,13 @@ fn vector_command(items: &[Edn]) -> Result<Command, Refusal>
 }
 
 // The command of this name with these arguments.
-fn command_named(name: &str, arguments: &[Edn]) -> Result<Command, Refusal>
+fn command_named(name: &str, arguments: &[Edn]) -> Result<LineCommand, Refusal>
     ensures { result ≡ command_named name.now (values_of arguments.now) }
 {
     match arguments {
         [] => match name {
-            "verdict" => Ok(Command::Verdict),
+            "verdict" => Ok(LineCommand::Step(Command::Verdict)),
+            "hello" => Ok(LineCommand::Hello),
             _ => Err(Refusal::BadValue),
         },
         [n] => match name {
@@ -83,33 +94,33 @@ fn command_named(name: &str, arguments: &[Edn]) -> Result<Command, Refusal>
     }
 }
 
-fn rewind_to(n: &Edn) -> Result<Command, Refusal>
+fn rewind_to(n: &Edn) -> Result<LineCommand, Refusal>
     ensures { result ≡ rewind_to (value_of n.now) }
 {
     match n {
         Edn::Int(n) => match u32::try_from(*n) {
-            Ok(n) => Ok(Command::Rewind(n)),
+            Ok(n) => Ok(LineCommand::Step(Command::Rewind(n))),
             Err(_) => Err(Refusal::NoSuchIndex),
         },
         _ => Err(Refusal::BadValue),
     }
 }
 
-fn model_of(key: Option<Key>, kind: Option<ModelKind>) -> Result<Command, Refusal>
+fn model_of(key: Option<Key>, kind: Option<ModelKind>) -> Result<LineCommand, Refusal>
     ensures { result ≡ model_of key kind }
 {
     match (key, kind) {
-        (Some(key), Some(kind)) => Ok(Command::SetModel(key, kind)),
+        (Some(key), Some(kind)) => Ok(LineCommand::Step(Command::SetModel(key, kind))),
         _ => Err(Refusal::BadValue),
     }
 }
 
-fn budget_of(key: Option<Key>, n: &Edn) -> Result<Command, Refusal>
+fn budget_of(key: Option<Key>, n: &Edn) -> Result<LineCommand, Refusal>
     ensures { result ≡ budget_of key (value_of n.now) }
 {
     match (key, n) {
         (Some(key), Edn::Int(n)) => match u32::try_from(*n) {
-            Ok(n) => Ok(Command::SetBudget(key, n)),
+            Ok(n) => Ok(LineCommand::Step(Command::SetBudget(key, n))),
             Err(_) => Err(Refusal::BadBudget),
         },
         _ => Err(Refusal::BadValue),

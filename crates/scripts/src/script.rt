@@ -5,12 +5,13 @@ ghost use Rattle.line_loop.specs.RefusalLine.{refusal_line};
 ghost use Rattle.line_loop.specs.Live.{IsLive};
 ghost use Rattle.line_loop.specs.Stopping.{MayStop, Finishes, Stops, KeepsUp};
 ghost use Rattle.edn.specs.declared.refusal.Refusal.{Refusal as RefusalValue};
-ghost use Rattle.machine.specs.declared.command.Command.{Command as CommandValue};
+ghost use Rattle.scripts.specs.declared.command.LineCommand.{LineCommand as LineCommandValue};
 ghost use Rattle.scripts.specs.Command.{Asks};
 ghost use Rattle.scripts.specs.Reply.{CarriesOut, AnswersTo, MayReply, Shows, Script, script};
 ghost use Rattle.scripts.specs.Unopened.{IsUnopened};
 
-use crate::command::read_command;
+use crate::command::{LineCommand, read_command};
+use crate::hello::hello_text;
 use edn::Refusal;
 use harness::{Command, Config, Core, Reply};
 use line_loop::{Failed, Flushes, LineMachine, ReadsBeside, answer_lines, append_refusal};
@@ -105,13 +106,17 @@ fn answer_line<L: Onlooker>(
     onlooker: &L,
 ) -> Result<bool, AllocError>
     requires { reply.old.items ≡ [] }
-    ensures { IfOk result (λ is_refused. (asked : Result (Option CommandValue) RefusalValue)
+    ensures { IfOk result (λ is_refused. (asked : Result (Option LineCommandValue) RefusalValue)
         × Asks line.now asked
         × AnswersTo core.old.machine asked reply.new.items is_refused core.new.machine) }
 {
     match read_command(alloc, line) {
         Ok(None) => Ok(false),
-        Ok(Some(command)) => {
+        Ok(Some(LineCommand::Hello)) => {
+            reply.extend_from_slice(hello_text().as_bytes())?;
+            Ok(false)
+        }
+        Ok(Some(LineCommand::Step(command))) => {
             tell_event(onlooker, &command);
             carry_out(alloc, core, command, reply, onlooker)
         }
@@ -138,7 +143,7 @@ fn carry_out<L: Onlooker>(
     onlooker: &L,
 ) -> Result<bool, AllocError>
     requires empty { reply.old.items ≡ [] }
-    requires asked { (line : List ℕ) × Asks line (Ok (Some command)) }
+    requires asked { (line : List ℕ) × Asks line (Ok (Some (LineCommand.Step command))) }
     ensures { IfOk result (λ is_refused.
         CarriesOut core.old.machine command reply.new.items is_refused core.new.machine) }
 {

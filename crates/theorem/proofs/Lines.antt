@@ -14,6 +14,8 @@ use Rattle.machine.specs.declared.command.Reply.TheVariants.{Verdict as Says}
 use Rattle.machine.specs.Machine.{Machine}
 use Rattle.machine.proofs.HistoryKept.{history_step}
 use Rattle.line_loop.specs.ReplyText.{line_limit}
+use Rattle.scripts.specs.declared.command.LineCommand.{LineCommand}
+use Rattle.scripts.specs.declared.command.LineCommand.TheVariants.{Hello, Step}
 use Rattle.scripts.specs.Command.{rewind_to, key_in, kind_in, model_of, budget_of, command_named, vector_command, Appends, ElementAsks, AskFor, Asks}
 use Rattle.scripts.specs.Reply as script
 use Rattle.theorem.specs.Theorem.{CarriesOut, AnswersTo, AnswersLine}
@@ -23,16 +25,17 @@ use Rattle.theorem.proofs.Commands.{changes, said, declines}
 
 -- The commands that a line can spell
 
-abbrev AsksSo : Result Command Refusal → Type 0
-AsksSo (Ok command) = IsOfHistory command
+abbrev AsksSo : Result LineCommand Refusal → Type 0
+AsksSo (Ok Hello) = Unit {0}
+AsksSo (Ok (Step command)) = IsOfHistory command
 AsksSo (Err why) = Unit {0}
 
-either : (b : Bool) (x y : Result Command Refusal) → AsksSo x → AsksSo y → AsksSo (if b then x else y)
+either : (b : Bool) (x y : Result LineCommand Refusal) → AsksSo x → AsksSo y → AsksSo (if b then x else y)
 either true x y p q = p
 either false x y p q = q
 
 rewind_so : (v : Value) → AsksSo (rewind_to v)
-rewind_so (int (pos n)) = either (nat_lt n (2 ^ 32)) (Ok (Rewind n)) (Err NoSuchIndex) tt tt
+rewind_so (int (pos n)) = either (nat_lt n (2 ^ 32)) (Ok (Step (Rewind n))) (Err NoSuchIndex) tt tt
 rewind_so (int (negsuc n)) = tt
 rewind_so _ = tt
 
@@ -42,13 +45,15 @@ model_so (Some key) None = tt
 model_so None kind = tt
 
 budget_so : (key : Option ℕ) (v : Value) → AsksSo (budget_of key v)
-budget_so (Some key) (int (pos n)) = either (nat_lt n (2 ^ 32)) (Ok (SetBudget key n)) (Err BadBudget) tt tt
+budget_so (Some key) (int (pos n)) = either (nat_lt n (2 ^ 32)) (Ok (Step (SetBudget key n))) (Err BadBudget) tt tt
 budget_so (Some key) (int (negsuc n)) = tt
 budget_so (Some key) _ = tt
 budget_so None v = tt
 
 named_so : (name : List ℕ) (arguments : Values) → AsksSo (command_named name arguments)
-named_so name none = either (bytes_eq name (codes "verdict")) (Ok Ask) (Err BadValue) tt tt
+named_so name none =
+    either (bytes_eq name (codes "verdict")) (Ok (Step Ask)) (if bytes_eq name (codes "hello") then Ok Hello else Err BadValue) tt
+    (either (bytes_eq name (codes "hello")) (Ok Hello) (Err BadValue) tt tt)
 named_so name (more n none) = either (bytes_eq name (codes "rewind")) (rewind_to n) (Err BadValue) (rewind_so n) tt
 named_so name (more k (more v none)) =
     either (bytes_eq name (codes "model")) (model_of (key_in k) (kind_in v)) (if bytes_eq name (codes "budget") then budget_of (key_in k) v else Err BadValue) (model_so (key_in k) (kind_in v))
@@ -60,11 +65,11 @@ vector_so none = tt
 vector_so (more (keyword name) arguments) = named_so name arguments
 vector_so (more _ arguments) = tt
 
-append_so : (v : Value) (command : Command) → Appends v (Ok command) → IsOfHistory command
+append_so : (v : Value) (command : Command) → Appends v (Ok (Step command)) → IsOfHistory command
 append_so v (Append event) p = tt
 append_so v _ p = absurd p
 
-element_so : (v : Value) (command : Command) → ElementAsks v (Ok command) → IsOfHistory command
+element_so : (v : Value) (command : Command) → ElementAsks v (Ok (Step command)) → IsOfHistory command
 element_so (vector vs) command p = subst AsksSo (sym p) (vector_so vs)
 element_so nil command p = append_so nil command p
 element_so (bool b) command p = append_so (bool b) command p
@@ -74,7 +79,7 @@ element_so (keyword s) command p = append_so (keyword s) command p
 element_so (pairs ps) command p = append_so (pairs ps) command p
 element_so (members vs) command p = append_so (members vs) command p
 
-ask_so : (values : Values) (command : Command) → AskFor values (Ok (Some command)) → IsOfHistory command
+ask_so : (values : Values) (command : Command) → AskFor values (Ok (Some (Step command))) → IsOfHistory command
 ask_so none command p = cc
 ask_so (more v none) command p = element_so v command p
 ask_so (more v (more w vs)) command p = cc
@@ -96,10 +101,11 @@ carried_out old new command text is_refused is h a =
     (inr (r.0, declined.0, ap (λ m. m.judged) declined.1, r.3, r.4), history_step old new command (Err r.0) r.1 h))
     a
 
-answered : (old new : Machine) (line : List ℕ) (asked : Result (Option Command) Refusal) (text : List ℕ) (is_refused : Bool) → HasHistory old → Asks line asked → script.AnswersTo old asked text is_refused new
+answered : (old new : Machine) (line : List ℕ) (asked : Result (Option LineCommand) Refusal) (text : List ℕ) (is_refused : Bool) → HasHistory old → Asks line asked → script.AnswersTo old asked text is_refused new
     → AnswersTo old.judged asked text is_refused new.judged × HasHistory new
 answered old new line (Ok None) text is_refused h asks a = ((a.0, a.1, ap (λ m. m.judged) a.2), subst HasHistory (sym a.2) h)
-answered old new line (Ok (Some command)) text is_refused h asks a = carried_out old new command text is_refused (ask_so asks.0 command asks.2) h a
+answered old new line (Ok (Some Hello)) text is_refused h asks a = ((a.0, a.1, ap (λ m. m.judged) a.2), subst HasHistory (sym a.2) h)
+answered old new line (Ok (Some (Step command))) text is_refused h asks a = carried_out old new command text is_refused (ask_so asks.0 command asks.2) h a
 answered old new line (Err why) text is_refused h asks a = ((a.0, a.1, ap (λ m. m.judged) a.2), subst HasHistory (sym a.2) h)
 
 pub line_answered : (old new : Machine) (line text : List ℕ) (is_refused : Bool) → HasHistory old → script.MayAnswer old line text is_refused new → AnswersLine old.judged line text is_refused new.judged

@@ -16,7 +16,10 @@ use Rattle.machine.specs.declared.command.Command.{Command}
 use Rattle.machine.specs.declared.command.Command.TheVariants.{Append, Rewind, SetModel, SetBudget, Verdict as Ask}
 use Rattle.line_loop.specs.RefusalLine.{refusal_line}
 use Rattle.line_loop.specs.ReplyText.{line_limit}
+use Rattle.scripts.specs.declared.command.LineCommand.{LineCommand}
+use Rattle.scripts.specs.declared.command.LineCommand.TheVariants.{Hello, Step}
 use Rattle.scripts.specs.Command.{Asks}
+use Rattle.scripts.specs.Hello.{hello_line}
 use Rattle.report.specs.VerdictLine.{verdict_line}
 use Rattle.report.specs.Report.{IsReport}
 use Rattle.checks.specs.Reading.{IsRead}
@@ -60,15 +63,16 @@ CarriesOut old command text is_refused new =
     ((verdict : Verdict) × Changes old command new × IsRight new verdict × (text ≡ verdict_line verdict) × (is_refused ≡ false))
     ⊎ ((why : Refusal) × Declines old command why × (new ≡ old) × (text ≡ refusal_line why) × (is_refused ≡ true))
 
--- a line asks for nothing or for a command, or is refused itself
-abbrev pub AnswersTo : JudgedHistory → Result (Option Command) Refusal → List ℕ → Bool → JudgedHistory → Type 0
+-- a line asks for nothing, for the hello line, which says nothing of the history, or for a command, or is refused itself
+abbrev pub AnswersTo : JudgedHistory → Result (Option LineCommand) Refusal → List ℕ → Bool → JudgedHistory → Type 0
 AnswersTo old (Ok None) text is_refused new = (text ≡ []) × (is_refused ≡ false) × (new ≡ old)
-AnswersTo old (Ok (Some command)) text is_refused new = CarriesOut old command text is_refused new
+AnswersTo old (Ok (Some Hello)) text is_refused new = (text ≡ hello_line) × (is_refused ≡ false) × (new ≡ old)
+AnswersTo old (Ok (Some (Step command))) text is_refused new = CarriesOut old command text is_refused new
 AnswersTo old (Err why) text is_refused new = (text ≡ refusal_line why) × (is_refused ≡ true) × (new ≡ old)
 
 -- a line over the limit is refused, whatever it asks for
 pub record AnswersLine (old : JudgedHistory) (line text : List ℕ) (is_refused : Bool) (new : JudgedHistory) : Type 0 where
-  pub within : length line ≤ line_limit → (asked : Result (Option Command) Refusal) × Asks line asked × AnswersTo old asked text is_refused new
+  pub within : length line ≤ line_limit → (asked : Result (Option LineCommand) Refusal) × Asks line asked × AnswersTo old asked text is_refused new
   pub over : line_limit < length line → (text ≡ refusal_line TooLong) × (is_refused ≡ true) × (new ≡ old)
 
 -- a script: the history that it judges, whether it is strict, and whether a refusal has closed it
