@@ -10,7 +10,7 @@ import sys
 import tempfile
 import time
 import unittest
-from typing import List, Optional
+from typing import Callable, List, Optional
 
 from jepmon.testing import ServerError, mounts, template
 from jepmon.testing.cli_options import given
@@ -43,6 +43,8 @@ LOGS = ("import logging, warnings\nclass Client(MyClient):\n    def read(self, k
         "    def client(self, number):\n        return Client(self.nodes[0].at)\n")
 LEAVES_ORPHANS = ("class Mine(MyServer):\n    def command(self, node):\n        code = \"(setsid sh -c '(sleep 600.25 &)'); {}\"\n"
                   "        return ['sh', '-c', code, 'sh', *super().command(node)]\n")
+LAYS_OUT = ("class Mine(MyServer):\n    def prepare(self, node):\n"
+            "        node.completed(['sh', '-c', 'while :; do : > x; sleep 600.125 & wait; done'])\n")
 HAS_ITS_OWN = """
 import contextlib
 from jepmon.testing import Parameter, Strike
@@ -94,6 +96,10 @@ class Runs(Monitored):
             if str(self.room / "tmp") in words:
                 found.append(words)
         return found
+
+    def commands(self) -> List[str]:
+        """Of all processes."""
+        return subprocess.run(["ps", "-eo", "args"], stdout=subprocess.PIPE, universal_newlines=True).stdout.splitlines()
 
     def verdict_file(self) -> str:
         return (self.room / "runs" / "latest" / "verdict.txt").read_text().strip()
@@ -217,8 +223,7 @@ class Orphans(Runs):
         self.assertIn("died by itself, with status 4", ran.stderr)
 
     def left(self) -> List[str]:
-        return [*super().left(), *(word for word in subprocess.run(["ps", "-eo", "args"], stdout=subprocess.PIPE, universal_newlines=True)
-                                   .stdout.splitlines() if word.startswith("sleep 600.25"))]
+        return [*super().left(), *(word for word in self.commands() if word.startswith("sleep 600.25"))]
 
 
 class BrokenOff(Runs):
@@ -242,6 +247,29 @@ class BrokenOff(Runs):
         self.assertEqual(self.output.splitlines()[-1], "no verdict")
         self.assertEqual(self.verdict_file(), "no verdict: the test was broken off")
         self.nothing_is_left()
+
+    def test_while_its_folder_is_laid_out(self) -> None:
+        """The test is at work in a program that has started another one."""
+        (self.room / "mine.py").write_text(IMPORTS + LAYS_OUT)
+        for number, status in ((signal.SIGINT, 130), (signal.SIGTERM, 143), (signal.SIGKILL, -9)):
+            with self.subTest(number):
+                test = subprocess.Popen(self.words("./mine.py", "--time", "600"), stdout=subprocess.PIPE, stderr=subprocess.PIPE,
+                                        universal_newlines=True, env=self.environment(), cwd=self.room, start_new_session=True)
+                self.assertTrue(self.comes(lambda: len(self.sleeping()) == 1))
+                os.killpg(test.pid, number)
+                said = test.communicate(timeout=PATIENCE)[1]
+                self.assertEqual((test.returncode, "Traceback" in said), (status, False), said)
+                self.assertTrue(self.comes(lambda: not self.sleeping() and not os.listdir(self.room / "tmp")))
+                self.nothing_is_left()
+
+    def sleeping(self) -> List[str]:
+        return [path for path in self.commands() if path.startswith("sleep 600.125")]
+
+    def comes(self, what: Callable[[], bool]) -> bool:
+        end = time.monotonic() + PATIENCE
+        while not what() and time.monotonic() < end:
+            time.sleep(0.05)
+        return what()
 
     def test_by_a_kill(self) -> None:
         """Then nobody says anything, and all is gone a little later."""

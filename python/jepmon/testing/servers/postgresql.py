@@ -14,7 +14,7 @@ from typing import Dict, List, Optional, Sequence, Type
 
 from ...live.outcome_rules import Exceptions
 from ..errors import ServerError
-from ..node import At, Node, completed
+from ..node import At, Node
 from ..server import Client, Plant, Server
 from ..wire.postgres import Postgres, SqlError
 
@@ -151,7 +151,7 @@ class PostgreSQL(Server):
         else:
             words = [program("pg_basebackup"), "-h", primary.address, "-p", str(primary.port), "-U", USER, "-D", data, "-R", "-X", "stream",
                      "-c", "fast", "--no-sync"]
-        completed(words, node.log, node.user)
+        node.completed(words)
         if node.number == 0:
             with open(node.folder / "data" / "pg_hba.conf", "a", encoding="utf-8") as rules:
                 rules.write("host all,replication all samenet trust\n")
