@@ -7,7 +7,7 @@ import re
 import sys
 from typing import Dict, Iterator, List, NamedTuple, Optional, Tuple
 
-from ..live.run_folder import AGAIN, CAUSE, COUNTS, HISTORY, LOST, NAMES, PAGE, PART, RUN_FACTS, RUN_PAGE, VERDICT, write_whole
+from ..live.run_folder import AGAIN, CAUSE, COUNTS, CRASH, HISTORY, LOST, NAMES, PAGE, PART, RUN_FACTS, RUN_PAGE, VERDICT, write_whole
 from ..program.report import BAD_KEY
 from .document import render
 from .gathered import OUTCOMES, Gathered
@@ -51,6 +51,9 @@ def page_of(folder: pathlib.Path, whole: bool = False) -> RatesPage:
     lost = text_of(folder / LOST)
     if lost:
         sections.append(Section("Lost messages", lost))
+    crash = text_of(folder / CRASH)
+    if crash:
+        sections.append(Section("Crash", crash))
     return RatesPage(verdict_of(folder), drawn.gathered, drawn.faults, drawn.keys,
                      [("run", folder.absolute().name), *facts.items(), *counts], command, list(links(folder)), sections, drawn.notes)
 
