@@ -295,6 +295,10 @@ class Words(Runs):
             with self.subTest(words):
                 self.assertRegex(said_of(words.split()), "^" + re.escape(said))
 
+    def test_an_empty_text_is_not_the_default(self) -> None:
+        for option in ("--nemesis", "--inject-bug", "--object", "--durability", "--phases", "--reserve", "--out"):
+            self.assertRegex(said_of(["redis", option, ""]), f"^argument {option}.*: it is empty; see ")
+
     def test_a_file_that_is_none(self) -> None:
         for text, said in (("x = = 1", "mine.py can't be used: SyntaxError"), ("", "mine.py has no class that is a jepmon.testing.Server"),
                            ("1 / 0", r"mine.py can't be used: ZeroDivisionError: division by zero \(mine.py, line 4\)$"),

@@ -7,7 +7,7 @@ import re
 import sys
 from typing import Dict, Iterator, List, NamedTuple, Optional, Tuple
 
-from ..live.run_folder import AGAIN, CAUSE, COUNTS, CRASH, HISTORY, LOST, NAMES, PAGE, PART, RUN_FACTS, RUN_PAGE, VERDICT, write_whole
+from ..live.run_folder import AGAIN, CAUSE, CLIENTS_LOG, COUNTS, CRASH, HISTORY, LOST, NAMES, PAGE, PART, RUN_FACTS, RUN_PAGE, VERDICT, write_whole
 from ..program.report import BAD_KEY
 from .document import render
 from .gathered import OUTCOMES, Gathered
@@ -95,9 +95,9 @@ def links(folder: pathlib.Path) -> Iterator[Tuple[str, str]]:
         if (part / PAGE).exists():
             there = (part / PAGE).relative_to(folder)
             yield f"the bad key{'' if part == folder else f' of {part.name}'}", str(there)
-    for path in sorted(folder.glob("n*.log")):
+    for path in sorted([*folder.glob("n*.log"), *folder.glob("n*.data")]):
         yield path.name, path.name
-    for name in (VERDICT, COUNTS, AGAIN):
+    for name in (CLIENTS_LOG, LOST, CRASH, VERDICT, COUNTS, AGAIN):
         if (folder / name).exists():
             yield name, name
 
