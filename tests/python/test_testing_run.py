@@ -43,6 +43,8 @@ LOGS = ("import logging, warnings\nclass Client(MyClient):\n    def read(self, k
         "    def client(self, number):\n        return Client(self.nodes[0].at)\n")
 LEAVES_ORPHANS = ("class Mine(MyServer):\n    def command(self, node):\n        code = \"(setsid sh -c '(sleep 600.25 &)'); {}\"\n"
                   "        return ['sh', '-c', code, 'sh', *super().command(node)]\n")
+UPGRADES = ("class Mine(MyServer):\n    def command(self, node):\n"
+            "        return ['sh', '-c', f'echo version {min(node.starts, 1) + 1}; exec \"$@\"', 'sh', *super().command(node)]\n")
 LAYS_OUT = ("class Mine(MyServer):\n    def prepare(self, node):\n"
             "        node.completed(['sh', '-c', 'while :; do : > x; sleep 600.125 & wait; done'])\n")
 HAS_ITS_OWN = """
@@ -208,6 +210,15 @@ class Snags(Runs):
         again = subprocess.run([self.room / "runs" / "latest" / "judge-again"], stdout=subprocess.PIPE, universal_newlines=True,
                                env={**environment, "PATH": "/usr/bin:/bin"})
         self.assertEqual((again.returncode, again.stdout.splitlines()[-1]), (0, "legal"))
+
+
+class Starts(Runs):
+    def test_other_words_at_a_restart(self) -> None:
+        """As an upgrade does: the second start and later ones are of another program."""
+        ran = self.ran(self.mine(UPGRADES), "--time", "3", "--min-ok", "1", "--nemesis", "kill@0.5+0.2,kill@1.5+0.2")
+        self.assertEqual((ran.returncode, ran.stderr), (0, ""), ran.stdout)
+        log = (self.room / "runs" / "latest" / "n1.log").read_text()
+        self.assertEqual(re.findall("^version ([0-9]+)$", log, re.M), ["1", "2", "2"])
 
 
 class Orphans(Runs):
