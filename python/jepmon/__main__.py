@@ -3,6 +3,7 @@ import importlib
 import sys
 from typing import List
 
+INTERRUPTED = 130  # the status
 MODULES = {"test": "testing"}  # where a tool has another name than its module
 TOOLS = {
     "judge": "judges a recorded history, and says why it is illegal",
@@ -34,8 +35,11 @@ def main(words: List[str]) -> int:
         sys.stderr.write(f"jepmon: {named}; there are {', '.join(TOOLS)}\n")
         return 3
     sys.argv = [sys.argv[0], *words[1:]]
-    module = importlib.import_module("jepmon." + MODULES.get(words[0], words[0].replace("-", "_")))
-    status: int = module.main()
+    try:
+        module = importlib.import_module("jepmon." + MODULES.get(words[0], words[0].replace("-", "_")))
+        status: int = module.main()
+    except KeyboardInterrupt:  # while modules are read: later each tool says what it means
+        return INTERRUPTED
     return status
 
 

@@ -1,6 +1,7 @@
 """After a finding: the bad key read again, lost messages and members, crashes, and what is kept of the nodes."""
 from __future__ import annotations
 
+import argparse
 import pathlib
 import subprocess
 import tempfile
@@ -11,13 +12,15 @@ from jepmon.history import Event
 from jepmon.history.fault_notes import OVER, Fault
 from jepmon.history.fault_times import since, until
 from jepmon.history.kinds import ABSENT
-from jepmon.testing import ServerError
-from jepmon.testing.after import Reading, listed, lost_members, lost_messages, verdict_on, verdict_on_queue
-from jepmon.testing.crashes import LogWatch, finding
+from jepmon.testing import Client, Server, ServerError
+from jepmon.testing.after import (Reading, listed, lost_members, lost_messages, one_round, others_that_differ, verdict_on,
+                                  verdict_on_queue)
+from jepmon.testing.crashes import LogWatch, account, finding
 from jepmon.testing.errors import Died
 from jepmon.testing.losses import Acknowledged, known_from, lines, many
 from jepmon.testing.messages import Missing
 from jepmon.testing.node import Node
+from jepmon.testing.servers.postgresql import PostgreSQL
 from tests.python.test_testing_run import Runs
 
 SECOND = 1_000_000_000
@@ -58,6 +61,14 @@ def event(index: int, kind: str, name: str, value: Any, seconds: float, process:
     return Event(index, kind, process, name, 0, value, index + 1, "", {"time": round(seconds * SECOND)})
 
 
+class Answers(Client):
+    def __init__(self, answer: int) -> None:
+        self.answer = answer
+
+    def read(self, key: int) -> int:
+        return self.answer
+
+
 class Times(unittest.TestCase):
     def test_how_long_after_which_fault(self) -> None:
         for at, said in ((1.0, ""), (2.07, '0.07 s after "n1 is down, by kill -9" began'),
@@ -94,6 +105,20 @@ class Verdicts(unittest.TestCase):
         self.assertEqual(self.on(4, n1=5, n2=4), "Nodes DIVERGED: they still hold different values.")
         self.assertEqual(self.on(4, n1=Reading(None, "no answer (TimeoutError)"), n2=5), stale)
         self.assertIn("nobody knows", self.on(4, n1=Reading(None, "no answer (TimeoutError)")))
+
+    def test_nodes_that_no_client_asks(self) -> None:
+        readings = {"n1": Reading(5), "n2": Reading(4), "n3": Reading(None, "no answer (TimeoutError)")}
+        self.assertEqual(others_that_differ(readings, {"n1": Reading(5)}), "Another value is still at n2: DIVERGED from the nodes that clients ask.")
+        self.assertEqual(others_that_differ({"n1": Reading(5), "n2": Reading(5)}, {"n1": Reading(5)}), "")
+        self.assertEqual(others_that_differ(readings, readings), "")
+
+    def test_who_reads_at_a_node(self) -> None:
+        """Clients ask n1; the server gives a reader of n2, and none of n3."""
+        nodes = [Node(number, pathlib.Path(), pathlib.Path(), {}, None) for number in range(3)]  # type: ignore[arg-type]
+        kind = type("Kind", (Server,), {"client": lambda self, number: Answers(5), "node_of": lambda self, number: self.nodes[0],
+                                        "reader": lambda self, node: Answers(4) if node.name == "n2" else None})
+        cluster: Any = argparse.Namespace(nodes=nodes, server=kind(nodes, "register", ""))
+        self.assertEqual(one_round(cluster, 7), {"n1": Reading(5), "n2": Reading(4)})
 
     def test_of_an_answer_that_is_the_last_write(self) -> None:
         """Two writes overlap, and the one that is acknowledged first is the last. A stale read between makes its value impossible."""
@@ -185,6 +210,45 @@ class Crashes(unittest.TestCase):
                 self.assertEqual(finding(Died("n1", how, node.log)), said)
 
 
+    def test_when_and_after_which_faults(self) -> None:
+        log = "ready\n--- started again\none\npanic: no head\ntwo\n"
+        faults = [Fault("n1 is without power [tear n1, process]", 0, 1_000_000_000, 0, 3_000_000_000),
+                  Fault("all links of n2 are slow [slow n2, links]", 0, 3_100_000_000, 0, None)]
+        own = "The last fault of n1: 2.50 s after \"n1 is without power\" began, 0.50 s after it ended"
+        with tempfile.TemporaryDirectory() as room:
+            path = pathlib.Path(room, "n1.log")
+            path.write_text(log)
+            for how, held, said in (("has died by itself, with status 1", faults, f". This was found at 3.50 s, 0.40 s after \"all links of n2 are slow\" "
+                                     f"began. {own}."),
+                                    ("has died by itself, with status 1", faults[:1], ". This was found at 3.50 s, 2.50 s after \"n1 is without power\" "
+                                     "began, 0.50 s after it ended."),
+                                    ("says in its log: panic: no head", [], ". This was found at 3.50 s, before any fault.")):
+                died = Died("n1", how, path)
+                found = account(died, [*held, Fault(died.note, 0, 3_500_000_000, 0, 3_500_000_000)])
+                self.assertEqual(found[0], f"n1 {how}{said}")
+                self.assertEqual(found[1:], [f"Its log, n1.log, {'says around that line' if 'says' in how else 'ends'}:", "    one", "    panic: no head",
+                                             "    two"])
+            self.assertEqual(account(Died("n1", "has died", pathlib.Path(room, "none")), []), ["n1 has died."])
+
+    def test_what_postgresql_says(self) -> None:
+        """Its first process goes on, and starts the one that has crashed again."""
+        with tempfile.TemporaryDirectory() as room:
+            node = self.node(room)
+            for line, is_one in (("LOG:  checkpointer process (PID 26905) was terminated by signal 11: Segmentation fault", True),
+                                 ("LOG:  server process (PID 7) was terminated by signal 6: Aborted", True),
+                                 ("PANIC:  could not locate a valid checkpoint record", True),
+                                 ("ERROR:  invalid page in block 3 of relation base/5/16384", True),
+                                 ("LOG:  database system was not properly shut down; automatic recovery in progress", False),
+                                 ("FATAL:  terminating connection due to administrator command", False)):
+                with self.subTest(line):
+                    node.log.write_text(f"2026-11-30 22:08:33.023 UTC [1] {line}\n")
+                    watch = LogWatch([node], PostgreSQL.crashes)
+                    if is_one:
+                        self.assertRaises(Died, watch.look)
+                    else:
+                        watch.look()
+
+
 class AsAWhole(Runs):
     def finding(self, server: str, *words: str) -> "Tuple[subprocess.CompletedProcess[str], pathlib.Path]":
         ran = self.ran(server, *words)
@@ -201,7 +265,10 @@ class AsAWhole(Runs):
         ran, folder = self.finding(self.mine(PANICS), "--time", "60", "--nemesis", "none")
         self.assertEqual(ran.stdout.splitlines()[-1],
                          "crashed n1: it has died by itself, by signal 6; its log says: panic: assertion failed at raft.c:77")
-        self.assertEqual(ran.stderr, "")
+        self.assertRegex(ran.stderr, r"\An1 has died by itself, by signal 6[.] This was found at [0-9.]+ s, before any fault[.]\n"
+                                     r"Its log, n1.log, ends:\n(    .*\n)*    panic: assertion failed at raft.c:77\n")
+        self.assertEqual((folder / "crash.txt").read_text(), ran.stderr)
+        self.assertIn("<h2>Crash</h2>", (folder / "run.html").read_text())
         self.assertTrue((folder / "n1.data" / "journal").exists())
 
     def test_a_server_that_says_so(self) -> None:

@@ -6,6 +6,7 @@ import unittest
 
 from jepmon.testing import ServerError, template
 from jepmon.testing.course import Course, Stage, reserved_of, stages_of
+from jepmon.testing.tool import counted
 from tests.python.test_testing_run import Runs
 
 TEMPLATE = template.__file__
@@ -79,6 +80,12 @@ class Whole(Runs):
         ran = self.ran(TEMPLATE, "--time", "60", "--inject-bug", "forgetful", "--test-count", "2")
         self.assertEqual(ran.returncode, 1, ran.stdout)
         self.assertEqual(ran.stdout.splitlines()[-1], "2 of 2 tests: 2 illegal")
+
+    def test_each_verdict_is_counted_by_its_name(self) -> None:
+        self.assertEqual(counted(["seed 1: lost 3 messages: gone (runs/1)\n", "seed 2: crashed n1: it has died (runs/2)\n", "seed 3: illegal key 1 (x)\n",
+                                  "seed 4: lost 1 messages (runs/4)\n", "seed 5: no verdict: n1 was not ready\n", "seed 6: legal (runs/6)\n"]),
+                         "1 legal, 1 illegal, 2 lost, 1 crashed, 1 without a verdict")
+        self.assertEqual(counted([]), "none ended")
 
     def test_one_without_a_verdict(self) -> None:
         ran = self.ran(TEMPLATE, "--time", "1", "--nemesis", "none", "--min-ok", "100000", "--test-count", "2")

@@ -1,6 +1,7 @@
 """Nodes, the links between them, and that none is left behind."""
 from __future__ import annotations
 
+import os
 import pathlib
 import random
 import signal
@@ -8,6 +9,7 @@ import socket
 import subprocess
 import sys
 import tempfile
+import threading
 import time
 import unittest
 from typing import Callable, List
@@ -17,6 +19,7 @@ from jepmon.testing.family import adopt, continue_family, family, kill_family, p
 from jepmon.testing.guard import Guard, environment
 from jepmon.testing.links import CLIENTS, CUT, Effect, Proxied, both_ways
 from jepmon.testing.node import ADDRESS, Node, Ports, is_free, last_words
+from jepmon.testing.undisturbed import undisturbed
 
 PATIENCE = 60.0  # seconds, on a busy machine
 ECHO = """
@@ -172,6 +175,51 @@ class Families(unittest.TestCase):
             test.wait()
             self.assertTrue(wait_for(lambda: not is_alive(pid)))
             self.assertTrue(wait_for(lambda: not folder.exists()))
+
+    def test_a_folder_in_which_a_process_writes_still_is_removed(self) -> None:
+        with tempfile.TemporaryDirectory() as room:
+            folder = pathlib.Path(room, "data")
+            folder.mkdir()
+            guard = Guard(folder)
+            writes = subprocess.Popen(["sh", "-c", "while :; do mkdir data/sub; : > data/sub/file; done 2>/dev/null"], cwd=room)
+            self.assertTrue(wait_for(lambda: (folder / "sub" / "file").exists()))
+            killer = threading.Timer(0.2, writes.kill)
+            killer.start()
+            guard.end()
+            writes.wait()
+            self.assertFalse(folder.exists())
+
+
+class Undisturbed(Room):
+    """Ctrl-C comes while a process is started."""
+
+    def test_a_signal_comes_at_the_end_of_the_block(self) -> None:
+        done = []
+        with self.assertRaises(KeyboardInterrupt):
+            with undisturbed():
+                signal.raise_signal(signal.SIGINT)
+                done.append(1)
+        self.assertEqual((done, signal.getsignal(signal.SIGINT)), ([1], signal.default_int_handler))
+
+    def test_a_program_that_is_run_to_its_end_ends_with_all_that_it_started(self) -> None:
+        node = self.node("true")
+        timer = threading.Timer(0.5, lambda: os.kill(os.getpid(), signal.SIGINT))
+        timer.start()
+        with self.assertRaises(KeyboardInterrupt):
+            node.completed(["sh", "-c", "sleep 600.75 & wait"])
+        timer.join()
+        self.assertTrue(wait_for(lambda: not any("600.75" in words for words in commands())))
+
+    def test_one_that_ends_otherwise_names_its_log(self) -> None:
+        with self.assertRaisesRegex(ServerError, "^sh ended with status 3; its log is .*n1.log, which ends: no room$"):
+            self.node("true").completed(["sh", "-c", "echo no room; exit 3"])
+        with self.assertRaisesRegex(ServerError, "^/nowhere/initdb can't be started: No such file"):
+            self.node("true").completed(["/nowhere/initdb"])
+
+
+def commands() -> List[str]:
+    """Of all processes."""
+    return subprocess.run(["ps", "-eo", "args"], stdout=subprocess.PIPE, universal_newlines=True).stdout.splitlines()
 
 
 class LinksOfANode(Room):

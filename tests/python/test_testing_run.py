@@ -10,7 +10,7 @@ import sys
 import tempfile
 import time
 import unittest
-from typing import List, Optional
+from typing import Callable, List, Optional
 
 from jepmon.testing import ServerError, mounts, template
 from jepmon.testing.cli_options import given
@@ -43,6 +43,10 @@ LOGS = ("import logging, warnings\nclass Client(MyClient):\n    def read(self, k
         "    def client(self, number):\n        return Client(self.nodes[0].at)\n")
 LEAVES_ORPHANS = ("class Mine(MyServer):\n    def command(self, node):\n        code = \"(setsid sh -c '(sleep 600.25 &)'); {}\"\n"
                   "        return ['sh', '-c', code, 'sh', *super().command(node)]\n")
+UPGRADES = ("class Mine(MyServer):\n    def command(self, node):\n"
+            "        return ['sh', '-c', f'echo version {min(node.starts, 1) + 1}; exec \"$@\"', 'sh', *super().command(node)]\n")
+LAYS_OUT = ("class Mine(MyServer):\n    def prepare(self, node):\n"
+            "        node.completed(['sh', '-c', 'while :; do : > x; sleep 600.125 & wait; done'])\n")
 HAS_ITS_OWN = """
 import contextlib
 from jepmon.testing import Parameter, Strike
@@ -94,6 +98,10 @@ class Runs(Monitored):
             if str(self.room / "tmp") in words:
                 found.append(words)
         return found
+
+    def commands(self) -> List[str]:
+        """Of all processes."""
+        return subprocess.run(["ps", "-eo", "args"], stdout=subprocess.PIPE, universal_newlines=True).stdout.splitlines()
 
     def verdict_file(self) -> str:
         return (self.room / "runs" / "latest" / "verdict.txt").read_text().strip()
@@ -204,6 +212,15 @@ class Snags(Runs):
         self.assertEqual((again.returncode, again.stdout.splitlines()[-1]), (0, "legal"))
 
 
+class Starts(Runs):
+    def test_other_words_at_a_restart(self) -> None:
+        """As an upgrade does: the second start and later ones are of another program."""
+        ran = self.ran(self.mine(UPGRADES), "--time", "3", "--min-ok", "1", "--nemesis", "kill@0.5+0.2,kill@1.5+0.2")
+        self.assertEqual((ran.returncode, ran.stderr), (0, ""), ran.stdout)
+        log = (self.room / "runs" / "latest" / "n1.log").read_text()
+        self.assertEqual(re.findall("^version ([0-9]+)$", log, re.M), ["1", "2", "2"])
+
+
 class Orphans(Runs):
     """A server starts a helper that leaves its family, by two forks."""
 
@@ -217,8 +234,7 @@ class Orphans(Runs):
         self.assertIn("died by itself, with status 4", ran.stderr)
 
     def left(self) -> List[str]:
-        return [*super().left(), *(word for word in subprocess.run(["ps", "-eo", "args"], stdout=subprocess.PIPE, universal_newlines=True)
-                                   .stdout.splitlines() if word.startswith("sleep 600.25"))]
+        return [*super().left(), *(word for word in self.commands() if word.startswith("sleep 600.25"))]
 
 
 class BrokenOff(Runs):
@@ -243,6 +259,29 @@ class BrokenOff(Runs):
         self.assertEqual(self.verdict_file(), "no verdict: the test was broken off")
         self.nothing_is_left()
 
+    def test_while_its_folder_is_laid_out(self) -> None:
+        """The test is at work in a program that has started another one."""
+        (self.room / "mine.py").write_text(IMPORTS + LAYS_OUT)
+        for number, status in ((signal.SIGINT, 130), (signal.SIGTERM, 143), (signal.SIGKILL, -9)):
+            with self.subTest(number):
+                test = subprocess.Popen(self.words("./mine.py", "--time", "600"), stdout=subprocess.PIPE, stderr=subprocess.PIPE,
+                                        universal_newlines=True, env=self.environment(), cwd=self.room, start_new_session=True)
+                self.assertTrue(self.comes(lambda: len(self.sleeping()) == 1))
+                os.killpg(test.pid, number)
+                said = test.communicate(timeout=PATIENCE)[1]
+                self.assertEqual((test.returncode, "Traceback" in said), (status, False), said)
+                self.assertTrue(self.comes(lambda: not self.sleeping() and not os.listdir(self.room / "tmp")))
+                self.nothing_is_left()
+
+    def sleeping(self) -> List[str]:
+        return [path for path in self.commands() if path.startswith("sleep 600.125")]
+
+    def comes(self, what: Callable[[], bool]) -> bool:
+        end = time.monotonic() + PATIENCE
+        while not what() and time.monotonic() < end:
+            time.sleep(0.05)
+        return what()
+
     def test_by_a_kill(self) -> None:
         """Then nobody says anything, and all is gone a little later."""
         self.assertEqual(self.broken_off(signal.SIGKILL)[0], -9)
@@ -266,6 +305,10 @@ class Words(Runs):
                             ("--time 1", "the following arguments are required")):
             with self.subTest(words):
                 self.assertRegex(said_of(words.split()), "^" + re.escape(said))
+
+    def test_an_empty_text_is_not_the_default(self) -> None:
+        for option in ("--nemesis", "--inject-bug", "--object", "--durability", "--phases", "--reserve", "--out"):
+            self.assertRegex(said_of(["redis", option, ""]), f"^argument {option}.*: it is empty; see ")
 
     def test_a_file_that_is_none(self) -> None:
         for text, said in (("x = = 1", "mine.py can't be used: SyntaxError"), ("", "mine.py has no class that is a jepmon.testing.Server"),

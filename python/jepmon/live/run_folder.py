@@ -30,7 +30,8 @@ from ..program import Options
 HISTORY, AGAIN, VERDICT, COUNTS, NAMES = "history.edn", "judge-again", "verdict.txt", "counts.txt", "names.txt"
 CAUSE, PAGE, LATEST = "cause.txt", "page.html", "latest"
 RUN_PAGE, RUN_FACTS = "run.html", "run.json"  # the facts are those of the test that knows more of a run, as jepmon-test
-AFTER, LOST = "after.txt", "lost.txt"  # what jepmon-test has learned after a finding: of the bad key, and of messages
+AFTER, LOST, CRASH = "after.txt", "lost.txt", "crash.txt"  # what jepmon-test has learned after a finding: of the bad key, of messages, of a crash
+CLIENTS_LOG = "clients.log"  # of client libraries, in a test by jepmon-test
 PART = "part-"  # how the folders of parts begin, in that of a run without an end
 SCRIPT = """#!/bin/sh
 # Judges history.edn, beside this file, again by the proved program. The run began at {begun}, by {program!r}

@@ -7,7 +7,7 @@ import re
 import sys
 from typing import Dict, Iterator, List, NamedTuple, Optional, Tuple
 
-from ..live.run_folder import AGAIN, CAUSE, COUNTS, HISTORY, LOST, NAMES, PAGE, PART, RUN_FACTS, RUN_PAGE, VERDICT, write_whole
+from ..live.run_folder import AGAIN, CAUSE, CLIENTS_LOG, COUNTS, CRASH, HISTORY, LOST, NAMES, PAGE, PART, RUN_FACTS, RUN_PAGE, VERDICT, write_whole
 from ..program.report import BAD_KEY
 from .document import render
 from .gathered import OUTCOMES, Gathered
@@ -51,6 +51,9 @@ def page_of(folder: pathlib.Path, whole: bool = False) -> RatesPage:
     lost = text_of(folder / LOST)
     if lost:
         sections.append(Section("Lost messages", lost))
+    crash = text_of(folder / CRASH)
+    if crash:
+        sections.append(Section("Crash", crash))
     return RatesPage(verdict_of(folder), drawn.gathered, drawn.faults, drawn.keys,
                      [("run", folder.absolute().name), *facts.items(), *counts], command, list(links(folder)), sections, drawn.notes)
 
@@ -92,9 +95,9 @@ def links(folder: pathlib.Path) -> Iterator[Tuple[str, str]]:
         if (part / PAGE).exists():
             there = (part / PAGE).relative_to(folder)
             yield f"the bad key{'' if part == folder else f' of {part.name}'}", str(there)
-    for path in sorted(folder.glob("n*.log")):
+    for path in sorted([*folder.glob("n*.log"), *folder.glob("n*.data")]):
         yield path.name, path.name
-    for name in (VERDICT, COUNTS, AGAIN):
+    for name in (CLIENTS_LOG, LOST, CRASH, VERDICT, COUNTS, AGAIN):
         if (folder / name).exists():
             yield name, name
 

@@ -23,6 +23,8 @@ from .cluster import Cluster
 from .crashes import finding
 from .errors import Died
 from .losses import Acknowledged, One, known_from, line, many, told
+from .node import Node
+from .server import Server
 
 FINDING, ALWAYS, NEVER = "finding", "always", "never"  # when the nodes' data are kept
 PATIENCE = 30.0  # seconds, at most, until the nodes are ready again
@@ -93,8 +95,10 @@ def _read_again(cluster: Cluster, illegal: Illegal, part: pathlib.Path) -> List[
     if hasattr(client, "read"):
         mend(cluster)
         readings = readings_of(cluster, key)
+        asked = {cluster.server.node_of(number).name for number in range(2 * len(cluster.nodes))}
+        by_clients = {name: reading for name, reading in readings.items() if name in asked}
         sentences += [f"Once all faults were ended, key {key} was read again: {listed(readings)}.",
-                      verdict_on(fatal, readings, acknowledged, known_from(events, begun, fatal.value))]
+                      verdict_on(fatal, by_clients, acknowledged, known_from(events, begun, fatal.value)), others_that_differ(readings, by_clients)]
         lost = lost_members(readings, acknowledged)
     elif hasattr(client, "dequeue"):
         mend(cluster)
@@ -145,7 +149,7 @@ def verdict_on_queue(key: int, events: Sequence[Event], rest: Sequence[int], los
 
 
 def readings_of(cluster: Cluster, key: int) -> Dict[str, Reading]:
-    """The answer of each node that clients reach, by its name, once they agree, or have had some time to."""
+    """The answer of each node that can be read, by its name, once they agree, or have had some time to."""
     readings: Dict[str, Reading] = {}
     with cluster.clients():
         for number in range(ROUNDS):
@@ -157,18 +161,21 @@ def readings_of(cluster: Cluster, key: int) -> Dict[str, Reading]:
 
 
 def one_round(cluster: Cluster, key: int) -> Dict[str, Reading]:
-    found: Dict[str, Reading] = {}
-    for number in range(2 * len(cluster.nodes)):
-        name = cluster.server.node_of(number).name
-        if name not in found:
-            found[name] = one_reading(cluster, number, key)
-    return dict(sorted(found.items()))
+    server = cluster.server
+    numbers = {server.node_of(number): number for number in reversed(range(2 * len(cluster.nodes)))}
+    readings = {node.name: one_reading(server, node, numbers.get(node), key) for node in cluster.nodes}
+    return {name: reading for name, reading in readings.items() if reading is not None}
 
 
-def one_reading(cluster: Cluster, number: int, key: int) -> Reading:
+def one_reading(server: Server, node: Node, number: Optional[int], key: int) -> Optional[Reading]:
+    """At this node, by a reader that the server gives, or else by the client of that number; None if there is neither."""
     said = ""
     for _ in range(TRIES):
-        client: Any = cluster.server.client(number)
+        client: Any = server.reader(node)
+        if client is None and number is not None:
+            client = server.client(number)
+        if client is None:
+            return None
         try:
             value = client.read(key)
             return Reading(frozenset(value) if isinstance(value, (set, frozenset, list, tuple)) else value)
@@ -177,6 +184,13 @@ def one_reading(cluster: Cluster, number: int, key: int) -> Reading:
         finally:
             client.close()
     return Reading(None, said)
+
+
+def others_that_differ(readings: Dict[str, Reading], by_clients: Dict[str, Reading]) -> str:
+    """Nodes that no client asks, and that hold another value than those that clients ask."""
+    held = {str(reading) for reading in by_clients.values() if not reading.fault}
+    names = [name for name, reading in readings.items() if name not in by_clients and not reading.fault and str(reading) not in held]
+    return f"Another value is still at {', '.join(names)}: DIVERGED from the nodes that clients ask." if names and held else ""
 
 
 def verdict_on(fatal: Event, readings: Dict[str, Reading], acknowledged: Acknowledged, known: int) -> str:

@@ -33,7 +33,7 @@ DESCRIPTION = """Starts a server, lets clients use it while faults strike, and h
   {tool} template > mine.py             one file to test your own server; then: {tool} ./mine.py
 
 The servers are Debian's, in folders and at ports of their own, and end with the test. Exit status: 0 legal, 1 illegal, or messages
-were lost, 2 unknown, 3 no verdict.
+were lost, or a server crashed, 2 unknown, 3 no verdict.
 """
 
 
@@ -80,22 +80,22 @@ def _parser() -> Words:
     called = command.tool(NAME)
     parser = Words(prog=called, description=DESCRIPTION.format(tool=called), formatter_class=argparse.RawDescriptionHelpFormatter)
     parser.add_argument("server", metavar="SERVER", help=f"{', '.join(SERVERS)}, or a Python file that has a Server; {TEMPLATE} prints one")
-    parser.add_argument("--object", metavar="MODEL", help="the object that each key is: " + ", ".join(kinds.MODELS))
+    parser.add_argument("--object", metavar="MODEL", type=_filled, help="the object that each key is: " + ", ".join(kinds.MODELS))
     command.add_by_ends(parser)
-    parser.add_argument("--inject-bug", "--plant", dest="plant", metavar="NAME", help="a known fault of the server, by its name")
-    parser.add_argument("--durability", metavar="NAME", help="the server's setting for acknowledged data (the safest that it has)")
+    parser.add_argument("--inject-bug", "--plant", dest="plant", metavar="NAME", type=_filled, help="a known fault of the server, by its name")
+    parser.add_argument("--durability", metavar="NAME", type=_filled, help="the server's setting for acknowledged data (the safest that it has)")
     parser.add_argument("--time", metavar="SECONDS", type=_positive("seconds"), default=20.0, help="the time for which clients work (20)")
     parser.add_argument("--clients", metavar="N", type=_within("clients", 1, MOST_CLIENTS), default=5, help="threads of clients (5)")
     parser.add_argument("--keys", metavar="N", type=_within("keys", 1, 1000), default=5, help="keys that are open to changes at once (5)")
     parser.add_argument("--rate", metavar="N", type=_positive("operations a second", zero=True), default=400.0,
                         help="operations a second of all clients; 0: as many as they can (400)")
-    parser.add_argument("--phases", metavar="PHASES", help="phases instead of --time, such as 5:strikes=off,20:rate=1000,5:changes=0:limit=200: "
+    parser.add_argument("--phases", metavar="PHASES", type=_filled, help="phases instead of --time, such as 5:strikes=off,20:rate=1000,5:changes=0:limit=200: "
                         "the seconds of each, with a rate, a share of changes, a limit of operations, and strikes=off")
-    parser.add_argument("--reserve", metavar="CLIENTS", help="clients that only change, or only read, such as changes=2,reads=1")
+    parser.add_argument("--reserve", metavar="CLIENTS", type=_filled, help="clients that only change, or only read, such as changes=2,reads=1")
     parser.add_argument("--test-count", metavar="N", type=_within("tests", 1, 10_000), default=1,
                         help="the number of tests, each with the next seed, and a summary (1)")
     parser.add_argument("--seed", metavar="N", type=int, default=1, help="the seed of operations, phases and strikes (1)")
-    parser.add_argument("--nemesis", metavar="STRIKES", help=f"all, none, or some of {', '.join(STRIKES)}, such as kill,pause; "
+    parser.add_argument("--nemesis", metavar="STRIKES", type=_filled, help=f"all, none, or some of {', '.join(STRIKES)}, such as kill,pause; "
                         "with numbers: slow:delay=0.2:lasting=1..5; or a schedule: kill:n1@3+0.5,pause@6, at 3 seconds, for half a second (all)")
     parser.add_argument("--nodes", metavar="N", type=_within("nodes", 1, 9), default=0, help="the number of nodes, if the server can have several")
     parser.add_argument("--network", choices=NETWORKS, default=AUTO, help="the way to cut and slow links: namespaces, one for each node "
@@ -104,7 +104,7 @@ def _parser() -> Words:
                         help="no verdict, status 3, if some operation was ok fewer times (20)")
     parser.add_argument("--startup-timeout", "--patience", dest="patience", metavar="SECONDS", type=_positive("seconds"), default=0.0,
                         help="the time for a node to start, and to answer again at the end; then no verdict (120, RabbitMQ 300)")
-    parser.add_argument("--out", metavar="FOLDER", default="runs", help="the folder in which the run gets its own folder (runs)")
+    parser.add_argument("--out", metavar="FOLDER", type=_filled, default="runs", help="the folder in which the run gets its own folder (runs)")
     parser.add_argument("--keep", metavar="N", type=_within("parts", 0, 1_000_000),
                         help="the newest legal segments that stay in the folder (all); a segment has 262,144 events, some 20 megabytes")
     parser.add_argument("--keep-nodes", choices=(FINDING, ALWAYS, NEVER), default=FINDING,
@@ -123,6 +123,13 @@ def _described() -> Iterator[str]:
             yield f"      --inject-bug {plant:<16}{planted.text}"
         for name, text in server.durabilities.items():
             yield f"      --durability {name:<16}{text}"
+
+
+def _filled(word: str) -> str:
+    """Not an empty text, as of a variable of a shell that is not set: that would be the default, in silence."""
+    if not word.strip():
+        raise argparse.ArgumentTypeError("it is empty")
+    return word
 
 
 def _positive(name: str, zero: bool = False) -> "type[float]":

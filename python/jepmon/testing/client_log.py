@@ -6,13 +6,13 @@ import logging
 import pathlib
 from typing import Iterator
 
-NAME = "clients.log"
+from ..live.run_folder import CLIENTS_LOG
 
 
 @contextlib.contextmanager
 def kept_in(folder: pathlib.Path) -> Iterator[None]:
     """For the block; there is no file where nothing was said."""
-    handler = logging.FileHandler(folder / NAME, encoding="utf-8", delay=True)
+    handler = logging.FileHandler(folder / CLIENTS_LOG, encoding="utf-8", delay=True)
     handler.setFormatter(logging.Formatter("%(asctime)s %(name)s %(levelname)s: %(message)s"))
     logging.getLogger().addHandler(handler)
     logging.captureWarnings(True)

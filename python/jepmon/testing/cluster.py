@@ -19,6 +19,7 @@ from .guard import Guard
 from .links import DIRECT, NAMESPACES, Links, Proxied, Switched
 from .node import Node, Ports
 from .server import Server
+from .undisturbed import undisturbed
 
 
 class Cluster:
@@ -33,10 +34,11 @@ class Cluster:
         self.stopped = threading.Event()  # nobody waits any more for a node to be ready
         adopt()  # the orphans of servers that have ended
         try:
-            folder = pathlib.Path(tempfile.mkdtemp(prefix="jepmon-test-"))
+            with undisturbed():
+                folder = pathlib.Path(tempfile.mkdtemp(prefix="jepmon-test-"))
+                guard = Guard(folder)
+                self._ended.callback(guard.end)
             folder.chmod(0o755)  # a node's user reaches its own folder in it
-            guard = Guard(folder)
-            self._ended.callback(guard.end)
             ports = Ports(random.Random(os.urandom(8)))
             self._every: List[Node] = []
             for number in range(size + has_spare):

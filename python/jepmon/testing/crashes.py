@@ -4,15 +4,25 @@ from __future__ import annotations
 
 import pathlib
 import re
+import sys
 from typing import Dict, List, Optional, Sequence
 
+from ..history.fault_notes import Fault, folded
+from ..history.fault_texts import nodes_of
+from ..history.fault_times import after_fault, before, seconds, since
+from ..live import aftermath
+from ..live.run_folder import CRASH, HISTORY, write_whole
+from ..rates.run import parts_of
 from .errors import Died, ServerError
 from .node import AGAIN, TELLING, Node
 
 WORDS = re.compile(r"panic|assert|segmentation|segfault|sanitizer|fatal|abort|core dumped|corrupt|traceback|exception|error", re.I)
 LAST = 30  # lines of a log that are searched for what ended the server
 LONGEST = 240  # characters of a line that are shown
+SHOWN, BEFORE = 12, 2  # lines of a log in the account of a crash; of them before the line that says it
+PARTS = 2  # the newest ones, whose faults it names
 MOST = 1 << 22  # bytes of a log that are read at once
+SAYS = "says in its log: "
 KILLED = "by signal 9"  # which no process sends to itself
 
 
@@ -32,7 +42,7 @@ class LogWatch:
         for node in self._nodes if self._patterns else []:
             for line in self._new_lines(node):
                 if any(pattern.search(line) for pattern in self._patterns):
-                    raise Died(node.name, f"says in its log: {line.strip()[:LONGEST]}", node.log)
+                    raise Died(node.name, f"{SAYS}{line.strip()[:LONGEST]}", node.log)
 
     def _new_lines(self, node: Node) -> List[str]:
         """Those that are whole."""
@@ -49,7 +59,7 @@ class LogWatch:
 
 def finding(died: Died) -> Optional[str]:
     """The verdict on a crash; None where it says nothing of the server: the machine lacked something, or somebody else has killed it."""
-    if "says in its log" in died.how:
+    if died.how.startswith(SAYS):
         return f"crashed {died.node}: it {died.how}"
     lines = last_lines(died.log)
     if died.how.endswith(KILLED) or any(words in line.lower() for line in lines for words in TELLING):
@@ -58,13 +68,56 @@ def finding(died: Died) -> Optional[str]:
     return f"crashed {died.node}: it {died.how}" + (f"; its log says: {line}" if line else "")
 
 
+def leave(folder: pathlib.Path, died: Died) -> None:
+    """Leaves the account of a crash in the run's folder. The verdict stands if that can't be."""
+    try:
+        faults = {(fault.text, fault.begin_time): fault for part in parts_of(folder)[-PARTS:] for fault in aftermath.read(part / HISTORY, -1)[1]}
+        write_whole(folder / CRASH, "".join(line + "\n" for line in account(died, list(faults.values()))))
+    except OSError as fault:
+        print(f"jepmon: {folder / CRASH} can't be written: {fault.strerror}", file=sys.stderr)
+
+
+def account(died: Died, faults: Sequence[Fault]) -> List[str]:
+    """When it was found, after which faults, and its log about it. `faults` has the note of the crash too."""
+    notes = [fault for fault in faults if fault.text == folded(died.note)]
+    others = [fault for fault in faults if fault not in notes]
+    said = f"{died.node} {died.how}"
+    if notes:
+        moment = notes[-1].begin_time
+        last, own = before(others, moment), before([fault for fault in others if died.node in nodes_of(fault.text)], moment)
+        said += f". This was found at {seconds(moment)}" + (f", {since(others, moment)}" if last is not None else ", before any fault")
+        if own is not None and own is not last:
+            said += f". The last fault of {died.node}: {after_fault(own, moment)}"
+    return [f"{said}.", *log_about(died)]
+
+
+def log_about(died: Died) -> List[str]:
+    """The log around the line that says it, else the end of the log."""
+    lines = lines_of(died.log)
+    place = next((place for place, line in enumerate(lines) if died.how == SAYS + line[:LONGEST]), None)
+    shown, where = (lines[-SHOWN:], "ends") if place is None else (lines[max(0, place - BEFORE):][:SHOWN], "says around that line")
+    return [f"Its log, {died.log.name}, {where}:", *(f"    {line[:LONGEST]}" for line in shown)] if shown else []
+
+
+def for_terminal(folder: pathlib.Path) -> List[str]:
+    """The account; nothing if there was no crash."""
+    try:
+        return (folder / CRASH).read_text("utf-8").splitlines()
+    except OSError:
+        return []
+
+
 def last_lines(log: pathlib.Path) -> List[str]:
+    return lines_of(log)[-LAST:]
+
+
+def lines_of(log: pathlib.Path) -> List[str]:
     """Since the node was started last."""
     try:
         text = log.read_text("utf-8", errors="replace")
     except OSError:
         return []
-    return [line.strip() for line in text.rpartition(AGAIN)[2].split("\n") if line.strip()][-LAST:]
+    return [line.strip() for line in text.rpartition(AGAIN)[2].split("\n") if line.strip()]
 
 
 def telling(lines: Sequence[str]) -> str:

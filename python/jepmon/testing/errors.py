@@ -17,6 +17,11 @@ class Died(ServerError):
         super().__init__(f"{node} {how}{said}")
         self.node, self.how, self.log = node, how, log
 
+    @property
+    def note(self) -> str:
+        """For the history, as it is found."""
+        return f"{self.node} {self.how}"
+
 
 class Crashed(Exception):
     """A strike's: the client is gone. Its operation may have taken place, and another one comes in its place."""

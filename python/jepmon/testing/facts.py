@@ -19,7 +19,7 @@ if TYPE_CHECKING:
 
 NAME = "test"
 PATIENCE = 20.0  # seconds for a server to say its version
-NAMES = {"model": "object"}  # of options that are called otherwise
+NAMES = {"model": "object", "least": "min-ok", "keep_nodes": "keep-nodes"}  # of options that are called otherwise
 LEFT_OUT = ("server", "out", "plant", "keep", "patience", "stages", "reserved", "times", "by_ends")  # the last four stand in the command line
 
 

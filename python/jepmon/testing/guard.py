@@ -9,10 +9,13 @@ import pathlib
 import shutil
 import subprocess
 import sys
+import time
 from typing import List, Set
 
 from .family import kill_family
 from .mounts import unmount_below
+
+PATIENCE, PAUSE = 5.0, 0.05  # seconds for a folder to be removed, and between two tries
 
 
 class Guard:
@@ -65,8 +68,19 @@ def main() -> None:
     for pid in watched:
         kill_family(pid)
     for folder in folders:
-        unmount_below(folder)  # where who serves it was killed
+        remove(folder)
+
+
+def remove(folder: str) -> None:
+    """Removes what is mounted in it too, as where who serves it was killed. A process that is about to end may still write there: then it
+    tries again."""
+    end = time.monotonic() + PATIENCE
+    while os.path.lexists(folder):
+        unmount_below(folder)
         shutil.rmtree(folder, ignore_errors=True)
+        if time.monotonic() > end:
+            return
+        time.sleep(PAUSE if os.path.lexists(folder) else 0.0)
 
 
 if __name__ == "__main__":

@@ -9,10 +9,11 @@ import socket
 import subprocess
 import threading
 import time
-from typing import TYPE_CHECKING, Callable, Dict, List, Optional, Sequence, Tuple
+from typing import IO, TYPE_CHECKING, Callable, Dict, List, Optional, Sequence, Tuple, Union
 
 from .errors import Died, ServerError
 from .family import MARK, adopt, bury, continue_family, kill_family, kill_strays, stop_family
+from .undisturbed import undisturbed
 
 if TYPE_CHECKING:
     from .guard import Guard
@@ -78,14 +79,13 @@ class Node:
             log.write(AGAIN.encode() if self.starts else b"")
             log.flush()
             try:
-                process = subprocess.Popen(
-                    as_user(self.user, self.words), stdin=subprocess.DEVNULL, stdout=log, stderr=subprocess.STDOUT, start_new_session=True,
-                    cwd=self.folder, env={**os.environ, **self.environment, **self.preloaded, MARK: self._mark}, preexec_fn=adopt)
+                with undisturbed():
+                    self._process = process = begun(as_user(self.user, self.words), log, self.folder, {
+                        **os.environ, **self.environment, **self.preloaded, MARK: self._mark})
+                    self._guard.watch(process.pid)
             except OSError as fault:
                 raise ServerError(f"{self.name} can't be started: {self.words[0]}: {fault.strerror}") from fault
-            self._process = process
             self.starts += 1
-            self._guard.watch(process.pid)
 
     def kill(self) -> None:
         """By SIGKILL, all its processes at once, so that none can write anything down any more."""
@@ -99,6 +99,10 @@ class Node:
                     kill_strays(self._mark)
                 self._guard.leave(self._process.pid)
                 self._process = None
+
+    def completed(self, words: Sequence[str]) -> None:
+        """Runs a program to its end, as one that lays out the folder, by the node's user. Its output goes to the log."""
+        completed(words, self.log, self.user, guard=self._guard)
 
     def pause(self) -> None:
         with self._lock:
@@ -229,14 +233,33 @@ def is_free(port: int) -> bool:
             return False
 
 
-def completed(words: Sequence[str], log: pathlib.Path, user: Optional[str] = None, environment: Optional[Dict[str, str]] = None) -> None:
-    """Runs a program to its end, as one that lays out a server's folder. Its output goes to the log."""
-    with open(log, "ab") as file:
-        try:
-            ran = subprocess.run(as_user(user, words), stdin=subprocess.DEVNULL, stdout=file, stderr=subprocess.STDOUT, cwd="/",
-                                 env={**os.environ, **(environment or {})})
-        except OSError as fault:
-            raise ServerError(f"{words[0]} can't be started: {fault.strerror}") from fault
-    if ran.returncode != 0:
+def begun(words: Sequence[str], log: IO[bytes], folder: Union[str, pathlib.Path], environment: Dict[str, str]) -> "subprocess.Popen[bytes]":
+    """A process of a server, in a session of its own, which adopts the orphans below it."""
+    return subprocess.Popen(words, stdin=subprocess.DEVNULL, stdout=log, stderr=subprocess.STDOUT, start_new_session=True, cwd=folder,
+                            env=environment, preexec_fn=adopt)
+
+
+def completed(words: Sequence[str], log: pathlib.Path, user: Optional[str] = None, environment: Optional[Dict[str, str]] = None,
+              guard: Optional[Guard] = None) -> None:
+    """Runs a program to its end, as one that lays out a server's folder. Its output goes to the log. If the test ends before, so does the
+    program, with all that it has started."""
+    process: Optional["subprocess.Popen[bytes]"] = None
+    try:
+        with open(log, "ab") as file, undisturbed():
+            process = begun(as_user(user, words), file, "/", {**os.environ, **(environment or {})})
+            if guard is not None:
+                guard.watch(process.pid)
+        status = process.wait()
+    except OSError as fault:
+        raise ServerError(f"{words[0]} can't be started: {fault.strerror}") from fault
+    except BaseException:
+        if process is not None:
+            _, *orphans = kill_family(process.pid)
+            process.wait()
+            bury(orphans)
+        raise
+    if guard is not None:
+        guard.leave(process.pid)
+    if status != 0:
         text = last_words(log.read_text(errors="replace").split("\n"))
-        raise ServerError(f"{os.path.basename(words[0])} ended {ended(ran.returncode)}; its log is {log}, which {text}")
+        raise ServerError(f"{os.path.basename(words[0])} ended {ended(status)}; its log is {log}, which {text}")

@@ -4,7 +4,7 @@ from __future__ import annotations
 from typing import Iterator, List
 
 from ..live.run_folder import CAUSE, PAGE, RUN_PAGE
-from . import losses
+from . import crashes, losses
 from .links import NAMESPACES, PROXY
 from .run import Given, Outcome
 from .strikes.plan import Plan
@@ -53,4 +53,4 @@ def cause(outcome: Outcome) -> List[str]:
     try:
         return (outcome.part / CAUSE).read_text(errors="replace").splitlines()
     except OSError:
-        return losses.for_terminal(outcome.folder)
+        return losses.for_terminal(outcome.folder) or crashes.for_terminal(outcome.folder)

@@ -14,11 +14,10 @@ from ..live.run_folder import VERDICT
 from ..live.verdicts import NotLegal, Refused
 from ..tools import command
 from ..tools.errors import OutputError
-from . import client_log, losses
+from . import client_log, crashes, losses
 from .after import FINDING, after_a_finding
 from .cluster import Cluster
 from .course import Course, Stage
-from .crashes import finding
 from .crew import Mortal
 from .errors import Crashed, Died, ServerError, where
 from .facts import facts_of, leave_facts, leave_pages
@@ -124,8 +123,10 @@ class Test:
         except NotLegal as found:
             reason = "" if not isinstance(found, Refused) else first_line(str(found))
         except Died as died:
-            self.crash = (finding(died) or "") if self.begun else ""
+            self.crash = (crashes.finding(died) or "") if self.begun else ""
             reason = str(died)
+            if self.crash:
+                crashes.leave(monitor.folder, died)
         except ServerError as fault:
             reason = str(fault)
         except Exception as fault:
@@ -202,7 +203,8 @@ class Test:
         """All is mended by now. Each node must answer what is left to ask."""
         monitor.note(OVER)
         with contextlib.ExitStack() as over:
-            cluster.wait_until_all_ready()
+            with noted(monitor):
+                cluster.wait_until_all_ready()
             over.enter_context(cluster.clients())
             clients = [over.enter_context(closing(cluster.server.client(number))) for number in range(self.given.clients)]
             turn = iter(range(1 << 62))
@@ -214,7 +216,8 @@ class Test:
                     op = attempt(clients[number])
                     if op.outcome == "ok" or op.value is None or not op.recorded:
                         return op
-                    cluster.test_alive()
+                    with noted(monitor):
+                        cluster.test_alive()
                     if time.monotonic() > end:
                         node = cluster.server.node_of(number)
                         raise ServerError(f"once the faults were over a client of {node.name} got no answer for "
@@ -259,6 +262,16 @@ def leave(folder: pathlib.Path, verdict: str, reason: str) -> None:
             command.write_file(folder / VERDICT, said + "\n")
         except OutputError:
             (folder / VERDICT).unlink(missing_ok=True)  # on a disk that is full
+
+
+@contextlib.contextmanager
+def noted(monitor: LongMonitor) -> Iterator[None]:
+    """If the block finds a node dead, the history notes when."""
+    try:
+        yield
+    except Died as died:
+        monitor.note(died.note)
+        raise
 
 
 def first_line(text: str) -> str:

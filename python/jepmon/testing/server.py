@@ -125,6 +125,11 @@ class Server:
         """The leading node, if the server has one and can name it. It may take a second at most, and raise."""
         return None
 
+    def reader(self, node: Node) -> Optional[Client]:
+        """A client that reads at this node alone, for the readings after a finding, if that is not what its clients do: for example at a replica.
+        None lets a client of the node read, if it has some."""
+        return None
+
     def node_of(self, number: int) -> Node:
         """The node of a client: each client has one of its own while there are enough."""
         return self.nodes[number % len(self.nodes)]

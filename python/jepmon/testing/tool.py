@@ -49,6 +49,7 @@ def _terminated(number: int, _frame: Optional[FrameType]) -> None:
     sys.exit(128 + number)
 
 
+VERDICTS, NO_VERDICT = ("legal", "illegal", "lost", "crashed", "unknown", "no"), "without a verdict"  # their first words
 WORST = (1, 3, 2, 0)  # statuses, of which a summary has the first
 
 
@@ -66,10 +67,14 @@ def _tests(given: Given) -> int:
             statuses.append(status)
             lines.append(f"seed {one.seed}: {verdict}\n")
     finally:
-        counts = ", ".join(f"{statuses.count(status)} {name}" for status, name in ((0, "legal"), (1, "illegal"), (2, "unknown"),
-                                                                                   (3, "without a verdict")) if status in statuses)
-        command.write_output(["\n", *lines, f"{len(statuses)} of {given.times} tests: {counts or 'none ended'}\n"])
+        command.write_output(["\n", *lines, f"{len(statuses)} of {given.times} tests: {counted(lines)}\n"])
     return next(status for status in WORST if status in statuses)
+
+
+def counted(lines: List[str]) -> str:
+    """How many of these lines, `seed 1: legal (FOLDER)`, have which verdict."""
+    words = [line.partition(": ")[2].split()[0] for line in lines]
+    return ", ".join(f"{words.count(word)} {NO_VERDICT if word == 'no' else word}" for word in VERDICTS if word in words) or "none ended"
 
 
 def _test(given: Given) -> Tuple[int, str]:

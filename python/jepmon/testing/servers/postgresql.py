@@ -14,7 +14,7 @@ from typing import Dict, List, Optional, Sequence, Type
 
 from ...live.outcome_rules import Exceptions
 from ..errors import ServerError
-from ..node import At, Node, completed
+from ..node import At, Node
 from ..server import Client, Plant, Server
 from ..wire.postgres import Postgres, SqlError
 
@@ -122,6 +122,8 @@ class PostgreSQL(Server):
     objects = CLIENTS
     bears = {"mutex": ("pause", "cut", "slow", "loss", "reorder", "corrupt")}  # a kill ends each session, and its locks with it, while their holders work
     sizes, in_turn, survives_power = range(1, 4), True, True
+    # The server starts a process of its own that has crashed again, so that only the log shows it.
+    crashes = (r"process \(PID [0-9]+\) was terminated by signal", r"\bPANIC:  ", r"\bTRAP: ", r"invalid page in block [0-9]+ of relation")
     durabilities = {"sync": "each commit is synced before it is answered, as by default",
                     "async": "synchronous_commit=off: a commit is answered before it is written", "none": "fsync=off: nothing is synced"}
     plants = {
@@ -151,7 +153,7 @@ class PostgreSQL(Server):
         else:
             words = [program("pg_basebackup"), "-h", primary.address, "-p", str(primary.port), "-U", USER, "-D", data, "-R", "-X", "stream",
                      "-c", "fast", "--no-sync"]
-        completed(words, node.log, node.user)
+        node.completed(words)
         if node.number == 0:
             with open(node.folder / "data" / "pg_hba.conf", "a", encoding="utf-8") as rules:
                 rules.write("host all,replication all samenet trust\n")
@@ -159,7 +161,7 @@ class PostgreSQL(Server):
     def command(self, node: Node) -> List[str]:
         settings = {"fsync": "off" if self.durability == "none" else "on",
                     "synchronous_commit": "off" if self.durability == "async" else "on", "max_connections": "100", "listen_addresses": node.address,
-                    "unix_socket_directories": str(node.folder),
+                    "unix_socket_directories": str(node.folder), "lc_messages": "C",
                     "wal_receiver_timeout": "5s"}
         return [program("postgres"), "-D", str(node.folder / "data"), "-p", str(node.ports["client"]),
                 *(word for name, value in settings.items() for word in ("-c", f"{name}={value}"))]
@@ -182,6 +184,10 @@ class PostgreSQL(Server):
     def client(self, number: int) -> Client:
         read_at = self.nodes[-1 if self.plant == "standby" else 0]
         return PLANTED.get(self.plant, CLIENTS[self.model])(self.nodes[0].at, read_at.at)
+
+    def reader(self, node: Node) -> Optional[Client]:
+        is_own = self.objects[self.model] is CLIENTS.get(self.model)  # else a subclass knows how its keys are read
+        return CLIENTS[self.model](node.at, node.at) if is_own else None
 
     def node_of(self, number: int) -> Node:
         return self.nodes[0]

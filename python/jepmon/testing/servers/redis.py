@@ -139,6 +139,10 @@ class Redis(Server):
         read_at = self.nodes[1 + number % (len(self.nodes) - 1)] if self.plant in ("replica", "members") else self.nodes[0]
         return kind(self.nodes[0].at, read_at.at)
 
+    def reader(self, node: Node) -> Optional[Client]:
+        is_own = self.objects[self.model] is CLIENTS.get(self.model)  # else a subclass knows how its keys are read
+        return CLIENTS[self.model](node.at, node.at) if is_own else None
+
     def node_of(self, number: int) -> Node:
         return self.nodes[0]
 

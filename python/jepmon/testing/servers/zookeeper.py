@@ -78,6 +78,7 @@ class ZooKeeper(Server):
     size, sizes, survives_power = 3, range(1, 8), True
     # A record of its log that is torn ends a server for good, so `tear` is not among those that it ought to bear.
     bears = {model: (*ALL_STRIKES, "power") for model in CLIENTS}
+    durabilities = {"sync": "each change is synced before it is acknowledged, as by default", "none": "zookeeper.forceSync=no: nothing is synced"}
     plants = {"own": Plant("reads give the data of the client's server", "register", "pause,partition")}
 
     @classmethod
@@ -98,7 +99,8 @@ class ZooKeeper(Server):
         (node.folder / "zoo.cfg").write_text("\n".join(lines) + "\n")
 
     def command(self, node: Node) -> List[str]:
-        return ["java", "-Xmx128m", "-XX:+UseSerialGC", "-XX:TieredStopAtLevel=1", "-cp", f"{JAR}:{LOGGING}", MAIN, str(node.folder / "zoo.cfg")]
+        syncs = f"-Dzookeeper.forceSync={'no' if self.durability == 'none' else 'yes'}"
+        return ["java", "-Xmx128m", "-XX:+UseSerialGC", "-XX:TieredStopAtLevel=1", syncs, "-cp", f"{JAR}:{LOGGING}", MAIN, str(node.folder / "zoo.cfg")]
 
     def ready(self, node: Node) -> None:
         if not mode(node, TIMEOUT):

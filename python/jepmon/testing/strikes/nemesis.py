@@ -7,6 +7,7 @@ import threading
 import time
 from typing import TYPE_CHECKING, Callable, Counter, Dict, Iterator, List, Mapping, Optional, Set, Tuple
 
+from ..errors import Died
 from .kind import ALONE, PROCESS, Strike
 from .plan import Lane, Planned
 from .told import Told, told
@@ -78,9 +79,12 @@ class Nemesis:
         return True
 
     def _stop(self, fault: BaseException) -> None:
-        """The first fault ends all lanes."""
+        """The first fault ends all lanes. The history notes when a node was found dead."""
         with self._lock:
+            is_first = self._fault is None
             self._fault = self._fault or fault
+        if is_first and isinstance(fault, Died):
+            self._monitor.note(fault.note)
 
     @contextlib.contextmanager
     def _strike(self, planned: Planned, node: Node) -> Iterator[None]:

@@ -99,7 +99,11 @@ class Plan:
 
     def _item(self, word: str) -> Item:
         found = ITEM.fullmatch(word)
-        name = ALIASES.get(found["name"], found["name"]) if found is not None else ""
+        name = re.split("[:@]", word)[0]
+        name = ALIASES.get(name, name)
+        if found is None and name in self.known:
+            raise ServerError(f"--nemesis {word}: {name} takes a node, as {name}:n1, a number or two for a parameter, as {name}:lasting=0.5..2, and "
+                              f"a time, as {name}@3+0.5")
         if found is None or name not in self.known:
             raise ServerError(f"--nemesis {word}: it takes all, none, or of {', '.join(self.known)} any, as kill,pause or kill:n1@3+0.5")
         node = found["node"]

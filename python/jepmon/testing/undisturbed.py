@@ -1,0 +1,28 @@
+"""Ctrl-C, and the other signals that end a test, wait for a moment: until a process or a folder that was just made is known to those who
+remove it."""
+from __future__ import annotations
+
+import contextlib
+import signal
+import threading
+from typing import Any, Dict, Iterator, List
+
+ENDING = (signal.SIGINT, signal.SIGTERM, signal.SIGHUP)
+
+
+@contextlib.contextmanager
+def undisturbed() -> Iterator[None]:
+    """A signal that comes during the block takes effect at its end. Only the main thread is disturbed by signals, so that others need
+    nothing."""
+    if threading.current_thread() is not threading.main_thread():
+        yield
+        return
+    came: List[int] = []
+    handlers: Dict[signal.Signals, Any] = {number: signal.signal(number, lambda one, frame: came.append(one)) for number in ENDING}
+    try:
+        yield
+    finally:
+        for number, handler in handlers.items():
+            signal.signal(number, signal.SIG_DFL if handler is None else handler)
+        for one in came:
+            signal.raise_signal(one)
