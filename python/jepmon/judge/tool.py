@@ -144,8 +144,8 @@ def _judge_whole(source: files.Source, found: Recorded, given: Given, page: Opti
         say(line)
     if given.strict_input:
         found.account.test_strict()
+    task, report = judged(task)
     say(hints.judged_by(source, found, task))
-    report = judged(task)
     report, decided = wide.anew(report, task.options, functools.partial(events.of_keys, found), given.wide_seconds)
     task = task._replace(wide_seconds=given.wide_seconds if decided else None, least=given.least)
     with named(source):
