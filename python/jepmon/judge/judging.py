@@ -35,6 +35,12 @@ class Task(NamedTuple):
         return ([f"[:model {key} :{self.options_of(key).kind()}]" for key in keys]
                 + [f"[:budget {key} {budget}]" for key, budget in self.budgets.items()])
 
+    @property
+    def may_be_by_ends(self) -> bool:
+        """Whether keys may be judged by ends, if their values are equal."""
+        models: Iterable[str] = [self.choice.common] if self.choice.common else self.choice.models.values()
+        return any(self.options.kind(model=model) == DIFFERING for model in models)
+
     def options_of(self, key: int) -> Options:
         """The options by which a key is judged."""
         return self.options._replace(model=self.choice.of(key), budget=self.budgets.get(key, self.options.budget),
@@ -76,14 +82,9 @@ def judged(task: Task) -> Tuple[Task, Report]:
     if not task.commands:
         report = program.check(raw, task.options)
         return task.judged_so(report.keys), report
-    may_be_equal = any(task.options.kind(model=model) == DIFFERING for model in models_of(task))
-    lines = list(_key_lines(task, raw)) if may_be_equal or not task.budgets else []
+    lines = list(_key_lines(task, raw)) if task.may_be_by_ends or not task.budgets else []
     task = task.judged_so(lines)
     return task, _by_script(task, raw, [] if task.budgets else lines)
-
-
-def models_of(task: Task) -> Iterable[str]:
-    return [task.choice.common] if task.choice.common else task.choice.models.values()
 
 
 def _by_script(task: Task, raw: bytes, keys: Sequence[KeyLine]) -> Report:
