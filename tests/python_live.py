@@ -1,8 +1,7 @@
 #!/usr/bin/env python3
 """Live tests of the package's Monitor on the built program: stores in this process, some with a fault, used by several threads.
-No server is needed. Ends with 'N passed, M failed'. With words, it runs the tests of these names alone. With --long, loads of many clients of
-one key last a minute each, and their wrong answers are planted ten times (some 25 minutes): python_live.py --long, or with the names of
-tests of live_many.py.
+No server is needed. Ends with 'N passed, M failed'. With words, it runs the tests of these names alone. With --long, it runs those
+of live_many.py, unless other names follow: each load lasts a minute, and each wrong answer is planted ten times (some 25 minutes).
 """
 import faulthandler
 import os

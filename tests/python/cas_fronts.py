@@ -1,4 +1,4 @@
-"""The ends of a register with compare and set, and their fronts, computed by their definition alone (`crates/cas_ends/specs/CasEnds.antt`): slow, and
+"""The ends of a register with compare and set, and their fronts, computed by their definition alone (`CasEnds.antt`): slow, and
 short enough to be compared with it line by line. The tests compare the program's kind wide-cas-register with it."""
 from __future__ import annotations
 

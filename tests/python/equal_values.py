@@ -1,5 +1,5 @@
-"""Fifo queues whose values are equal, by their definition alone (`crates/queue_pairs/specs/Pairs.antt`): two enqueues of one value, of which none has
-failed, are twins. The tests compare the program's kind wide-fifo-queue with it."""
+"""Fifo queues whose values are equal, by their definition alone (`AreTwins` in `Twins.antt`): twins are two enqueues of one value that have not
+failed. The tests compare the program's kind wide-fifo-queue with it."""
 from __future__ import annotations
 
 from typing import List

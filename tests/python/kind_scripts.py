@@ -134,7 +134,7 @@ class Clients:
         return each._replace(took=True, found=found)
 
     def outcome(self, each: Open, state: Value) -> Tuple[Value, Value]:
-        """What a change finds, and the state after it; None if it can't take place."""
+        """The answer of a change, and the state after it; None if it can't take place."""
         if isinstance(state, frozenset) and isinstance(each.value, int):
             return each.value, state | {each.value}
         if each.name == "cas" and isinstance(each.value, tuple):

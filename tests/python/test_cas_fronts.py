@@ -1,4 +1,4 @@
-"""The ends and fronts of small histories of a register with compare and set, counted by hand; and queues whose values are equal."""
+"""Small histories of a register with compare and set, whose ends and fronts are counted by hand; and queues whose values are equal."""
 from __future__ import annotations
 
 import unittest

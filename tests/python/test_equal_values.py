@@ -213,7 +213,7 @@ class Recorded(unittest.TestCase):
 @unittest.skipUnless(has_kind(), "the program has no kind wide-fifo-queue")
 class Live(Monitored):
     def play(self, rows: List[Row], **options: object) -> Tuple[Monitor, str]:
-        """A monitor that was told these events, and its standard error."""
+        """A monitor that has recorded these events, and its standard error."""
         err = io.StringIO()
         monitor = Monitor(self.program, model="fifo-queue", out=self.room, **options)  # type: ignore[arg-type]
         with contextlib.redirect_stderr(err), contextlib.suppress(Illegal, Unknown), monitor, contextlib.ExitStack() as stack:

@@ -21,8 +21,8 @@ UNKNOWN_WIDE = (
     "timeouts while reads stay (Monitor.keys), or raise the budget"
 )
 UNKNOWN_FRONTS = (
-    "writes and cas operations that are open or timed out may leave many values: let fewer clients write to one key, let writes go on at a "
-    "new key after some timeouts while reads stay (Monitor.keys), or raise the budget"
+    "open and timed-out writes and cas operations may leave many values: let fewer clients write to one key, let writes go on at a "
+    "new key after some timeouts (Monitor.keys), or raise the budget"
 )
 UNKNOWN_EQUAL = (
     "two enqueues of one value have not failed, and by its ends the queue was over its budget already: give each message a value of its own"

@@ -27,9 +27,9 @@ class Keys:
     A key has room for another operation if fewer than `most` of its operations are open, or if none is open. A key without room is given
     only if there is no other.
 
-    The room says both numbers, by the kind of the keys: 8 and 10 for registers; 8 and 8 with compare and set; no limit and 64 for sets; 8
-    and 64 for queues; 8 and 12 for locks; 3 and 6 for keys other than locks that are judged by ends. There and in locks operations that have
-    timed out count as open.
+    The room has both numbers, by the kind of the keys: 8 and 10 for registers; 8 and 8 with compare and set; no limit and 64 for sets; 8
+    and 64 for queues. If these are judged by ends, the numbers are 3 and 6. They are 8 and 12 for locks. In locks, and by ends, operations that
+    have timed out count as open.
 
     Use queues in the same way: enqueue at write_key, and dequeue at read_key. Each operation of a lock is a change: acquire at write_key, so
     that clients try again a lock that was held while its server died.
