@@ -21,7 +21,8 @@ SECONDS = 60.0 if IS_LONG else 1.0  # for each
 TIMES = 10 if IS_LONG else 1  # that a wrong answer is planted
 PLANTED = 0.3  # seconds after which one answer is wrong
 PAUSE = 0.002  # seconds that the store takes at most, before and after an operation takes effect
-PATIENCE = 60.0  # seconds more for the wrong answer
+PATIENCE = 60.0  # seconds more for the wrong answer, or for LEAST events, on a machine that does much else
+LEAST = 200
 BEHIND = 20  # changes that the wrong answer does not know
 MEMBERS = 200  # of a set, since each read gives all of them
 MOST = EVENTS - 1000  # events of a load
@@ -155,7 +156,7 @@ def load(clients: int, store: OneKey, by_ends: bool = False, out: Optional[str] 
 
     def client(number: int) -> None:
         one = Client(monitor, store, number)
-        while store.goes_on(end) and monitor.length < MOST:
+        while (store.goes_on(end) or monitor.length < LEAST and time.monotonic() < end + PATIENCE) and monitor.length < MOST:
             one.step()
 
     with monitor:
@@ -168,7 +169,7 @@ def many_clients_of_one_object_are_decided() -> None:
         for clients in CLIENTS:
             monitor = load(clients, OneKey(model))
             assert monitor.close() == "legal", (model, clients, monitor.close())
-            assert monitor.length > 50, (model, clients, monitor.length)
+            assert monitor.length >= LEAST, (model, clients, monitor.length)
             assert not monitor.equal_values, (model, clients, monitor.equal_values)
 
 
