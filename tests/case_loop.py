@@ -2,6 +2,7 @@
 import contextlib
 import io
 import pathlib
+import re
 import runpy
 from typing import Callable, List, Tuple
 
@@ -31,8 +32,8 @@ def given(case: pathlib.Path, name: str) -> bytes:
 
 
 def by_model(text: bytes) -> bytes:
-    """The text with the models in place of their wide kinds: a program up to version 1.4.0 has none of these, and the tools judge without."""
-    return text.replace(b"model wide-register ", b"model register ").replace(b"model wide-set ", b"model set ")
+    """The text with the models in place of their wide kinds: an older program has not all of these, and the tools judge without."""
+    return re.sub(rb"\bmodel wide-([a-z-]+) ", rb"model \1 ", text)
 
 
 def differing(what: str, got: object, want: object) -> List[str]:

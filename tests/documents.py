@@ -86,7 +86,7 @@ def run(commands, files):
 
 
 def fits(shown, got):
-    """Whether the lines are those that are shown, where a line of three dots stands for any. A program up to version 1.4.0 has no wide kinds."""
+    """Whether the lines are those that are shown, where a line of three dots stands for any. An older program has not all wide kinds."""
     rest, told = by_model(shown), by_model(got)
     pattern = "".join(r"(?s:.*)" if line == "..." else re.escape(line) + "\n" for line in rest)
     return re.fullmatch(pattern, "".join(line + "\n" for line in told)) is not None

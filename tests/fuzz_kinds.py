@@ -1,10 +1,12 @@
 #!/usr/bin/env python3
-"""Compares wide registers and sets with the plain ones on random scripts, reply by reply. Each script is judged by the plain kind, by the
+"""Compares the wide kinds of the program with the plain ones on random scripts, reply by reply. Each script is judged by the plain kind, by the
 wide one, and by both in turn (`[:model k kind]`).
 
-If both kinds decide, their replies must be the same. A key that changes its kind must get the reply of its new kind. A wide set must never be
-unknown. By a small budget each reply of a wide register must be the one of the definition of lean ends. A history of a right store must never be
-illegal, also if it has many clients and the plain kind does not decide it.
+If both kinds decide, their replies must be the same. A key that changes its kind must get the reply of its new kind. A wide set and a wide
+unordered queue must never be unknown. By a small budget each reply of a wide register must be the one of the definition of lean ends, and with
+compare and set that of fronts. Each reply of a wide fifo queue must be the one of the definition: unknown from the first ok on before which two
+enqueues of one value have not failed. A history of a right store must never be illegal, also if it has many clients and the plain kind does not
+decide it.
 
 usage: tests/fuzz_kinds.py [COUNT [FIRST]]     COUNT scripts of each kind, 2,000 unless it is named; JEPMON names the program
 """
@@ -13,17 +15,23 @@ import pathlib
 import random
 import subprocess
 import sys
-from typing import Dict, Iterator, List, NamedTuple, Optional, Tuple
+from typing import Dict, Iterator, List, NamedTuple, Optional, Tuple, Union
 
 TOP = pathlib.Path(__file__).resolve().parents[1]
 sys.path[:0] = [str(TOP), str(TOP / "python"), str(TOP / "tests")]
 
 from program import PROGRAM  # noqa: E402
+from jepmon import history  # noqa: E402
+from jepmon.history.kinds import WIDE  # noqa: E402
+from jepmon.objects.configurations import GaveUp  # noqa: E402
+from jepmon.program import wide_kinds  # noqa: E402
+from tests.python.cas_fronts import CasRegister  # noqa: E402
+from tests.python.equal_values import Queue  # noqa: E402
 from tests.python.kind_scripts import Clients, Event, Line, Way, drawn_way, texts  # noqa: E402
 from tests.python.lean_ends import Register  # noqa: E402
 
 TOGETHER = 25  # scripts that one program judges, with a rewind to nothing between two
-UPDATES = {"register": "write", "set": "add"}
+DECIDED = ("set", "unordered-queue")  # of which nothing is counted
 SMALL, BUDGETS = 40, (1, 2, 3, 7, 40, 300, 4096, 4096, 65536, 65536)
 Counts = Dict[str, int]
 
@@ -46,7 +54,8 @@ def drawn(model: str, seed: int) -> Batch:
     ways = [drawn_way(chance, clients) for _ in range(TOGETHER)]
     if is_wide:
         ways = [way._replace(events=120, keys=1, wrong=0, fail=0, slow=0, crash=min(way.crash, 0.05)) for way in ways]
-    scripts = [list(Clients(chance, way, UPDATES[model]).lines()) for way in ways]
+        ways = [way._replace(values=1000) for way in ways] if model == "fifo-queue" else ways
+    scripts = [list(Clients(chance, way, model).lines()) for way in ways]
     kinds = [changes(chance, len(script), way) for script, way in zip(scripts, ways)]
     return Batch(model, clients, 4096 if is_wide else chance.choice(BUDGETS), scripts, [is_wide or not way.wrong for way in ways], kinds)
 
@@ -100,28 +109,46 @@ def mixed(batch: Batch) -> List[List[Tuple[str, bool]]]:
     return [[next(kinds_of) for _ in range(1 + len(script))][1:] for script in batch.scripts]
 
 
-def defined(script: List[Line], budget: int) -> Iterator[str]:
-    """The replies that the definition of lean ends gives."""
+Defined = Union[Register, CasRegister, Queue]
+
+
+def is_defined(batch: Batch) -> bool:
+    """Whether a definition gives the replies of the wide kind in little time."""
+    return batch.clients <= 6 if batch.model == "fifo-queue" else batch.model not in DECIDED and batch.budget <= SMALL
+
+
+def defined(script: List[Line], batch: Batch) -> Iterator[str]:
+    """The replies that the definition gives, up to the first one for which there are too many ends."""
     events: List[Event] = []
-    keys: Dict[int, Register] = {}
+    keys: Dict[int, Defined] = {}
     for line in script:
         again = [line]
         if isinstance(line, int):
             events, again, keys = events[:line], list(events[:line]), {}
             del events[:]
-        for event in again:
-            assert isinstance(event, Event)
-            take(keys.setdefault(event.key, Register(budget)), len(events), event)
-            events.append(event)
-        yield joined({key: register.status for key, register in keys.items()})
+        try:
+            for event in again:
+                assert isinstance(event, Event)
+                take(keys.setdefault(event.key, of_model(batch)), len(events), event)
+                events.append(event)
+        except GaveUp:
+            return
+        yield joined({key: one.status for key, one in keys.items()})
 
 
-def take(register: Register, index: int, event: Event) -> None:
+def of_model(batch: Batch) -> Defined:
+    return Queue() if batch.model == "fifo-queue" else Register(batch.budget) if batch.model == "register" else CasRegister(batch.budget)
+
+
+def take(one: Defined, index: int, event: Event) -> None:
     value = event.value if isinstance(event.value, int) else None
-    if event.kind == "invoke":
-        register.invoke(event.op, event.name, value)
+    if isinstance(one, Queue):
+        one.take(history.Event(index, event.kind, event.process, event.name, event.key, value, 0, "", {}))
+    elif event.kind == "invoke":
+        part = event.value if isinstance(event.value, tuple) else value
+        one.invoke(event.op, event.name, part)  # type: ignore[arg-type]  # a register has no cas
     else:
-        register.complete(index, event.op, event.kind, value)
+        one.complete(index, event.op, event.kind, value)
 
 
 def joined(statuses: Dict[int, str]) -> str:
@@ -143,7 +170,9 @@ def compare(batch: Batch, number: int, told: Tuple[List[str], List[str], List[Tu
     """The first fault of one script, if there is one."""
     script = batch.scripts[number]
     plain_over = wide_over = None
-    wanted = list(defined(script, batch.budget)) if batch.model == "register" and batch.budget <= SMALL else told[1]
+    wanted = list(defined(script, batch)) if is_defined(batch) else []
+    wanted += told[1][len(wanted):]
+    seen[f"{batch.model}: by the definition"] += is_defined(batch)
     for at, (line, plain, wide, (both, is_wide), want) in enumerate(zip(script, *told, wanted)):
         plain_over, wide_over = since(plain_over, line, plain), since(wide_over, line, wide)
         which = ("both" if wide_over is None else "plain") if plain_over is None else "wide" if wide_over is None else "neither"
@@ -154,8 +183,8 @@ def compare(batch: Batch, number: int, told: Tuple[List[str], List[str], List[Tu
         if both != (wide if is_wide else plain):
             return f"line {at + 1}: {both} after changes of the kind, and {wide if is_wide else plain} without"
         if want != wide:
-            return f"line {at + 1}: {want} by the definition of lean ends, and {wide} by the program"
-        if batch.model == "set" and wide_over is not None or batch.is_right[number] and wide.startswith("illegal"):
+            return f"line {at + 1}: {want} by the definition, and {wide} by the program"
+        if batch.model in DECIDED and wide_over is not None or batch.is_right[number] and wide.startswith("illegal"):
             return f"line {at + 1}: {wide}"
     return None
 
@@ -175,21 +204,26 @@ def tried(model: str, seed: int, seen: Counts) -> int:
     return wrong
 
 
+def scripts_of(seen: Counts) -> int:
+    return sum(number for what, number in seen.items() if what.endswith(": scripts"))
+
+
 def main() -> int:
     count, first = int(sys.argv[1]) if len(sys.argv) > 1 else 2000, int(sys.argv[2]) if len(sys.argv) > 2 else 0
+    models = [model for model, kind in WIDE.items() if kind in wide_kinds(str(PROGRAM))]
     seen: "collections.Counter[str]" = collections.Counter()
     wrong = 0
     try:
         for seed in range(first, first - -count // TOGETHER):
-            for model in UPDATES:
+            for model in models:
                 wrong += tried(model, seed, seen)
             if (seed - first + 1) % 100 == 0:
-                print(f"{seen['register: scripts'] + seen['set: scripts']} scripts, {wrong} differ", flush=True)
+                print(f"{scripts_of(seen)} scripts, {wrong} differ", flush=True)
     except KeyboardInterrupt:
         print("interrupted")
     for what, number in sorted(seen.items()):
         print(f"{number:10,} {what}")
-    print(f"{seen['register: scripts'] + seen['set: scripts'] - wrong} passed, {wrong} failed")
+    print(f"{scripts_of(seen) - wrong} passed, {wrong} failed")
     return 1 if wrong else 0
 
 

@@ -1,5 +1,6 @@
 #!/usr/bin/env python3
-"""Compares jepmon.wide with plain `jepmon check` on random histories of one key that check decides: how a key stands, and since when.
+"""Compares jepmon.wide with `jepmon check` on random histories of one key that check decides: how a key stands, and since when. Check judges each
+key by the plain kind, and by the wide kind of its model if the program has it. If both decide, they must agree too.
 
 usage: tests/fuzz_wide.py COUNT [FIRST]     JEPMON names the program
 """
@@ -35,7 +36,7 @@ def main() -> int:
     for seed in range(first, first - -count // (TOGETHER * len(MODELS))):
         for model in MODELS:
             for clients, histories in batches(model, seed, WAYS[seed % len(WAYS):] + WAYS[:seed % len(WAYS)], TOGETHER):
-                compare(seed, histories, Options(clients, model, BUDGETS[-1], by_ends=True), seen)
+                compare(seed, histories, Options(clients, model, BUDGETS[-1]), seen)
         if (seed - first + 1) % 10 == 0:
             print(f"{seen.total() if hasattr(seen, 'total') else sum(seen.values())} histories, {wrong_of(seen)} differ", flush=True)
     for what, number in sorted(seen.items()):
@@ -45,17 +46,19 @@ def main() -> int:
 
 
 def compare(seed: int, histories: Dict[int, List[Event]], options: Options, seen: "collections.Counter[str]") -> None:
-    lines: Dict[int, KeyLine] = checked(histories, options)
+    plain: Dict[int, KeyLine] = checked(histories, options._replace(by_ends=True))
+    wide = checked(histories, options) if options.is_wide() else plain
     for key, events in histories.items():
         found = decide(operations(events, options.concurrency), options, Clock(SECONDS, time.process_time))
         said = "not decided" if found is None else "alive" if found.index is None else f"dead {found.index}"
-        line = lines[key]
-        told = line.status if line.index is None else f"{line.status} {line.index}"
-        if found is None or line.status == "over" or said == told:
-            seen[f"{options.model}: {line.status}, {said.split()[0] if found is not None else said}"] += 1
+        told = [line.status if line.index is None else f"{line.status} {line.index}" for line in (plain[key], wide[key])]
+        decided = {each for each in (said, *told) if each != "not decided" and not each.startswith("over")}
+        if len(decided) <= 1:
+            seen[f"{options.model}: {', '.join(each.split()[0] for each in told)}, {said.split()[0] if found is not None else said}"] += 1
             continue
         seen[f"{options.model}: DIFFERS"] += 1
-        print(f"seed {seed} {options.model} key {key}: check says {told}, found was {said}\n{text_of(events).decode()}", flush=True)
+        print(f"seed {seed} {options.model} key {key}: check says {told[0]}, {told[1]} as {wide[key].kind}, found was {said}\n"
+              f"{text_of(events).decode()}", flush=True)
 
 
 def wrong_of(seen: "collections.Counter[str]") -> int:

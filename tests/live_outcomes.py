@@ -171,7 +171,7 @@ def a_client_that_raises() -> None:
 def a_queue_over_its_budget() -> None:
     """A backlog of messages that were sent two at a time: no timeout is at fault, and the hint says so."""
     def no_consumer() -> None:
-        with Monitor(PROGRAM, model="fifo-queue") as monitor:
+        with Monitor(PROGRAM, model="fifo-queue", by_ends=True) as monitor:
             for value in range(0, 100, 2):
                 with monitor.enqueue(0, value), monitor.enqueue(0, value + 1):
                     pass

@@ -42,7 +42,7 @@ def smallest(events: Sequence[Event], report: Report, options: Options, program:
     line = next((line for line in report.keys if report.word == "illegal" and line.key == report.key), None)
     if line is None or line.index is None:
         return None
-    own = Options(options.concurrency, line.model, line.budget, by_ends=options.by_ends)
+    own = options.of_line(line, program)
     whole = operations((event for event in of_key(events, line.key) if event.index <= (line.index or 0)), options.concurrency)
     search = Search(own, line.index, frozenset(hints), program, effort or Effort())
     left = search.run(whole)

@@ -1,10 +1,16 @@
-"""Random scripts of registers or sets, with rewinds, for comparisons of kinds of objects that judge the same histories."""
+"""Random scripts of registers, sets or queues, with rewinds, for comparisons of kinds of objects that judge the same histories."""
 from __future__ import annotations
 
 import random
 from typing import Dict, FrozenSet, Iterator, List, NamedTuple, Optional, Tuple, Union
 
-Value = Union[None, int, FrozenSet[int]]
+Value = Union[None, int, FrozenSet[int], Tuple[int, ...]]  # of a cas its two numbers, and of a queue all that it holds
+OPERATIONS = {  # of each model, the one that answers first
+    "register": ("read", "write"), "cas-register": ("read", "write", "cas"), "set": ("read", "add"),
+    "fifo-queue": ("dequeue", "enqueue"), "unordered-queue": ("dequeue", "enqueue"),
+}
+ANSWERED = ("read", "dequeue")
+FRESH = 1000  # by so many values those of a queue differ
 
 
 class Way(NamedTuple):
@@ -28,7 +34,7 @@ class Open(NamedTuple):
     op: int
     key: int
     name: str
-    value: Optional[int]
+    value: Value
     took: bool
     found: Value
 
@@ -53,13 +59,15 @@ Line = Union[Event, int]  # an event, or how many events a rewind keeps
 class Moment(NamedTuple):
     processes: Tuple[int, ...]
     running: Dict[int, Open]
-    lurking: Tuple[Open, ...]  # writes that have crashed and not yet taken place
+    lurking: Tuple[Open, ...]  # changes that have crashed and not yet taken place
     states: Dict[int, Value]
 
 
 def spelled(value: Value) -> str:
     if isinstance(value, frozenset):
         return "#{" + " ".join(map(str, sorted(value))) + "}"
+    if isinstance(value, tuple):
+        return "[" + " ".join(map(str, value)) + "]"
     return "nil" if value is None else str(value)
 
 
@@ -75,11 +83,11 @@ def drawn_way(chance: random.Random, clients: int) -> Way:
 
 
 class Clients:
-    """Clients of registers (`write`) or sets (`add`), each operation of which takes place at a random moment while it is open, or never."""
+    """Clients of objects of one model, each operation of which takes place at a random moment while it is open, or never."""
 
-    def __init__(self, chance: random.Random, way: Way, update: str) -> None:
-        self.chance, self.way, self.update = chance, way, update
-        self.begin: Value = frozenset() if update == "add" else None
+    def __init__(self, chance: random.Random, way: Way, model: str) -> None:
+        self.chance, self.way, self.model = chance, way, model
+        self.begin: Value = frozenset() if model == "set" else () if model.endswith("queue") else None
         self.moments = [Moment(tuple(range(way.clients)), {}, (), {})]
 
     def lines(self) -> Iterator[Line]:
@@ -115,17 +123,40 @@ class Clients:
         return now
 
     def taken(self, now: Moment, each: Open) -> Open:
+        """The operation as it takes place, if it can."""
         state = now.states.get(each.key, self.begin)
         if each.name == "read":
             return each._replace(took=True, found=state)
-        now.states[each.key] = state | {each.value} if isinstance(state, frozenset) and each.value is not None else each.value
-        return each._replace(took=True, found=each.value)
+        found, after = self.outcome(each, state)
+        if after is None:
+            return each
+        now.states[each.key] = after
+        return each._replace(took=True, found=found)
+
+    def outcome(self, each: Open, state: Value) -> Tuple[Value, Value]:
+        """The answer of a change, and the state after it; None if it can't take place."""
+        if isinstance(state, frozenset) and isinstance(each.value, int):
+            return each.value, state | {each.value}
+        if each.name == "cas" and isinstance(each.value, tuple):
+            return each.value, each.value[1] if state == each.value[0] else None
+        if not isinstance(state, tuple):
+            return each.value, each.value
+        if each.name == "enqueue" and isinstance(each.value, int):
+            return each.value, (*state, each.value)
+        place = 0 if self.model == "fifo-queue" or not state else self.chance.randrange(len(state))
+        return (state[place], state[:place] + state[place + 1:]) if state else (None, None)
 
     def invoked(self, now: Moment, thread: int) -> Event:
-        key, name, value = self.chance.randrange(self.way.keys), "read", None
-        if self.chance.random() >= self.way.reads:
-            name, value = self.update, self.chance.randrange(self.way.values)
-        op = len(self.moments) - 1
+        answered, *changes = OPERATIONS[self.model]
+        key, name, op = self.chance.randrange(self.way.keys), answered, len(self.moments) - 1
+        value: Value = None
+        if self.chance.random() >= (min(self.way.reads, 0.6) if self.begin == () else self.way.reads):
+            name = self.chance.choice(changes)
+            value = op if self.begin == () and self.way.values == FRESH else self.chance.randrange(self.way.values)
+        if name == "cas":
+            state = now.states.get(key)
+            old = state if isinstance(state, int) and self.chance.random() < 0.7 else self.chance.randrange(self.way.values)
+            value = (old, self.chance.randrange(self.way.values))
         now.running[thread] = Open(op, key, name, value, False, None)
         self.moments.append(now)
         return Event("invoke", op, now.processes[thread], key, name, value)
@@ -139,6 +170,8 @@ class Clients:
             processes = now.processes[:thread] + (process + self.way.clients,) + now.processes[thread + 1:]
             lurking = now.lurking + ((each,) if not each.took and each.name != "read" else ())
             now = now._replace(processes=processes, lurking=lurking)
+        elif each.name == "dequeue":
+            kind, value = "ok" if each.took or is_wrong else "fail", self.answer(each, is_wrong) if each.took or is_wrong else None
         elif each.name == "read":
             kind, value = ("fail", None) if not each.took or self.chance.random() < self.way.fail else ("ok", self.answer(each, is_wrong))
         elif each.took == is_wrong:
@@ -147,9 +180,9 @@ class Clients:
         return Event(kind, each.op, process, each.key, each.name, value)
 
     def answer(self, each: Open, is_wrong: bool) -> Value:
-        if self.chance.random() < 0.05:
-            return None if self.update == "write" or is_wrong else each.found
-        value = self.chance.randrange(self.way.values)
+        if self.chance.random() < 0.05 and each.name == "read":
+            return None if self.model != "set" or is_wrong else each.found
+        value = self.chance.randrange(min(self.way.values, len(self.moments)) if each.name == "dequeue" else self.way.values)
         if not is_wrong:
             return each.found
         return each.found ^ {value} if isinstance(each.found, frozenset) else value

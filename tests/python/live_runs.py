@@ -10,7 +10,7 @@ import time
 from typing import Any, Callable, Dict, List, NamedTuple, Optional, Set
 
 from jepmon import Failed, LongMonitor, Monitor, NotLegal
-from jepmon.program import find_program
+from jepmon.program import Options, find_program
 
 MODELS = ("register", "cas-register", "fifo-queue", "unordered-queue", "set", "mutex")
 Begin = Callable[..., Any]  # an operation, of a name, the number of an object, and values
@@ -148,7 +148,7 @@ def fault_of(case: Case, is_dropped: bool) -> Optional[str]:
         except NotLegal:
             pass
         verdict, again = monitor.close(), last_line([f"{monitor.folder}/judge-again"])
-    told = last_line([find_program(), "script", "--concurrency", "64", "--model", case.model, "--budget", str(case.budget)], log.getvalue())
+    told = last_line([find_program(), "script", *Options(64, case.model, case.budget).words()], log.getvalue())
     if again != verdict:
         return f"the run said {verdict}, and its folder says {again}"
     if told != ("legal" if monitor.failure is None else verdict):

@@ -138,7 +138,7 @@ In the next test let fewer clients use one key at once.""")
     def test_the_greatest_budget(self) -> None:
         """The program's result for the history with this answer."""
         text = (TOP / "tests" / "cases" / "check_of_a_blown_and_a_dead_key" / "history.edn").read_text()
-        options = program.Options(2, "fifo-queue", 4)
+        options = program.Options(2, "fifo-queue", 4, by_ends=True)
         blown = "".join(text.splitlines(True)[:3])
         self.assertEqual(explained(blown, options).sentences[0], "Asked of jepmon: with --budget 65536 this key is legal to its end.")
         wrong = blown + ("{:type :invoke, :process 0, :f :dequeue, :value [1 nil]}\n{:type :ok, :process 0, :f :dequeue, :value [1 9]}\n")

@@ -3,7 +3,7 @@ from __future__ import annotations
 
 import random
 import unittest
-from typing import Counter, Dict, cast
+from typing import Counter, Dict, Set, cast
 
 from jepmon import Illegal, Keys, Monitor, Unknown
 from jepmon.live.room import room_of
@@ -15,6 +15,7 @@ class Counts:
 
     def __init__(self) -> None:
         self.set_aside: Dict[int, Unknown] = {}
+        self.equal_values: Set[int] = set()
         self.timed_out: Counter[int] = Counter()
         self.open: Counter[int] = Counter()
 

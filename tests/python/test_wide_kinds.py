@@ -30,9 +30,10 @@ class Names(unittest.TestCase):
     def test_a_model_and_its_kinds(self) -> None:
         self.assertEqual([kinds.model_of(name) for name in ("wide-register", "wide-set", "register", "mutex", "no-model")],
                          ["register", "set", "register", "mutex", "no-model"])
-        for name in ("register", "wide-register"):
-            self.assertEqual((kinds.kind_of(name, False), kinds.kind_of(name, True)), ("wide-register", "register"))
-        for name in ("cas-register", "mutex", "fifo-queue", "unordered-queue", "no-model"):
+        for model in ("register", "cas-register", "fifo-queue", "unordered-queue", "set"):
+            for name in (model, f"wide-{model}"):
+                self.assertEqual((kinds.kind_of(name, False), kinds.kind_of(name, True)), (f"wide-{model}", model))
+        for name in ("mutex", "no-model"):
             self.assertEqual((kinds.kind_of(name, False), kinds.kind_of(name, True)), (name, name))
 
     def test_a_line_of_a_report(self) -> None:
@@ -60,13 +61,12 @@ class Programs(unittest.TestCase):
         return str(path)
 
     def test_the_program_is_asked_once(self) -> None:
-        new = self.program("new", HELP.format(", wide-register, wide-set"))
-        old = self.program("old", HELP.format(""))
-        for _ in range(3):
-            self.assertEqual(Options().words(new)[3], "wide-register")
-            self.assertEqual(Options(model="set").words(new)[3], "wide-set")
-            self.assertEqual((Options().words(old)[3], Options(model="set").words(old)[3]), ("register", "set"))
-        for name in ("new", "old"):
+        models = ("register", "set", "cas-register", "fifo-queue", "unordered-queue", "mutex")
+        for name, has in (("old", ()), ("two", models[:2]), ("three", (*models[:2], "cas-register")), ("new", models[:5])):
+            made = self.program(name, HELP.format("".join(f", wide-{model}" for model in has)))
+            for _ in range(3):
+                for model in models:
+                    self.assertEqual(Options(model=model).words(made)[3], f"wide-{model}" if model in has else model)
             self.assertEqual((self.room / f"{name}.asked").read_text(), "check --help\n")
 
     def test_it_is_not_asked_where_that_says_nothing(self) -> None:
@@ -79,11 +79,12 @@ class Programs(unittest.TestCase):
         new = self.program("new", HELP.format(", wide-register, wide-set"))
         old = self.program("old", HELP.format(""))
         self.assertIn("does not have the kind wide-set", program.by_ends_note(Options(model="set"), old))
+        self.assertIn("does not have the kind wide-fifo-queue", program.by_ends_note(Options(model="fifo-queue"), new))
         for options, name in ((Options(), new), (Options(by_ends=True), old), (Options(model="mutex"), old)):
             self.assertEqual(program.by_ends_note(options, name), "")
 
     def test_none(self) -> None:
-        self.assertFalse(program.has_wide_kinds(str(self.room / "nowhere")))
+        self.assertEqual(program.wide_kinds(str(self.room / "nowhere")), frozenset())
 
 
 def judged(*words: str) -> "tuple[int, str, str]":
@@ -95,7 +96,7 @@ def judged(*words: str) -> "tuple[int, str, str]":
 
 
 def is_wide() -> bool:
-    return fuzz.has_program() and program.has_wide_kinds()
+    return fuzz.has_program() and "wide-register" in program.wide_kinds()
 
 
 @unittest.skipUnless(is_wide(), "the program has no wide kinds")
@@ -198,7 +199,7 @@ class Live(Monitored):
         return [line.split(":")[-1].rstrip("]") for line in lines if line.startswith("[:model")]
 
     def test_what_a_monitor_tells_the_program(self) -> None:
-        new = program.has_wide_kinds(self.program)
+        new = "wide-register" in program.wide_kinds(self.program)
         for by_ends in (False, True):
             log = io.StringIO()
             monitor = Monitor(self.program, model="wide-register", by_ends=by_ends, log=log, out=self.room)
@@ -237,7 +238,7 @@ class Live(Monitored):
 
         with self.assertRaises(Unknown) as caught:
             two_orders()
-        if program.has_wide_kinds(self.program):
+        if program.wide_kinds(self.program):
             self.assertIn("answers need many open or timed-out writes", str(caught.exception))
         else:
             self.assertIn("does not have the kind wide-register", str(caught.exception))
@@ -253,7 +254,7 @@ class Live(Monitored):
                     read.value = {1}
             self.assertEqual(monitor.close(), "legal")
             assert monitor.folder is not None
-            kind = "wide-set" if program.has_wide_kinds(self.program) and not by_ends else "set"
+            kind = "wide-set" if program.wide_kinds(self.program) and not by_ends else "set"
             self.assertIn(f"--model {kind} ", (monitor.folder / "part-0001" / "judge-again").read_text())
 
 
@@ -263,7 +264,7 @@ class Fallen(unittest.TestCase):
         made = stores.UNKNOWN["many_timeouts"]()
         options = Options(made.concurrency, made.model, by_ends=True)
         report = program.check(made.text.encode(), options)
-        with mock.patch.object(finding, "_has_wide_kinds", return_value=False):
+        with mock.patch.object(finding, "_wide_kinds", return_value=frozenset()):
             found = cause.explain(history.read_history(made.text), report, options._replace(by_ends=False))
         assert found is not None
         self.assertIn("does not have the kind wide-register, so it judged by ends, as --by-ends does", found.sentences[-1])
@@ -271,7 +272,7 @@ class Fallen(unittest.TestCase):
     @unittest.skipUnless(fuzz.has_program(), "there is no program")
     def test_a_verdict_without_a_cause_names_it(self) -> None:
         made = stores.UNKNOWN["many_timeouts"]()
-        with tempfile.TemporaryDirectory() as room, mock.patch.object(finding, "_has_wide_kinds", return_value=False):
+        with tempfile.TemporaryDirectory() as room, mock.patch.object(finding, "_wide_kinds", return_value=frozenset()):
             path = pathlib.Path(room, "h.edn")
             path.write_text(made.text)
             for words, count in (([], 1), (["--jobs", "1"], 1), (["--by-ends"], 0)):

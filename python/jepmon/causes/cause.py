@@ -75,7 +75,7 @@ def explain(events: Sequence[Event], report: Report, options: Options, names: Na
     line = next((line for line in report.keys if line.key == report.key), None)
     if line is None or line.index is None or report.word not in ("illegal", "unknown"):
         return None
-    own, named = Options(options.concurrency, line.model, line.budget, by_ends=options.by_ends), Names(names.values, names.keys)
+    own, named = options.of_line(line, program), Names(names.values, names.keys)
     whole = of_key(events, line.key)
     front = [event for event in whole if event.index <= (line.index or 0)]
     effort = effort or Effort()

@@ -4,20 +4,35 @@ from __future__ import annotations
 from typing import Dict, List, NamedTuple, Optional, Tuple
 
 from ..history import Event, Operation, operations
-from ..history.kinds import BUDGETS
+from ..history.kinds import BUDGETS, DIFFERING
 from ..objects.configurations import GaveUp, TooMany, Walker, walk
 from ..program import Options, by_ends_note, check
 from ..shrinking.part import as_asked, text_of
 from .case import Found, Mention
 from .effort import Effort
+from .equal_values import note_of_equal_values, of_equal_values
 from .names import NOUNS, Names, client, listed
 
 SHOWN = 8  # steps of the growth
 TOLD = 12  # operations whose invocations are mentioned
 COUNTED = 100_000  # ends that are counted beyond the budget
-LEAN = "A lean outcome has only those open or timed-out writes that an answer needs."
 GREATEST = BUDGETS[-1]
 CERTAIN = float("inf")  # it has taken place in each outcome
+
+
+class Counted(NamedTuple):
+    """The count of a wide kind, which its budget limits: one of it, and what that is."""
+
+    noun: str
+    meaning: str
+
+
+BY_KIND = {
+    "wide-register": Counted("lean outcome", "A lean outcome has only those open or timed-out writes that an answer needs."),
+    "wide-cas-register": Counted("front", "A front is an outcome before an answer, after none, one or more of the open or timed-out writes and cas "
+                                          "operations, one after another."),
+}
+OUTCOMES = Counted("outcome", "")
 
 
 class Over(NamedTuple):
@@ -33,9 +48,13 @@ class Over(NamedTuple):
     effort: Effort
 
     @property
-    def is_wide(self) -> bool:
-        """Whether the program counted what the kind wide-register counts: lean ends."""
-        return self.options.is_wide(self.program)
+    def kind(self) -> str:
+        """By which the program judged it."""
+        return self.options.kind(self.program)
+
+    @property
+    def counted(self) -> Counted:
+        return BY_KIND.get(self.kind, OUTCOMES)
 
 
 class Growth(NamedTuple):
@@ -46,15 +65,17 @@ class Growth(NamedTuple):
 
 
 def of_unknown(over: Over) -> Found:
+    if over.kind == DIFFERING:
+        return of_equal_values(over)
     index, named = over.front[-1].index, over.names.object(over.model, over.key)
-    most = f"{over.options.budget:,} {'lean ' if over.is_wide else ''}outcome" + ("" if over.options.budget == 1 else "s")
+    most = f"{over.options.budget:,} {over.counted.noun}" + ("" if over.options.budget == 1 else "s")
     headline = (f"At event {index} more than {most} {'was' if over.options.budget == 1 else 'were'} possible for {named}, which is its "
                 "budget: from there on jepmon does not judge it.")
     made = operations(over.front, over.options.concurrency)
     pending = [operation for operation in made if may_still_take_place(operation, index)]
-    if over.is_wide:
-        return Found(headline, [LEAN, *of_pending(over, pending, {}), advice(over, pending)], told_of(over, pending, {}))
-    asked, older = with_greatest_budget(over), note_of_program(over)
+    if over.kind in BY_KIND:
+        return Found(headline, [over.counted.meaning, *of_pending(over, pending, {}), advice(over, pending)], told_of(over, pending, {}))
+    asked, older = with_greatest_budget(over), note_of_program(over) or note_of_equal_values(over)
     grown = growth_of(over, pending)
     if grown is None:
         return Found(headline, [asked, *of_pending(over, pending, {}), advice(over, pending), older], told_of(over, pending, {}))
@@ -70,7 +91,7 @@ def of_unknown(over: Over) -> Found:
 
 def told_of(over: Over, pending: List[Operation], factors: Dict[int, float]) -> List[Mention]:
     return ([Mention(operation.invocation, note_of(operation, factors)) for operation in pending[:TOLD]]
-            + [Mention(over.front[-1], "more outcomes than the budget")])
+            + [Mention(over.front[-1], f"more {over.counted.noun}s than the budget")])
 
 
 def note_of(operation: Operation, factors: Dict[int, float]) -> str:
@@ -136,7 +157,7 @@ def advice(over: Over, pending: List[Operation]) -> str:
     """Advice for the next test."""
     noun, timed_out = NOUNS[over.model], sum(operation.outcome == "info" for operation in pending)
     hints: List[str] = []
-    if over.is_wide:
+    if over.kind in BY_KIND:
         hints += ["let fewer clients write to one key at once"] if len(pending) - timed_out > 4 or timed_out < 2 else []
         hints += ["after some timeouts go on with a new key for writes, and let reads stay on the old one"] if timed_out > 1 else []
         hints += [f"raise --budget, up to {GREATEST}"] if over.options.budget < GREATEST else []

@@ -14,7 +14,7 @@ class Options(NamedTuple):
 
     concurrency: int
     model: str
-    is_wide: bool = False  # whether the program has judged it as the wide kind of the model
+    kind: str = ""  # by which the program has judged the key, if that is a wide one
 
 
 class Event:

@@ -12,11 +12,12 @@ from __future__ import annotations
 import argparse
 import pathlib
 import subprocess
-from typing import Dict
+from typing import Dict, Optional
 
 from .. import program
 from ..edn import integer
 from ..history.kinds import THREADS, model_of
+from ..program import equal_values
 from ..tools import command
 from .event import Options
 from .refusal import many_clients
@@ -59,32 +60,44 @@ def work() -> int:
         return command.REFUSED
     stated = {option: getattr(given, option[2:]) for option in OPTIONS if getattr(given, option[2:]) is not None}
     asked = program.Options(model=stated.get("--model", "register"), by_ends=given.by_ends)
-    options = [word for pair in {**stated, "--model": asked.kind()}.items() for word in pair]
+
     try:
         raw = command.standard_input().read() if given.file == "-" else pathlib.Path(given.file).read_bytes()
     except OSError as fault:
         say(fault.strerror if given.file == "-" else f"{given.file}: {fault.strerror}")
         if given.file == "-":
             return command.REFUSED
-        text, _, status = program.run_check([given.file] + options, stderr=subprocess.PIPE)
-        command.write_output([text])
-        return status
-    text, beside, status = program.run_check(["/dev/stdin"] + options, raw, stderr=subprocess.PIPE)
-    command.write_output([text])
-    is_told = bool(text) and tell(text.splitlines()[-1], raw, stated, asked)
-    if not text and (integer(stated.get("--concurrency")) or 0) > THREADS:
-        command.standard_error().write(beside.splitlines(True)[0])
+        report = checked(given.file, None, stated, asked)
+        command.write_output([report.text])
+        return report.status
+    report = checked("/dev/stdin", raw, stated, asked)
+    command.write_output([report.text])
+    is_told = bool(report.text) and tell(report, raw, stated, asked)
+    if not report.text and (integer(stated.get("--concurrency")) or 0) > THREADS:
+        command.standard_error().write(report.error.splitlines(True)[0])
         say(many_clients())
     elif not is_told:
-        command.standard_error().write(beside)
-    return status
+        command.standard_error().write(report.error)
+    return report.status
 
 
-def tell(reply: str, raw: bytes, stated: Dict[str, str], asked: program.Options) -> bool:
+def checked(file: str, raw: Optional[bytes], stated: Dict[str, str], asked: program.Options) -> program.Report:
+    """The report on this file, or on these bytes, by the stated options."""
+    def by(options: program.Options) -> program.Report:
+        words = [word for pair in {**stated, "--model": options.kind()}.items() for word in pair]
+        return program.report_of(*program.run_check([file, *words], raw, stderr=subprocess.PIPE))
+    return program.in_full(asked, by)
+
+
+def tell(report: program.Report, raw: bytes, stated: Dict[str, str], asked: program.Options) -> bool:
     """Says what may be said, and whether there was something. The verdict stands, whatever comes of this."""
     is_told = False
     try:
-        for line in said(reply, raw, Options(int(stated.get("--concurrency", 2)), model_of(asked.model), asked.is_wide())):
+        kind = next((line.kind for line in report.keys if line.key == report.key and line.is_wide), "")
+        by_ends = program.keys_by_ends(report.keys, asked)
+        if by_ends:
+            say(equal_values.note(by_ends))
+        for line in said(report.verdict, raw, Options(int(stated.get("--concurrency", 2)), model_of(asked.model), kind)):
             say(line)
             is_told = True
     except Exception as fault:

@@ -5,10 +5,14 @@ import collections
 from typing import Callable, Counter, Dict, Iterator, List, Optional, Sequence, Tuple
 
 from ..edn import Many, Value, integer
-from ..history.kinds import BROUGHT, MODELS, REGISTERS
+from ..history.kinds import BROUGHT, DIFFERING, MODELS, REGISTERS
 from .event import Event, Options, Shower, is_set, open_at
 
 SHOWN = 14  # events of a key
+COUNTED = {  # what makes a wide kind unknown
+    "wide-register": "of a register the writes among them that an answer needs make its outcomes many (lean ends):",
+    "wide-cas-register": "of a register the values that they may leave, one after another, make its outcomes many (fronts):",
+}
 SOURCES = {model: " or ".join(name for name in BROUGHT if name in names) for model, names in MODELS.items() if names & set(BROUGHT)}
 
 
@@ -86,14 +90,17 @@ def answered(event: Event) -> List[int]:
 
 def of_many_ends(of_key: Sequence[Event], options: Options) -> Iterator[str]:
     """The options of the user if the last of the key's events met more ends than the budget."""
-    if any(event.name == "enqueue" for event in of_key):
+    if options.kind == DIFFERING:
+        yield "two enqueues of one value have not failed, and by its ends the queue is over its budget before this event:"
+        yield "give each message a value of its own"
+    elif any(event.name == "enqueue" for event in of_key):
         completed = [event.name for event in of_key[:-1] if event.kind == "ok"]
         yield (f"{completed.count('enqueue')} enqueues and {completed.count('dequeue')} dequeues had completed; "
                "of a queue the backlog counts too:")
         yield "let the queue be shorter, let fewer consumers wait on it and fewer producers send at once, or split it into several"
         yield "keys; or raise --budget (docs/guide/BUDGETS.md has how much a queue may hold)"
-    elif options.is_wide:
-        yield "of a register the writes among them that an answer needs make its outcomes many (lean ends):"
+    elif options.kind in COUNTED:
+        yield COUNTED[options.kind]
         yield "raise --budget, let fewer clients write to a key, or let writes go on with a new key after some timeouts, while reads stay"
     else:
         yield "raise --budget, let fewer clients use a key, or let writes go on with a new key after some timeouts, while reads stay"

@@ -69,7 +69,7 @@ def line_of(key: int, options: Options) -> KeyLine:
 
 
 def options_of(task: Task, line: KeyLine, decided: Optional[Decided]) -> Options:
-    return decided.options if decided is not None else task.options._replace(model=line.model, budget=line.budget)
+    return decided.options if decided is not None else task.options.of_line(line)
 
 
 def those_looked_at(keys: Sequence[Shown]) -> Iterator[Shown]:

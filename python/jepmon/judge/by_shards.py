@@ -20,7 +20,7 @@ from ..forms.recorded import Recorded
 from ..from_jepsen import Turned
 from ..history import Event
 from ..history import kinds
-from ..program import Options, Report
+from ..program import Options, Report, equal_values, keys_by_ends
 from ..program.report import DEAD, Verdict, key_line, report_on
 from ..shards.cluster import judged_on
 from ..shards.judging import Judged
@@ -31,7 +31,7 @@ from ..shards.splitting import judged_elsewhere
 from ..shards.tally import Tally
 from ..tools import command
 from . import as_json, bad_keys, causes, doubts, large_key, least, rates, readings, results, terminal, turned, wide
-from .hints import MOST_EVENTS, counted, of_nil_reads, of_old_program, of_order, outcomes
+from .hints import MOST_EVENTS, counted, of_nil_reads, of_order, of_unknown, outcomes
 from .judging import Task
 from .large import Large
 from .models import Choice, account_for, by_operations
@@ -152,7 +152,9 @@ def _judge(given: Given, found: Large, history: Asked, session: shards.Session, 
     recorded = _recorded(found, history, page is not None or folder is not None)
     of_report = bad_keys.found(filter(None, map(key_line, lines_of(path))))
     keys = bad_keys.shown(recorded, task, report, of_report.bad, functools.partial(events_of, session, found, history), given.cause, decided)
-    beside = [*nil_hints(tally, choice, given), *said_of_bad(report, task, keys, given.cause)]
+    by_ends = keys_by_ends(filter(None, map(key_line, lines_of(path))), session.options)
+    beside = [*([equal_values.note(by_ends, recorded.key_names)] if by_ends else []), *nil_hints(tally, choice, given),
+              *said_of_bad(report, task, keys, given.cause)]
     for line in beside:
         say(line)
     if few:
@@ -252,7 +254,7 @@ def said_of_bad(report: Report, task: Task, keys: Sequence[causes.Shown], with_c
     elif report.word == "illegal" and with_cause:
         yield from of_order(line.key, line.model, keys[0].events, task.options)
     elif not with_cause:
-        yield from of_old_program([line], task.options)
+        yield from of_unknown([line], task.options)
 
 
 # --- The report ---

@@ -100,7 +100,7 @@ def page_of(name: str, found: Recorded, task: Task, key: Shown) -> page.PageInpu
 
 
 def walked(found: Recorded, key: Shown) -> Optional[page.Walked]:
-    """The possible courses of the key. None for an unknown wide register: no walk counts its ends as the program does."""
+    """The possible courses of the key. None for an unknown key of a wide kind: no walk counts as the program does."""
     if key.decided is not None and key.report.word != "unknown":
         return page.ordered(key.events, key.options.model, key.options.concurrency, key.decided.order, key.decided.index,
                             found.value_names)

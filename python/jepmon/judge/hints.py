@@ -10,7 +10,7 @@ from ..forms.files import Source
 from ..forms.recorded import Recorded
 from ..history import Event
 from ..objects.configurations import walk
-from ..program import KeyLine, Options, ProgramError, Report, by_ends_note, check
+from ..program import KeyLine, Options, ProgramError, Report, by_ends_note, check, equal_values
 from ..shrinking.part import as_asked, text_of
 from . import models
 from .events import of_key
@@ -56,6 +56,8 @@ def outcomes(counts: Counter[str]) -> Iterator[str]:
 
 def after(history: Recorded, task: Task, report: Report, given: Given) -> Iterator[str]:
     """The notes in addition to the report. The function asks the program how other readings would be judged."""
+    if task.by_ends:
+        yield equal_values.note(task.by_ends, history.key_names)
     if report.key is not None and report.key in history.key_names:
         yield f"key {report.key} is {history.key_names[report.key]}"
     if report.word == "refused" and report.index is not None:
@@ -63,7 +65,7 @@ def after(history: Recorded, task: Task, report: Report, given: Given) -> Iterat
     if given.cause and report.word == "illegal" and report.key is not None:
         yield from _of_order(history, task, report.key)
     if not given.cause:  # which says it too
-        yield from of_old_program([line for line in report.keys if line.key == report.key], task.options)
+        yield from of_unknown([line for line in report.keys if line.key == report.key], task.options)
     yield from _of_nil(history, task, given)
 
 
@@ -76,21 +78,25 @@ def _of_refusal(history: Recorded, task: Task, report: Report, index: int) -> It
 
 
 def is_legal_as(model: str, events: Sequence[Event], options: Options) -> bool:
-    """Whether the program calls a key legal by another model. It is asked where a walk comes to that, which does not go on for ever."""
-    if walk(events, model, options.budget).status != "alive":
-        return False
+    """Whether the program calls a key legal by another model. If it counts all ends it is asked only where a walk comes to that, which does
+    not go on for ever."""
+    asked = as_asked(options)._replace(model=model)
     try:
-        text = text_of(events, options.concurrency).encode()
-        return check(text, as_asked(options)._replace(model=model)).word == "legal"
+        if not asked.is_wide() and walk(events, model, options.budget).status != "alive":
+            return False
+        return check(text_of(events, options.concurrency).encode(), asked).word == "legal"
     except ProgramError:
         return False
 
 
-def of_old_program(keys: Sequence[KeyLine], options: Options) -> Iterator[str]:
-    """Reports that the program is too old to judge the first of these keys, which is over its budget, as a wide kind."""
-    note = by_ends_note(options._replace(model=keys[0].model)) if keys and keys[0].status == "over" else ""
+def of_unknown(keys: Sequence[KeyLine], options: Options) -> Iterator[str]:
+    """Reports that the program is too old to judge the first of these keys, which is over its budget, as a wide kind; or that values of it
+    are equal."""
+    note = by_ends_note(options.of_line(keys[0])) if keys and keys[0].status == "over" else ""
     if note:
         yield note
+    if keys and equal_values.is_left(keys[0]):
+        yield equal_values.LEFT.format(keys[0].key)
 
 
 def _of_order(history: Recorded, task: Task, key: int) -> Iterator[str]:

@@ -5,10 +5,11 @@ import os
 import re
 import shlex
 import subprocess
-from typing import Dict, List, NamedTuple, Optional
+from typing import Dict, Iterable, Iterator, List, NamedTuple, Optional, Sequence, Tuple
 
 from .. import program
-from ..program import KeyLine, Options, Report
+from ..history.kinds import DIFFERING
+from ..program import KeyLine, Options, Report, keys_by_ends
 from .models import Choice
 
 ERROR_SHOWN = 300  # characters of what the program wrote on standard error
@@ -24,12 +25,32 @@ class Task(NamedTuple):
     in_shards: bool = False
     wide_seconds: Optional[int] = None  # in which keys that are over their budget were decided afterwards, where some were
     least: int = 1  # operations whose answers say something, for a verdict
+    by_ends: Sequence[int] = ()  # keys that are judged by ends since their values are equal
 
     @property
     def commands(self) -> List[str]:
         """The lines that say what the keys are, where they are not all alike."""
-        models = [] if self.choice.common else [f"[:model {key} :{self.options.kind(model=model)}]" for key, model in self.choice.models.items()]
-        return models + [f"[:budget {key} {budget}]" for key, budget in self.budgets.items()]
+        by_ends = () if self.options.by_ends else self.by_ends
+        keys: Iterable[int] = by_ends if self.choice.common else self.choice.models
+        return ([f"[:model {key} :{self.options_of(key).kind()}]" for key in keys]
+                + [f"[:budget {key} {budget}]" for key, budget in self.budgets.items()])
+
+    @property
+    def may_be_by_ends(self) -> bool:
+        """Whether keys may be judged by ends, if their values are equal."""
+        models: Iterable[str] = [self.choice.common] if self.choice.common else self.choice.models.values()
+        return any(self.options.kind(model=model) == DIFFERING for model in models)
+
+    def options_of(self, key: int) -> Options:
+        """The options by which a key is judged."""
+        return self.options._replace(model=self.choice.of(key), budget=self.budgets.get(key, self.options.budget),
+                                     by_ends=self.options.by_ends or key in self.by_ends)
+
+    def judged_so(self, lines: Sequence[KeyLine]) -> Task:
+        """The task with the keys that were judged by ends, by the lines of its report."""
+        keys = keys_by_ends(lines, self.options)
+        are_all = self.choice.common is not None and len(keys) == len(lines) > 0
+        return self._replace(by_ends=keys, options=self.options._replace(by_ends=self.options.by_ends or are_all))
 
     @property
     def script_words(self) -> List[str]:
@@ -55,15 +76,19 @@ class Task(NamedTuple):
         return f"jepmon check {shlex.quote(file)} {' '.join(self.options.words())}"
 
 
-def judged(task: Task) -> Report:
-    """The program's reply."""
+def judged(task: Task) -> Tuple[Task, Report]:
+    """The program's reply, and the task with the keys that are judged by ends since their values are equal."""
     raw = task.text.encode()
-    return _by_script(task, raw) if task.commands else program.check(raw, task.options)
+    if not task.commands:
+        report = program.check(raw, task.options)
+        return task.judged_so(report.keys), report
+    lines = list(_key_lines(task, raw)) if task.may_be_by_ends or not task.budgets else []
+    task = task.judged_so(lines)
+    return task, _by_script(task, raw, [] if task.budgets else lines)
 
 
-def _by_script(task: Task, raw: bytes) -> Report:
-    """The verdict of `jepmon script`, and above it what `jepmon check` says of each key as an object of its kind, where no key has a
-    budget of its own. A line that is refused ends it."""
+def _by_script(task: Task, raw: bytes, keys: Sequence[KeyLine]) -> Report:
+    """The verdict of `jepmon script` below the lines of the keys. A line that is refused ends it."""
     name = program.find_program()
     commands = "".join(command + "\n" for command in task.commands).encode()
     try:
@@ -79,8 +104,7 @@ def _by_script(task: Task, raw: bytes) -> Report:
         said = " ".join(ran.stderr.decode("utf-8", "replace").split())[:ERROR_SHOWN]
         raise program.ProgramError(f"{name} gave no verdict: its last reply was {last[:200]!r}, and its status was {ran.returncode}"
                                    + (f": {said}" if said else ""))
-    lines = [] if task.budgets else _key_lines(task, raw)
-    report = program.report_of("".join(line + "\n" for line in lines + [last]), "", ran.returncode)
+    report = program.report_of("".join(line + "\n" for line in [*(line.text for line in keys), last]), "", ran.returncode)
     return report._replace(keys=_bad_key(task, report)) if task.budgets else report
 
 
@@ -89,20 +113,21 @@ def _bad_key(task: Task, report: Report) -> List[KeyLine]:
     if report.key is None:
         return []
     status = "dead" if report.word == "illegal" else "over"
-    budget = task.budgets.get(report.key, task.options.budget)
-    model = task.choice.of(report.key)
-    return [KeyLine(report.key, model, budget, 0, status, report.index, task.options._replace(model=model).is_wide())]
+    options = task.options_of(report.key)
+    return [KeyLine(report.key, options.model, options.budget, 0, status, report.index, options.is_wide())]
 
 
-def _key_lines(task: Task, raw: bytes) -> List[str]:
-    """The line of each key, from a check by its kind."""
-    lines: Dict[int, str] = {}
-    order: List[int] = []
-    for model in dict.fromkeys(task.choice.models.values()):
-        report = program.check(raw, task.options._replace(model=model))
-        order = [line.key for line in report.keys]
-        for line, text in zip(report.keys, report.text.splitlines()):
-            if task.choice.models[line.key] == model:
-                lines[line.key] = text
-    return [lines[key] for key in order]
+def _key_lines(task: Task, raw: bytes) -> Iterator[KeyLine]:
+    """The line of each key, from a check by its own model and budget, in the order of their first events."""
+    found: Dict[Options, Dict[int, KeyLine]] = {}
 
+    def lines_by(options: Options) -> Dict[int, KeyLine]:
+        if options not in found:
+            found[options] = {line.key: line for line in program.check(raw, options).keys}
+        return found[options]
+
+    first = task.options_of(next(iter(task.choice.models))) if task.choice.models else task.options
+    for key in list(lines_by(first)):
+        line = lines_by(task.options_of(key)).get(key)
+        if line is not None:
+            yield line

@@ -27,4 +27,4 @@ def of(found: Recorded, given: Given) -> Task:
 
 def word_of(source: Source, given: Given) -> str:
     """The verdict of a history, read as these words say."""
-    return judged(of(recorded(source, given.said), given)).word
+    return judged(of(recorded(source, given.said), given))[1].word

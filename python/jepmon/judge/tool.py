@@ -144,8 +144,12 @@ def _judge_whole(source: files.Source, found: Recorded, given: Given, page: Opti
         say(line)
     if given.strict_input:
         found.account.test_strict()
-    say(hints.judged_by(source, found, task))
-    report = judged(task)
+    is_known = not task.may_be_by_ends  # how it is judged
+    if is_known:
+        say(hints.judged_by(source, found, task))
+    task, report = judged(task)
+    if not is_known:
+        say(hints.judged_by(source, found, task))
     report, decided = wide.anew(report, task.options, functools.partial(events.of_keys, found), given.wide_seconds)
     task = task._replace(wide_seconds=given.wide_seconds if decided else None, least=given.least)
     with named(source):

@@ -34,7 +34,7 @@ def over(lines: Iterable[str], options: Options) -> Iterator[Over]:
     """The keys that are over their budget, by the lines of a report."""
     for found in filter(None, map(key_line, lines)):
         if found.status == "over":
-            yield Over(found.key, options._replace(model=found.model, budget=found.budget), found.events)
+            yield Over(found.key, options.of_line(found), found.events)
 
 
 def decisions(keys: List[Over], events: Iterable[Tuple[int, List[Event]]], seconds: int) -> Decisions:

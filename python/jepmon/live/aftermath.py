@@ -21,6 +21,11 @@ class Bad(NamedTuple):
     at: int  # the event
     model: str
     budget: int
+    kind: str  # of the program, by which the key was judged
+
+    @property
+    def is_wide(self) -> bool:
+        return self.kind != self.model
 
 
 class Told(NamedTuple):
@@ -47,11 +52,11 @@ def _told(folder: RunFolder, bad: Bad) -> Told:
     from ..objects import configurations as walk
 
     events, faults = read(folder.path / HISTORY, bad.key)
-    own = folder.options._replace(model=bad.model, budget=bad.budget)
-    report = report_of(bad, len(events), own.is_wide(folder.program))
+    report = report_of(bad, len(events))
+    own = folder.options.of_line(report.keys[0], folder.program)
     found = cause.explain(events, report, folder.options, program=folder.program, faults=faults)
     found = found._replace(sentences=[*read_again(folder), *found.sentences]) if found is not None else None
-    is_uncounted = report.word == "unknown" and own.is_wide(folder.program)  # by a walk
+    is_uncounted = report.word == "unknown" and bad.is_wide  # by a walk
     walked = None if is_uncounted else page.walked(walk.follow(events, own, folder.program), {})
     drawn = page.render(page.PageInput(
         verdict=bad.reply, key=bad.key, events=events, model=bad.model, concurrency=folder.options.concurrency, budget=bad.budget,
@@ -94,11 +99,11 @@ def event_of(line: str, index: int, number: int) -> Event:
     return Event(index, kind, int(process), name, int(key), part_of_text(part), number, line, {"time": int(time[1])})
 
 
-def report_of(bad: Bad, events: int, is_wide: bool) -> Report:
+def report_of(bad: Bad, events: int) -> Report:
     """The line of `jepmon check` about this key, as far as the reply has it."""
     verdict = Verdict(bad.reply.split(" ")[0], (bad.at, bad.key))
     status = "dead" if verdict.word == "illegal" else "over"
-    return report_on([KeyLine(bad.key, bad.model, bad.budget, events, status, bad.at, is_wide)], verdict)
+    return report_on([KeyLine(bad.key, bad.model, bad.budget, events, status, bad.at, bad.is_wide)], verdict)
 
 
 def say(text: str) -> None:

@@ -2,7 +2,7 @@
 from __future__ import annotations
 
 import sys
-from typing import Counter, Dict, List, Mapping, NamedTuple, Optional
+from typing import Counter, Dict, List, Mapping, NamedTuple, Optional, Sequence
 
 from . import aftermath
 from .run_folder import CAUSE, COUNTS, NAMES, PAGE, VERDICT, RunFolder
@@ -20,6 +20,8 @@ class Conclusion(NamedTuple):
     model: str  # of the key that is not legal
     budget: int
     names: Mapping[int, object]  # what numbers stand for
+    by_ends: Sequence[int]  # keys of queues that are judged by their ends, since values are equal
+    kind: str  # by which the key that is not legal was judged
 
 
 def leave_verdict(folder: RunFolder, conclusion: Conclusion) -> None:
@@ -34,7 +36,7 @@ def leave_cause(folder: RunFolder, conclusion: Conclusion) -> None:
     failure = conclusion.failure
     if failure is None or failure.key is None or failure.index is None or folder.lost is not None:
         return
-    bad = aftermath.Bad(failure.reply, failure.key, failure.index, conclusion.model, conclusion.budget)
+    bad = aftermath.Bad(failure.reply, failure.key, failure.index, conclusion.model, conclusion.budget, conclusion.kind)
     told = aftermath.told(folder, bad)
     folder.put(CAUSE, "".join(line + "\n" for line in [*told.cause, *failure.hint.split("\n")] if line))
     if told.page:
@@ -53,6 +55,7 @@ def counts_text(conclusion: Conclusion, lost: Optional[str]) -> str:
     """How many operations ended how, and what else is to be known of the run."""
     lines: List[str] = [f"events: {conclusion.length}", *count_lines(conclusion.counts)]
     lines += [f"dropped: {unknown.reply}" for unknown in conclusion.dropped.values()]
+    lines += [f"judged by ends, since values are equal: key {key}" for key in conclusion.by_ends]
     if conclusion.ended_by is not None and not isinstance(conclusion.ended_by, NotLegal):
         lines.append(f"the test was ended by {conclusion.ended_by!r}")
     if lost is not None:

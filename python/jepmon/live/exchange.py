@@ -44,10 +44,6 @@ class Exchange:
         """The command by which a key is of this model."""
         return f"[:model {key} :{self.kind(model)}]"
 
-    def is_wide(self, model: str) -> bool:
-        """Whether keys of this model are judged as its wide kind."""
-        return self._options._replace(model=model).is_wide(self.program)
-
     def by_ends_note(self, model: str) -> str:
         return by_ends_note(self._options._replace(model=model), self.program)
 

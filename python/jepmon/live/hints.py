@@ -3,7 +3,7 @@ from __future__ import annotations
 
 from typing import AbstractSet, Callable
 
-from ..history.kinds import BUDGETS, EVENTS, MODELS, THREADS
+from ..history.kinds import BUDGETS, DIFFERING, EVENTS, MODELS, THREADS
 
 HINTS = {  # beside a refusal, by its name
     "HistoryFull": f"a history has {EVENTS} events at most; a LongMonitor goes on with one after another",
@@ -20,6 +20,14 @@ UNKNOWN_WIDE = (
     "answers need many open or timed-out writes: let fewer clients write to one key, let writes go on at a new key after some "
     "timeouts while reads stay (Monitor.keys), or raise the budget"
 )
+UNKNOWN_FRONTS = (
+    "open and timed-out writes and cas operations may leave many values: let fewer clients write to one key, let writes go on at a "
+    "new key after some timeouts (Monitor.keys), or raise the budget"
+)
+UNKNOWN_EQUAL = (
+    "two enqueues of one value have not failed, and by its ends the queue was over its budget already: give each message a value of its own"
+)
+BY_KIND = {"wide-register": UNKNOWN_WIDE, "wide-cas-register": UNKNOWN_FRONTS, DIFFERING: UNKNOWN_EQUAL}
 UNKNOWN_QUEUE = (
     "{} enqueues and {} dequeues had completed: let the queue be shorter, let fewer consumers wait on it and fewer producers "
     "send at once, split it into several keys, or raise the budget"
@@ -30,9 +38,10 @@ def hint_of_refusal(refusal: str) -> str:
     return next((hint for name, hint in HINTS.items() if name in refusal.split()), "")
 
 
-def hint_of_unknown(names: AbstractSet[str], enqueues: int, dequeues: int, is_wide: bool) -> str:
-    """Advice about a key over its budget that has seen operations of these names, with the number of completed enqueues and dequeues."""
-    return UNKNOWN_QUEUE.format(enqueues, dequeues) if "enqueue" in names else UNKNOWN_WIDE if is_wide else UNKNOWN
+def hint_of_unknown(kind: str, names: AbstractSet[str], enqueues: int, dequeues: int) -> str:
+    """Advice about a key over its budget, which is judged by this kind and has seen operations of these names, with the number of completed
+    enqueues and dequeues."""
+    return BY_KIND.get(kind) or (UNKNOWN_QUEUE.format(enqueues, dequeues) if "enqueue" in names else UNKNOWN)
 
 
 def hint_of_model(key: int, model: str, names: AbstractSet[str], is_legal_as: Callable[[str], bool]) -> str:

@@ -27,8 +27,9 @@ class Keys:
     A key has room for another operation if fewer than `most` of its operations are open, or if none is open. A key without room is given
     only if there is no other.
 
-    The room says both numbers, by the kind of the keys: 8 and 10 for registers; no limit and 64 for sets; 8 and 12 for locks; else 3
-    and 6. Operations that have timed out count as open, except those of registers and sets that are not judged by ends.
+    The room has both numbers, by the kind of the keys: 8 and 10 for registers; 8 and 8 with compare and set; no limit and 64 for sets; 8
+    and 64 for queues. If these are judged by ends, the numbers are 3 and 6. They are 8 and 12 for locks. In locks, and by ends, operations that
+    have timed out count as open.
 
     Use queues in the same way: enqueue at write_key, and dequeue at read_key. Each operation of a lock is a change: acquire at write_key, so
     that clients try again a lock that was held while its server died.
@@ -40,7 +41,8 @@ class Keys:
             raise ValueError(f"count, limit and most are numbers from 1 on, not {count}, {limit} and {most}")
         key_of(first)
         key_of(first + count - 1)
-        self._room = room._replace(timeouts=room.timeouts if limit is None else limit, most=room.most if most is None else most)
+        self._room, self._room_by_ends = (each._replace(timeouts=each.timeouts if limit is None else limit, most=each.most if most is None else most)
+                                          for each in (room, BY_ENDS))
         self._monitor, self._first = monitor, first
         self._lock = threading.Lock()
         self._draws = random.Random(first)  # where the caller brings none
@@ -52,7 +54,7 @@ class Keys:
         """One of the `count` keys that are open to writes."""
         with self._lock:
             for place, key in enumerate(self._open):
-                if key in self._monitor.set_aside or self._room.is_left(self._monitor.timeouts(key)):
+                if key in self._monitor.set_aside or self._room_of(key).is_left(self._monitor.timeouts(key)):
                     self._leave(place)
             return self._drawn(self._open, draws or self._draws)
 
@@ -74,9 +76,12 @@ class Keys:
         """One of the keys, with room if possible."""
         for _ in range(TRIES):
             key = keys[draws.randrange(len(keys))]
-            if self._room.holds(self._monitor.pending(key), self._monitor.timeouts(key)):
+            if self._room_of(key).holds(self._monitor.pending(key), self._monitor.timeouts(key)):
                 return key
-        return min(keys, key=lambda key: self._room.at_once(self._monitor.pending(key), self._monitor.timeouts(key)))
+        return min(keys, key=lambda key: self._room_of(key).at_once(self._monitor.pending(key), self._monitor.timeouts(key)))
+
+    def _room_of(self, key: int) -> Room:
+        return self._room_by_ends if key in self._monitor.equal_values else self._room
 
     def _judged(self, keys: List[int]) -> List[int]:
         dropped = self._monitor.set_aside

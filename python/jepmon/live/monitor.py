@@ -31,7 +31,7 @@ import datetime
 import os
 import pathlib
 import time
-from typing import Counter, Dict, Hashable, Optional, TextIO, Union
+from typing import AbstractSet, Counter, Dict, Hashable, Optional, TextIO, Union
 
 from ..history.kinds import ABSENT, BUDGET, model_of
 from ..program import Options
@@ -70,8 +70,9 @@ class Monitor(LiveTest):
                  operations are not recorded; the other keys go on, and nothing is raised. See dropped. The log takes the event back
     initial      the value of each register before its first operation; else it is missing. begin names the value of one key
     absent       the store's answer for a missing key instead of None, such as "" or 0; writing it deletes the key
-    by_ends      judges registers and sets by all their possible outcomes (ends), as `jepmon check --model register` does. Else it judges
-                 them as the kinds wide-register and wide-set: far fewer keys are Unknown, and the other verdicts are the same
+    by_ends      judges keys by all their possible outcomes (ends), as `jepmon check --model register` does. Else it judges them as wide
+                 kinds, such as wide-register: far fewer keys are Unknown, and the other verdicts are the same. A FIFO queue in which
+                 two enqueues of one value have not failed is judged by its ends from there on (see equal_values)
     log          gets each recorded line, with its :time in nanoseconds since the monitor began, and the notes. `jepmon script` with
                  the same options judges it again. Open a file by lines, with open(path, "w", buffering=1): then it is complete
                  even if the test is killed
@@ -188,6 +189,11 @@ class Monitor(LiveTest):
     def dropped(self) -> Dict[int, Unknown]:
         """The former name of set_aside."""
         return self.set_aside
+
+    @property
+    def equal_values(self) -> AbstractSet[int]:
+        """The keys of queues that are judged by all their possible outcomes (ends), since two enqueues of one value have not failed."""
+        return self._telling.equal_values
 
     @property
     def counts(self) -> Dict[str, Counter[str]]:

@@ -27,7 +27,11 @@ class Room(NamedTuple):
 
 BY_ENDS = Room(3, 6, True)  # of each model that is judged by ends, but for
 LOCKS = Room(8, 12, True)  # whose operations bring few ends
-WIDE: Dict[str, Room] = {"wide-register": Room(8, 10, False), "wide-set": Room(None, THREADS, False)}
+QUEUES = Room(8, THREADS, False)  # a dequeue that timed out may have taken a message that was lost
+WIDE: Dict[str, Room] = {
+    "wide-register": Room(8, 10, False), "wide-cas-register": Room(8, 8, False), "wide-set": Room(None, THREADS, False),
+    "wide-fifo-queue": QUEUES, "wide-unordered-queue": QUEUES,
+}
 
 
 def room_of(kind: str) -> Room:

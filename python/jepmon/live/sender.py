@@ -2,7 +2,7 @@
 from __future__ import annotations
 
 import copy
-from typing import Dict, List, Optional, Set, Tuple
+from typing import AbstractSet, Dict, List, Optional, Set, Tuple
 
 from ..history.fault_notes import BEGIN
 from ..history.kinds import REGISTERS, model_of
@@ -10,6 +10,7 @@ from ..history.line import event_line
 from ..program import Options
 from ..program.report import verdict_in
 from .conclusion import Conclusion, leave_cause, leave_page, leave_verdict
+from .equal_values import PATIENCE, ByEnds, command_of, is_further, replies_by
 from .exchange import Exchange
 from .hints import hint_of_model, hint_of_refusal, hint_of_unknown
 from .key_events import Told
@@ -35,7 +36,7 @@ class Telling:
     to the test."""
 
     def __init__(self, exchange: Exchange, record: Record, options: Options, unknown: str, endings: Endings,
-                 homes: Optional[Dict[int, int]] = None, missing: Missing = Missing()) -> None:
+                 homes: Optional[Dict[int, int]] = None, missing: Missing = Missing(), has_said: Optional[Set[str]] = None) -> None:
         self.lock = OwnedLock()
         self.unknown, self.endings, self.missing = unknown, endings, missing
         self.told = Told()
@@ -52,6 +53,7 @@ class Telling:
         self._models: Dict[int, str] = {}  # of keys that have another one
         self._budgets: Dict[int, int] = {}  # likewise
         self._begun: Set[int] = set()
+        self._by_ends = ByEnds(has_said)
         self._behind: Dict[int, int] = {}  # of a thread: how far its process in the run's folder is behind, by dropped keys
 
     @property
@@ -116,6 +118,38 @@ class Telling:
         line = self._event(kind, process, name, key, part, end)
         self._ask(line)
 
+    # --- Queues whose values are equal ---
+
+    @property
+    def equal_values(self) -> AbstractSet[int]:
+        """The keys of queues that are judged by their ends, since two enqueues of one value have not failed."""
+        return self._by_ends.keys
+
+    def _kind_of(self, key: int) -> str:
+        return self._by_ends.kind(key, self._exchange.kind(self.model_of(key)))
+
+    def _in_full(self, lines: List[Line], replies: List[str]) -> List[str]:
+        """The replies to lines that were all sent, if keys that are over by equal values are judged by their ends. A key that these do not
+        judge further stays as it is."""
+        while True:
+            reply = next((reply for reply in replies if reply != "legal"), "legal")
+            found = verdict_in(reply)
+            if found is None or found.found is None or found.word != "unknown":
+                return replies
+            index, key = found.found
+            if not self._by_ends.may_take(key, self._kind_of(key)):
+                return replies
+            by_ends = command_of(key)
+            said = self._replies([by_ends], PATIENCE)
+            if said and is_further(key, index, said[0]):
+                self._record.needs_script()
+                self._write_down(by_ends.text, by_ends.text)
+                self._by_ends.take(key)
+                replies = replies_by(lines, said[0])
+            else:
+                self._by_ends.leave(key)
+                replies = replies if said and self._replies([Line(self._exchange.model_line(key, self.model_of(key)))]) else []
+
     # --- Keys over their budget ---
 
     def _is_dropped(self, at_key: int, index: int, line: Line) -> bool:
@@ -152,6 +186,7 @@ class Telling:
     def set_model(self, key: int, model: str) -> None:
         with self.lock:
             self._models[key] = model_of(model)
+            self._by_ends.forget(key)
             self._command(self._exchange.model_line(key, model))
 
     def set_budget(self, key: int, budget: int) -> None:
@@ -216,18 +251,18 @@ class Telling:
     def _answer(self, lines: List[Line]) -> None:
         """Sends lines together to be judged, and ends the operations that they complete."""
         while lines and self.failure is None:
-            replies = self._replies(lines)
+            replies = self._in_full(lines, self._replies(lines))
             legal = next((place for place, reply in enumerate(replies) if reply != "legal"), len(replies))
             for line in lines[:legal]:
                 self._end(line)
             lines = self._not_legal(lines[legal:], replies[legal:]) if legal < len(replies) else []
 
-    def _replies(self, lines: List[Line]) -> List[str]:
+    def _replies(self, lines: List[Line], timeout: Optional[float] = None) -> List[str]:
         """The replies, for which it waits without the lock; none where the exchange fails."""
         failure: Optional[NotLegal] = None
         self.lock.release()
         try:
-            return self._exchange.replies([line.text for line in lines])
+            return self._exchange.replies([line.text for line in lines], timeout)
         except Refused as refused:
             failure = copy.copy(refused)  # without the frames that it was raised in
             return []
@@ -299,7 +334,8 @@ class Telling:
         failure = self.failure or next(iter(self.dropped.values()), None)
         key = failure.key if failure is not None and failure.key is not None else -1
         model, budget = self.model_of(key), self._budgets.get(key, self._options.budget)
-        return Conclusion(failure, self.length, self.told.counts(), self.dropped, ended_by, model, budget, self.names)
+        return Conclusion(failure, self.length, self.told.counts(), self.dropped, ended_by, model, budget, self.names,
+                          sorted(self.equal_values), self._kind_of(key))
 
     def _conclude(self, ended_by: Optional[BaseException]) -> None:
         """Leaves in the run's folder what came of it."""
@@ -319,7 +355,7 @@ class Telling:
         enqueues, dequeues = self.told.ended(key, "enqueue", "ok"), self.told.ended(key, "dequeue", "ok")
         model = self.model_of(key)
         note = self._exchange.by_ends_note(model)
-        hint = hint_of_unknown(self.told.names(key), enqueues, dequeues, self._exchange.is_wide(model))
+        hint = hint_of_unknown(self._kind_of(key), self.told.names(key), enqueues, dequeues)
         return f"{hint}\n{note}" if note else hint
 
     # --- The end ---

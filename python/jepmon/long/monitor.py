@@ -92,7 +92,7 @@ class LongMonitor(LiveTest):
         names = f"{uuid.uuid4().hex[:12]}-" if names is None else names
         model = model_of(model)
         settings = Settings(program, model, budget, timeout, endings(expected, failed), begun, clock, names, {}, missing(initial, absent),
-                            by_ends)
+                            set(), by_ends)
         folder = LongFolder(out, begun, keep, page) if out is not None else None
         self._model, self._folder, self._unknown = model, folder, unknown
         self._judge = self._parts = Parts(settings, limits(events, keys, concurrency), folder, forget)

@@ -4,7 +4,7 @@ from __future__ import annotations
 from typing import TYPE_CHECKING, Optional
 
 from ..history.kinds import QUEUES
-from ..live.room import room_of
+from ..live.room import BY_ENDS, Room, room_of
 from ..live.values import integer, told
 
 if TYPE_CHECKING:
@@ -62,7 +62,7 @@ class LongObject(Operations):
         self.part, self.key, self.name, self.model = part, key, name, model
         self.open = 0  # operations
         self.timeouts = 0  # operations that may yet take place
-        self._parts, self._room, self._most_changes = parts, room_of(part.kind(model)), changes
+        self._parts, self._room_of_kind, self._most_changes = parts, room_of(part.kind(model)), changes
         self._answers = 0  # since it was replaced
         self._changes = 0
         self._held = 0  # how often a lock was taken, and not given back yet
@@ -103,6 +103,10 @@ class LongObject(Operations):
     def is_undrained(self) -> bool:
         """Whether it is a queue that may hold something yet."""
         return self.model in QUEUES and not self.is_read_enough and self.key not in self.part.dropped
+
+    @property
+    def _room(self) -> Room:
+        return BY_ENDS if self.key in self.part.equal_values else self._room_of_kind
 
     @property
     def has_room(self) -> bool:

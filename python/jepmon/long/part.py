@@ -1,7 +1,7 @@
 """One part of a test without an end: a program, and the objects that it judges."""
 from __future__ import annotations
 
-from typing import TYPE_CHECKING, Counter, Dict, List, Optional
+from typing import TYPE_CHECKING, AbstractSet, Counter, Dict, List, Optional
 
 from ..live.exchange import Exchange
 from ..live.record import Record
@@ -32,7 +32,7 @@ class Part:
             raise
         record = Record(None, self.folder, settings.clock)
         self.telling: Optional[Telling] = Telling(exchange, record, options, "drop", settings.endings, settings.homes,
-                                                     settings.missing)  # until it is closed
+                                                     settings.missing, settings.has_said)  # until it is closed
         self.telling.told.sources.are_new = True
         self.objects: List[LongObject] = []
         self.makers: List[Handle] = []  # of each object
@@ -79,6 +79,11 @@ class Part:
     def dropped(self) -> Dict[int, Unknown]:
         """Objects that are over their budget, by key."""
         return self.telling.dropped if self.telling is not None else {}
+
+    @property
+    def equal_values(self) -> AbstractSet[int]:
+        """Queues that are judged by their ends since values are equal, by key."""
+        return self.telling.equal_values if self.telling is not None else frozenset()
 
     def counts(self) -> Dict[str, Counter[str]]:
         """How its operations ended, by name."""

@@ -3,7 +3,7 @@ from __future__ import annotations
 
 import datetime
 import os
-from typing import Dict, NamedTuple, Union
+from typing import Dict, NamedTuple, Set, Union
 
 from ..live.outcome_rules import Endings
 from ..live.values import Missing
@@ -22,4 +22,5 @@ class Settings(NamedTuple):
     names: str  # what the names of objects begin with
     homes: Dict[int, int]  # the number of the client of each thread of Python
     missing: Missing
+    has_said: Set[str]  # what was reported once
     by_ends: bool = False

@@ -3,8 +3,8 @@
 An end is the result of one possible order of the operations. It has the state, the open operations that have taken place in it, each with
 its answer, and the timed-out ones that have (but not reads, which decide nothing). The words are those of docs/guide/BUDGETS.md. Where no
 end goes on the key is dead; where an ok meets more ends than the budget it is over. The proved program says both, and this walk must say
-the same: it is there to show what the program only counts. The program counts something else for the kinds wide-register and wide-set, so
-there `follow` gives up instead. It is tested against the program, and not proved. Where it would take too long it gives up, and then
+the same: it is there to show what the program only counts. The program counts something else for wide kinds, so there `follow` gives up
+instead. It is tested against the program, and not proved. Where it would take too long it gives up, and then
 nothing that it has found may be shown.
 
     walked = walk(of_key(events, 7), "register", 4096)

@@ -11,12 +11,13 @@ from typing import List, NamedTuple, Optional, Tuple, Union
 
 from ..history.kinds import BUDGET, WIDE, kind_of, model_of
 from ..tools.errors import ProgramError
-from .finding import CURE, find_program, has_wide_kinds
+from .equal_values import in_full, keys_by_ends
+from .finding import CURE, find_program, wide_kinds
 from .report import STATUSES, KeyLine, Report, report_of
 from .script import Script
 
 __all__ = ["CURE", "History", "KeyLine", "Options", "ProgramError", "Report", "STATUSES", "Script", "by_ends_note", "check", "find_program",
-           "has_wide_kinds", "report_of", "run_check"]
+           "in_full", "keys_by_ends", "report_of", "run_check", "wide_kinds"]
 
 History = Union[bytes, str, "os.PathLike[str]"]  # the bytes of a history, or the path of a file
 
@@ -28,17 +29,23 @@ class Options(NamedTuple):
     model: str = "register"
     budget: int = BUDGET
     workers: Optional[int] = None
-    by_ends: bool = False  # whether registers and sets are judged by all their ends, and not as wide kinds
+    by_ends: bool = False  # whether each key is judged by all its ends, and none as a wide kind
 
     def kind(self, program: Optional[str] = None, model: Optional[str] = None) -> str:
-        """The kind by which this program judges the model, or another one with these options. A program without wide kinds judges
+        """The kind by which this program judges the model, or another one with these options. A program that lacks the wide kind judges
         by ends."""
         model = model_of(self.model if model is None else model)
-        return kind_of(model, model not in WIDE or self.by_ends or not has_wide_kinds(program))
+        return kind_of(model, model not in WIDE or self.by_ends or WIDE[model] not in wide_kinds(program))
 
     def is_wide(self, program: Optional[str] = None) -> bool:
         """Whether this program counts the outcomes of the model in the other way."""
         return self.kind(program) != model_of(self.model)
+
+    def of_line(self, line: KeyLine, program: Optional[str] = None) -> Options:
+        """The options by which a key was judged alone, by its line in a report with these options: by ends if its values are equal
+        (equal_values.py)."""
+        own = self._replace(model=line.model, budget=line.budget, workers=None)
+        return own._replace(by_ends=self.by_ends or not line.is_wide and own.is_wide(program))
 
     def words(self, program: Optional[str] = None) -> List[str]:
         words = ["--concurrency", str(self.concurrency), "--model", self.kind(program), "--budget", str(self.budget)]
@@ -55,10 +62,14 @@ def by_ends_note(options: Options, program: Optional[str] = None) -> str:
 
 def check(history: History, options: Options = Options(), program: Optional[str] = None,
           timeout: Optional[float] = None) -> Report:
-    """Has a recorded history judged: its bytes, or the file of this path."""
+    """Has a recorded history judged: its bytes, or the file of this path. Queues whose values are equal are judged by their ends, and the
+    report is the one on all keys. A file is read a second time then."""
     file, raw = ("/dev/stdin", history) if isinstance(history, bytes) else (os.fspath(history), None)
-    output, error, status = run_check([file] + options.words(program), raw, program, timeout, subprocess.PIPE)
-    return report_of(output, error, status)
+
+    def asked(by: Options) -> Report:
+        return report_of(*run_check([file] + by.words(program), raw, program, timeout, subprocess.PIPE))
+
+    return in_full(options, asked)
 
 
 def run_check(words: List[str], raw: Optional[bytes] = None, program: Optional[str] = None, timeout: Optional[float] = None,

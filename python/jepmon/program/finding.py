@@ -1,18 +1,20 @@
-"""Where the program `jepmon` is, and whether it has the wide kinds."""
+"""Where the program `jepmon` is, and which wide kinds it has."""
 from __future__ import annotations
 
 import functools
 import os
 import pathlib
+import re
 import subprocess
 import sys
-from typing import Iterator, Optional
+from typing import FrozenSet, Iterator, Optional
 
 from ..history.kinds import WIDE
 from ..tools.errors import ProgramError
 
 CURE = "`./jepmon install DIR`, put DIR on the PATH, or set JEPMON"
 PROMPT = 5.0  # seconds in which the program prints its help
+KIND = re.compile("wide-[a-z]+(?:-[a-z]+)*")
 
 
 def find_program(named: Optional[str] = None) -> str:
@@ -48,16 +50,16 @@ def _is_program(path: pathlib.Path) -> bool:
         return False
 
 
-def has_wide_kinds(program: Optional[str] = None) -> bool:
-    """Whether the program has the kinds wide-register and wide-set. Versions up to 1.4.0 do not have them."""
-    return _has_wide_kinds(find_program(program))
+def wide_kinds(program: Optional[str] = None) -> FrozenSet[str]:
+    """The wide kinds that the program has. Versions up to 1.4.0 have none, and 1.5.0 has wide-register and wide-set."""
+    return _wide_kinds(find_program(program))
 
 
 @functools.lru_cache(maxsize=None)
-def _has_wide_kinds(name: str) -> bool:
+def _wide_kinds(name: str) -> FrozenSet[str]:
     try:
         ran = subprocess.run([name, "check", "--help"], stdin=subprocess.DEVNULL, stdout=subprocess.PIPE, stderr=subprocess.DEVNULL,
                              timeout=PROMPT)
     except (OSError, subprocess.TimeoutExpired):
-        return False  # whoever asks it for a verdict will say so
-    return all(kind.encode() in ran.stdout for kind in WIDE.values())
+        return frozenset()  # whoever asks it for a verdict will say so
+    return frozenset(WIDE.values()).intersection(KIND.findall(ran.stdout.decode("utf-8", "replace")))

@@ -13,7 +13,8 @@ import time
 import warnings
 from typing import Any, Callable, Dict, Iterator, List, Sequence, Tuple
 
-from ..program import Options
+from ..program import Options, Report, report_of
+from ..program.equal_values import is_left, joined
 from .doubt import ShardsError
 from .folder import OUT, TEXT, Written, write_report
 from .judging import Judged
@@ -69,6 +70,7 @@ class Tasks:
         self._options, self._program, self._patience = options, program, patience
         self._check = checker()
         self._running: Dict[Any, Written] = {}
+        self._left: Dict[str, Report] = {}  # of shards that are judged again by ends, since values are equal
         self._had_workers = time.monotonic()
 
     def reports(self, shards: Sequence[Written]) -> Iterator[Tuple[Written, str]]:
@@ -78,12 +80,17 @@ class Tasks:
                 self._send(waiting.pop())
             for future in self._done():
                 shard = self._running.pop(future)
-                yield shard, self._report(future, shard)
+                report, left = report_of(self._report(future, shard), "", 0), self._left.pop(shard.name, None)
+                if left is None and any(map(is_left, report.keys)):
+                    self._left[shard.name] = report
+                    self._send(shard, by_ends=True)
+                else:
+                    yield shard, (report if left is None else joined(left, report)).text
 
-    def _send(self, shard: Written) -> None:
+    def _send(self, shard: Written, by_ends: bool = False) -> None:
         with open(os.path.join(self._folder, shard.name + TEXT), "rb") as file:
             text = file.read()
-        words = self._options._replace(model=shard.model).words(self._program)
+        words = self._options._replace(model=shard.model, by_ends=by_ends or self._options.by_ends).words(self._program)
         future = self._client.submit(self._check, text, words, self._program, pure=False, retries=RETRIES)
         self._running[future] = shard
 

@@ -6,7 +6,7 @@ import re
 import subprocess
 from typing import List, NamedTuple, Optional, Sequence
 
-from ..program import Options, run_check
+from ..program import Options, Report, in_full, report_of, run_check
 from ..program.report import KeyLine, Place, key_line
 from .batches import NOWHERE, KeyMap, batches_of
 from .by_key import events_of
@@ -54,19 +54,16 @@ def judge_shard(task: ShardTask) -> Judged:
     for model, of_model in by_model(keys, task.options.model):
         options = task.options._replace(model=model)
         for batch in batches_of(of_model, rests, task.sizes):
-            report = checked(batch.text, words(options, task), task.program)
+            report = checked(batch.text, options._replace(concurrency=task.sizes.threads, workers=None), task.program)
             statuses += statuses_of(report, batch.keys, batch.places, options)
     return write_result(os.path.join(task.folder, task.name + ".result"), statuses)
 
 
-def checked(text: bytes, words: List[str], program: str) -> str:
-    """The program's output for a batch. Its other notes name keys and events that the history does not have."""
-    return run_check(["/dev/stdin", *words], text, program, stderr=subprocess.DEVNULL)[0]
-
-
-def words(options: Options, task: ShardTask) -> List[str]:
-    """The words by which a batch is checked."""
-    return options._replace(concurrency=task.sizes.threads, workers=None).words(task.program)
+def checked(text: bytes, options: Options, program: str) -> str:
+    """The program's report on a batch. Its other notes name keys and events that the history does not have."""
+    def asked(by: Options) -> Report:
+        return report_of(*run_check(["/dev/stdin", *by.words(program)], text, program, stderr=subprocess.DEVNULL))
+    return in_full(options, asked).text
 
 
 def statuses_of(report: str, keys: Sequence[KeyMap], places: Sequence[int], options: Options) -> List[Status]:

@@ -123,7 +123,7 @@ def judge(path: str, program: str) -> bool:
     checksum, out = checksum_of(text), path[:-len(TEXT)] + OUT if path.endswith(TEXT) else path + OUT
     if read_report(out, checksum) is not None:
         return False
-    report = tested_report(checked(text, options.words(program), program))
+    report = tested_report(checked(text, options, program))
     write_report(out, checksum, report)
     return True
 

@@ -61,7 +61,7 @@ class Given(NamedTuple):
     stages: Tuple[Stage, ...] = ()  # of --phases
     reserved: Tuple[float, ...] = ()  # of --reserve
     times: int = 1  # how many tests, with one seed after the other
-    by_ends: bool = False  # whether registers and sets are judged by all their ends
+    by_ends: bool = False  # whether each key is judged by all its ends
 
 
 class Outcome(NamedTuple):

@@ -179,8 +179,8 @@ class Words(argparse.ArgumentParser):
 
 def add_by_ends(parser: argparse.ArgumentParser) -> None:
     """Adds the option that turns the wide kinds off."""
-    parser.add_argument("--by-ends", action="store_true", help="judge registers and sets by all their possible outcomes (ends), as jepmon check "
-                        "--model register does: more keys are unknown then")
+    parser.add_argument("--by-ends", action="store_true", help="judge keys by all their possible outcomes (ends), as jepmon check --model register "
+                        "does, and not as wide kinds: more keys are unknown then")
 
 
 def run(name: str, main: Callable[[], int]) -> int:

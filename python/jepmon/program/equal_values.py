@@ -1,0 +1,57 @@
+"""Queues whose values are equal. The kind wide-fifo-queue judges a queue up to the first ok before which two enqueues of one value have not
+failed: from there on it is over. The plain kind judges such a queue by its ends. So a key that is over by the wide kind is judged by the
+plain kind too, and its line in the report is that of the kind which judged it further."""
+from __future__ import annotations
+
+from typing import TYPE_CHECKING, Callable, Iterable, List, Mapping, Optional, Sequence
+
+from ..history.kinds import DIFFERING, model_of
+from .report import DEAD, KeyLine, Place, Report, report_on, verdict_of
+
+if TYPE_CHECKING:
+    from . import Options
+
+NAMED = 6  # keys
+LEFT = ("key {}: two enqueues of one value have not failed, and by its ends the queue is over its budget before: give each message a value of "
+        "its own")
+
+def is_left(line: KeyLine) -> bool:
+    """Whether the wide kind left the key, since its values are equal."""
+    return line.kind == DIFFERING and line.status == "over"
+
+
+def in_full(options: Options, asked: Callable[[Options], Report]) -> Report:
+    """The report of a check by these options. The check is made again by ends if the wide kind left a key."""
+    report = asked(options)
+    return joined(report, asked(options._replace(by_ends=True))) if any(map(is_left, report.keys)) else report
+
+
+def joined(report: Report, by_ends: Report) -> Report:
+    """The report with the lines of the keys that were judged further by ends."""
+    if [line.key for line in report.keys] != [line.key for line in by_ends.keys]:
+        return report  # memory may have run out
+    lines = [further(line, other) if is_left(line) else line for line, other in zip(report.keys, by_ends.keys)]
+    verdict = verdict_of(first(lines, DEAD), first(lines, ("over",)), len(lines))
+    return report_on(lines, verdict, by_ends.error if by_ends.verdict == verdict.line else report.error)
+
+
+def further(line: KeyLine, by_ends: KeyLine) -> KeyLine:
+    """That of the two lines of a key which judges it further."""
+    return line if by_ends.status == "over" and (by_ends.index or 0) <= (line.index or 0) else by_ends
+
+
+def keys_by_ends(lines: Iterable[KeyLine], options: Options, program: Optional[str] = None) -> List[int]:
+    """The keys of a report by these options that were judged by ends since their values are equal."""
+    return [line.key for line in lines if not line.is_wide and options.kind(program, line.model) == DIFFERING]
+
+
+def note(keys: Sequence[int], names: Mapping[int, str] = {}) -> str:
+    """Reports that these keys, or those of these names, are judged by ends."""
+    shown = ", ".join(names.get(key, str(key)) for key in keys[:NAMED]) + (f" and {len(keys) - NAMED} more" if len(keys) > NAMED else "")
+    which, are = (f"keys {shown}", "they are") if len(keys) > 1 else (f"key {shown}", "it is")
+    return f"{which}: two enqueues of one value have not failed, so {are} judged by ends, as {model_of(DIFFERING)}"
+
+
+def first(lines: Sequence[KeyLine], statuses: Sequence[str]) -> Optional[Place]:
+    """The first event at which a key has one of these statuses."""
+    return min(((line.index or 0, line.key) for line in lines if line.status in statuses), default=None)

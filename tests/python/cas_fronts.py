@@ -1,0 +1,141 @@
+"""The ends of a register with compare and set, and their fronts, computed by their definition alone (`CasEnds.antt`): slow, and
+short enough to be compared with it line by line. The tests compare the program's kind wide-cas-register with it."""
+from __future__ import annotations
+
+from typing import Dict, Iterator, List, NamedTuple, Optional, Tuple, Union
+
+from .lean_ends import START, Ids, LeanEnd, without
+
+Part = Union[None, int, Tuple[int, int]]  # of a read, a write and a cas
+
+
+class Front(NamedTuple):
+    """An end before an answer, after a walk of operations that took place one after another, and whether the walk ends with a write."""
+
+    end: LeanEnd
+    writes: bool
+
+
+class CasRegister:
+    """One register's history: its ends, and `alive`, `dead I` or `over I`."""
+
+    def __init__(self, budget: int) -> None:
+        self.budget, self.status = budget, "alive"
+        self.ends = [START]
+        self.opened: Dict[int, Tuple[str, Part]] = {}
+        self.changes: Dict[int, Part] = {}  # open and crashed writes and cas operations
+        self.reads: Ids = frozenset()  # open ones
+
+    def invoke(self, op: int, name: str, value: Part) -> None:
+        if self.status != "alive":
+            return
+        self.opened[op] = name, value
+        if name != "read":
+            self.changes[op] = value
+            return
+        self.reads |= {op}
+        self.leave([end._replace(finds=end.finds | {(op, end.state)}) if end.state is not None else end for end in self.ends])
+
+    def complete(self, index: int, op: int, kind: str, answer: Optional[int]) -> None:
+        if self.status != "alive":
+            return
+        fronts = self.fronts() if kind == "ok" else []
+        if len(fronts) > self.budget:
+            self.status = f"over {index}"
+            return
+        made = [end for before in self.ends for end in self.after(before, op, kind, answer)]
+        made += [end for front in fronts for end in self.behind(front, op, answer)]
+        if self.opened.pop(op)[0] == "read":
+            self.reads -= {op}
+        elif kind != "info":
+            del self.changes[op]
+        self.leave(made)
+        if not self.ends:
+            self.status = f"dead {index}"
+
+    # --- What comes of one end, without a walk, and of a front ---
+
+    def after(self, end: LeanEnd, op: int, kind: str, answer: Optional[int]) -> Iterator[LeanEnd]:
+        name, value = self.opened[op]
+        if kind == "info":
+            yield without(end, op) if name == "read" else end
+        elif kind == "fail":
+            if op not in end.needed:
+                yield without(end, op)
+        elif name != "read" and op in end.needed or name == "read" and (op, answer) in end.finds:
+            yield without(end, op)
+        elif name == "write" and op in end.door:
+            yield without(self.before(end, op), op)
+        elif name == "read" and op in end.door:
+            for write in self.writes_of(answer):
+                if write not in end.needed and write in end.door:
+                    yield without(self.before(end, write), op)
+
+    def behind(self, front: Front, op: int, answer: Optional[int]) -> Iterator[LeanEnd]:
+        name, _ = self.opened[op]
+        if name == "read":
+            if answer is None or front.end.state == answer:
+                yield without(front.end, op)
+        else:
+            yield from (without(next.end, op) for next in self.next_by(front, op))
+
+    def writes_of(self, value: Optional[int]) -> Iterator[int]:
+        return (op for op, part in self.changes.items() if isinstance(part, int) and part == value)
+
+    def before(self, end: LeanEnd, write: int) -> LeanEnd:
+        """The write takes place just before the last one."""
+        value = self.changes[write]
+        assert isinstance(value, int)
+        return LeanEnd(end.state, end.needed | {write}, end.door - {write}, end.finds | {(read, value) for read in self.reads & end.door})
+
+    # --- Fronts ---
+
+    def fronts(self) -> List[Front]:
+        """Those of all ends, layer upon layer; some layers, if they are more than the budget."""
+        there = layer = [Front(end, False) for end in self.ends]
+        while layer and len(there) <= self.budget:
+            layer = self.layer(there, layer)
+            there = there + layer
+        return there
+
+    def layer(self, there: List[Front], layer: List[Front]) -> List[Front]:
+        """The fronts that one more operation makes of a layer, except for those that are less than a front that is there, or than another one."""
+        new: List[Front] = []
+        for front in [made for before in layer for op in self.changes for made in self.next_by(before, op)]:
+            if not any(self.is_less(front, other) for other in there + new):
+                new = [other for other in new if not self.is_less(other, front)] + [front]
+        return new
+
+    def next_by(self, front: Front, op: int) -> Iterator[Front]:
+        """The operation takes place behind all others, if it may: no write right behind a write, which it would hide."""
+        end, part = front.end, self.changes[op]
+        if op in end.needed:
+            return
+        needed = end.needed | {op}
+        if isinstance(part, tuple):
+            if end.state == part[0]:
+                yield Front(LeanEnd(part[1], needed, end.door, self.found(end, part[1])), False)
+        elif isinstance(part, int) and not front.writes:
+            writes = frozenset(each for each, value in self.changes.items() if isinstance(value, int))
+            yield Front(LeanEnd(part, needed, (self.reads | writes) - needed, self.found(end, part)), True)
+
+    def found(self, end: LeanEnd, value: int) -> "frozenset[Tuple[int, int]]":
+        return end.finds | {(read, value) for read in self.reads}
+
+    # --- What is left ---
+
+    def leave(self, made: List[LeanEnd]) -> None:
+        """Keeps the ends that are at most no other one."""
+        left: List[LeanEnd] = []
+        for end in dict.fromkeys(made):
+            if not any(self.is_at_most(end, other) for other in left):
+                left = [other for other in left if not self.is_at_most(other, end)] + [end]
+        self.ends = left
+
+    def is_less(self, front: Front, other: Front) -> bool:
+        return self.is_at_most(front.end, other.end) and (front.writes or not other.writes)
+
+    def is_at_most(self, end: LeanEnd, other: LeanEnd) -> bool:
+        opened = frozenset(self.opened)
+        return (end.state == other.state and other.needed <= end.needed and end.needed & opened <= other.needed
+                and end.door <= other.door and end.finds <= other.finds)
