@@ -12,7 +12,7 @@ import sys
 from typing import Dict, List, NamedTuple, Optional
 
 PROGRAM = "jepmon"
-MODELS = ("register", "cas-register", "mutex", "fifo-queue", "unordered-queue", "set", "wide-register", "wide-set")
+MODELS = ("register", "cas-register", "mutex", "fifo-queue", "unordered-queue", "set", "wide-register", "wide-cas-register", "wide-set", "wide-fifo-queue", "wide-unordered-queue")
 WORDS = {"--mode": ("strict", "sloppy"), "--faults": ("off", "on")}  # of `jepmon run`
 SUMMARY = "proved linearizability checker"
 VALUE = r"<?[A-Z][A-Z=]*>?|\{[^}]*\}"
