@@ -1,5 +1,5 @@
 #!/usr/bin/env python3
-"""Opens the pages of bad keys in a real browser (headless Chromium, driven by selenium; tests/setup installs both), and does
+"""Opens the pages of bad keys and of runs in a real browser (headless Chromium, driven by selenium; tests/setup installs both), and does
 there what a reader does. Ends with 'N passed, M failed', and where there is no browser with how many cases were skipped.
 
 With words, it runs the cases of these names alone. A folder after --pictures gets a picture of each page, in light and in dark.
@@ -23,6 +23,7 @@ from case_loop import differing, run_cases  # noqa: E402
 
 from tests.python.made_pages import HOSTILE, MADE, big  # noqa: E402  (it finds the package jepmon)
 
+import browser_runs  # noqa: E402
 from jepmon import page  # noqa: E402
 
 SECONDS = 2.0  # of the processor in which a page of 5,000 operations is open
@@ -369,7 +370,7 @@ def cases(browser: Browser) -> List[Tuple[str, Callable[[], List[str]]]]:
         finds_overlap)]
     found.append(("gave_up", functools.partial(no_ends, browser, "gave_up", "gave up at event 20")))
     found.append(("disagrees", functools.partial(no_ends, browser, "disagrees", "does not agree with the verdict")))
-    return found
+    return found + browser_runs.cases(browser)
 
 
 def main(words: List[str]) -> int:

@@ -4,8 +4,8 @@
 
 server.py   what a server is to the test; servers/ has Redis, etcd, PostgreSQL, RabbitMQ, ZooKeeper and
             beanstalkd, and wire/ their protocols
-cluster.py  the nodes (node.py), the links between them (links.py: switch.py and places.py, or proxy.py), and that none is left
-            behind (guard.py; undisturbed.py lets Ctrl-C wait for it)
+cluster.py  the nodes (node.py), and the links between them (links.py: switch.py and places.py, or proxy.py)
+guard.py    leaves none behind; undisturbed.py lets Ctrl-C wait for that
 strikes/    what is done to them, and when; needs.py says what the machine must have for it
 after.py    reads the bad key again after a finding; losses.py lists lost data, and crashes.py finds crashes
 facts.py    what a test says of itself in the run's folder, and the pages at its end
