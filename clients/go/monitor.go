@@ -27,12 +27,12 @@ import (
 type Model string
 
 const (
-	Register       Model = "register" // also "wide-register"
+	Register       Model = "register"     // also "wide-register"
 	CASRegister    Model = "cas-register" // also "wide-cas-register"
 	Mutex          Model = "mutex"
 	FIFOQueue      Model = "fifo-queue"
 	UnorderedQueue Model = "unordered-queue" // also "wide-unordered-queue"
-	Set            Model = "set" // also "wide-set"
+	Set            Model = "set"             // also "wide-set"
 
 	// WideFIFOQueue is a FIFO queue whose values all differ: then it is never unknown, however many clients share a key. It is unknown as
 	// soon as two enqueues of one value have not failed, and no budget decides it. A program before 1.6 judges it as FIFOQueue.
