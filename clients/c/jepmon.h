@@ -38,15 +38,16 @@
 #define JEPMON_MISTAKE 4        /* the test made a mistake: a key that is none, too many open operations */
 #define JEPMON_MAJOR 1          /* of the oldest program that this header works with */
 #define JEPMON_MINOR 4
+#define JEPMON_WIDE_MINOR 5     /* of the first one that has wide kinds */
 
 enum jepmon_outcome { JEPMON_OK, JEPMON_FAIL, JEPMON_INFO }; /* it took place; it did not; it may have, or may yet */
 
 struct jepmon_options {
     const char *program;    /* its path; else JEPMON names it, or a folder above this header has dist/jepmon, or it is on the PATH */
-    const char *model;      /* register, cas-register, mutex, fifo-queue, unordered-queue, set, wide-fifo-queue; register if none is named */
+    const char *model;      /* register, cas-register, mutex, fifo-queue, unordered-queue, set; register if none is named */
     int concurrency;        /* operations that may be open at once, 1 to 64; 64 if it is 0 */
     int budget;             /* outcomes of a key that are followed; the program's if it is 0 */
-    int by_ends;            /* keys are judged by all their outcomes: no model is judged as its wide kind */
+    int by_ends;            /* registers and sets are judged by all their outcomes, as `jepmon check --model register` does */
     int wait;               /* each event waits for its reply */
     int go_on;              /* a key over its budget does not end the test; jepmon_close gives 2 then */
     const int64_t *initial; /* what each register holds at first; none: it is missing */
@@ -65,19 +66,6 @@ struct jepmon_bytes {
     size_t length, room;
 };
 
-/* The program's second kind of a model: the same object, of which fewer outcomes count against the budget. */
-struct jepmon_wide {
-    const char *model, *kind;
-    int minor;    /* of the first program that has the kind */
-    int is_named; /* a monitor has it only if .model names the kind */
-};
-
-/* A wide fifo queue is unknown as soon as two enqueues of one value have not failed, so it is for queues whose values all differ. */
-static const struct jepmon_wide jepmon_wides[] = {
-    { "register", "wide-register", 5, 0 }, { "set", "wide-set", 5, 0 }, { "cas-register", "wide-cas-register", 6, 0 },
-    { "unordered-queue", "wide-unordered-queue", 6, 0 }, { "fifo-queue", "wide-fifo-queue", 6, 1 },
-};
-
 #define JEPMON_NAMES 8
 static const char *const jepmon_names[JEPMON_NAMES] = { "read", "write", "cas", "add", "enqueue", "dequeue", "acquire", "release" };
 static const char *const jepmon_outcomes[4] = { "ok", "fail", "info", "open" };
@@ -85,8 +73,7 @@ static const char *const jepmon_outcomes[4] = { "ok", "fail", "info", "open" };
 struct jepmon {
     struct jepmon_options options;
     char program[PATH_MAX];
-    const struct jepmon_wide *wide; /* of the model; NULL: it has none */
-    const char *kind; /* by which the program judges all keys: the wide one, if the program has it */
+    const char *kind; /* by which the program judges all keys: the wide one of the model, if there is one */
     char concurrency[16], budget[16];
     pid_t pid;
     int input, output;
@@ -320,13 +307,13 @@ static pid_t jepmon_spawn_(char *const words[], int *input, int *output, FILE *e
     return pid;
 }
 
-/* The wide kind of the model of this name; none: NULL. */
-static const struct jepmon_wide *jepmon_wide_(const char *name)
+/* Models of which the program has a second kind: the same object, of which fewer outcomes count against the budget. */
+static const char *const jepmon_kinds[2][2] = { { "register", "wide-register" }, { "set", "wide-set" } };
+
+/* The wide kind of a model; none: NULL. */
+static const char *jepmon_wide_(const char *model)
 {
-    for (size_t n = 0; n < sizeof jepmon_wides / sizeof *jepmon_wides; n++) {
-        const struct jepmon_wide *wide = &jepmon_wides[n];
-        if (!strcmp(wide->kind, name) || (!wide->is_named && !strcmp(wide->model, name))) return wide;
-    }
+    for (int n = 0; n < 2; n++) if (!strcmp(jepmon_kinds[n][0], model)) return jepmon_kinds[n][1];
     return NULL;
 }
 
@@ -348,8 +335,8 @@ static int jepmon_version_(struct jepmon *m)
         jepmon_fail_(m, 3, "refused: %s is no jepmon: its --version prints '%s'", m->program, line);
     else if (major != JEPMON_MAJOR || minor < JEPMON_MINOR)
         jepmon_fail_(m, 3, "refused: %s is %s: this header needs jepmon %d.%d or a later %d", m->program, line, JEPMON_MAJOR, JEPMON_MINOR, JEPMON_MAJOR);
-    else if (m->wide && minor >= m->wide->minor && !m->options.by_ends)
-        m->kind = m->wide->kind;
+    else if (minor >= JEPMON_WIDE_MINOR && !m->options.by_ends && jepmon_wide_(m->options.model))
+        m->kind = jepmon_wide_(m->options.model);
     return !m->status;
 }
 
@@ -360,8 +347,7 @@ static struct jepmon *jepmon_start(const struct jepmon_options *options)
     if (!m) abort();
     if (options) m->options = *options;
     if (!m->options.model) m->options.model = "register";
-    m->wide = jepmon_wide_(m->options.model);
-    if (m->wide) m->options.model = m->wide->model;
+    for (int n = 0; n < 2; n++) if (!strcmp(jepmon_kinds[n][1], m->options.model)) m->options.model = jepmon_kinds[n][0];
     m->kind = m->options.model;
     if (!m->options.concurrency) m->options.concurrency = 64;
     if (!m->options.timeout) m->options.timeout = 60;
@@ -602,18 +588,13 @@ static inline void jepmon_tail_(struct jepmon *m, struct jepmon_bytes *text)
 static inline void jepmon_hint_(struct jepmon *m, struct jepmon_bytes *text)
 {
     char line[PATH_MAX + 256];
-    if (m->wide && m->wide->is_named && !strcmp(m->wide->kind, m->kind)) {
-        snprintf(line, sizeof line, "\n  key %ld has two enqueues of one value that have not failed: let values differ, or take the model "
-                 "fifo-queue", m->key);
-        jepmon_text_(text, line);
-        return;
-    }
+    const char *wide = jepmon_wide_(m->options.model);
     snprintf(line, sizeof line, "\n  key %ld has more outcomes than its budget: raise .budget, let fewer clients use one key, or write to a new key "
              "after timeouts", m->key);
     jepmon_text_(text, line);
-    if (!m->wide || !strcmp(m->wide->kind, m->kind)) return;
-    if (m->options.by_ends) snprintf(line, sizeof line, ". Without .by_ends the kind %s may decide it", m->wide->kind);
-    else snprintf(line, sizeof line, ". %s does not have the kind %s: a newer jepmon may decide it", m->program, m->wide->kind);
+    if (!wide || !strcmp(wide, m->kind)) return;
+    if (m->options.by_ends) snprintf(line, sizeof line, ". Without .by_ends the kind %s may decide it", wide);
+    else snprintf(line, sizeof line, ". %s does not have the kind %s: a newer jepmon may decide it", m->program, wide);
     jepmon_text_(text, line);
 }
 

@@ -6,9 +6,8 @@ main([Table]) ->
     process_flag(trap_exit, true),
     {ok, Text} = file:read_file(filename:join(Table, "scenarios.txt")),
     Lines = [string:lexemes(Line, " ") || Line <- string:lexemes(binary_to_list(Text), "\n"), hd(Line) =/= $#],
-    {ok, Minor} = jepmon_program:version(jepmon_program:find(#{})),
     Results = [result(Table, Scenario, Wait) || Scenario <- scenarios(Lines, []), Wait <- [false, true],
-        since(Scenario) =< Minor, not (Wait andalso lists:member(["waiting", "no"], Scenario))],
+        not (Wait andalso lists:member(["waiting", "no"], Scenario))],
     Failed = length([R || R <- Results, R =/= ok]),
     io:format("~b passed, ~b failed~n", [length(Results) - Failed, Failed]),
     halt(min(1, Failed)).
@@ -16,9 +15,6 @@ main([Table]) ->
 scenarios([], All) -> lists:reverse([lists:reverse(Scenario) || Scenario <- All]);
 scenarios([["scenario" | _] = Line | More], All) -> scenarios(More, [[Line] | All]);
 scenarios([Line | More], [Last | All]) -> scenarios(More, [[Line | Last] | All]).
-
-%% The minor version of the program that the scenario needs, or 0.
-since(Scenario) -> lists:sum([list_to_integer(Minor) || ["since", Minor] <- Scenario]).
 
 result(Table, [["scenario", Name] | _] = Scenario, Wait) ->
     Result = try run(Table, Scenario, Wait) catch C:E:S -> {C, E, S} end,

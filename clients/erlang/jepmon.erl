@@ -9,10 +9,8 @@
 %% The mailbox of the server is the order of the history. An invocation is a call, since it has to stand before the request; a completion
 %% is a cast, since a late one makes an operation look longer, which never makes a false alarm. With `wait` each event waits for its reply.
 %%
-%% Options: program, model, concurrency, budget, by_ends, wait, initial, go_on, timeout (seconds), out. Models but mutex and
-%% fifo-queue are judged as their wide kinds, as wide-register, if the program has them: fewer outcomes count against the budget. by_ends turns
-%% that off. The model wide-fifo-queue is for queues whose values all differ. It is unknown as soon as two enqueues of one value have not
-%% failed, and no budget decides it. An operation is {read, Key}, {write, Key, Value},
+%% Options: program, model, concurrency, budget, by_ends, wait, initial, go_on, timeout (seconds), out. Registers and sets are judged as
+%% wide-register and wide-set, of which fewer outcomes count against the budget; by_ends turns that off. An operation is {read, Key}, {write, Key, Value},
 %% {cas, Key, Old, New}, {add, Key, Member}, {enqueue, Key, Message}, {dequeue, Key}, {acquire, Key} or {release, Key}. It ends by ok,
 %% {value, V}, missing, {values, List}, fail or info.
 -module(jepmon).

@@ -1,11 +1,10 @@
 %% The program of jepmon.erl: where it is, its version, its pipes, and what is said of a verdict.
 -module(jepmon_program).
--export([find/1, version/1, model/1, plain/1, kind/2, start/3, kill/1, errors/1, remove/2, tail/2, hinted/4, report/5, cause_of/1]).
+-export([find/1, version/1, model/1, kind/2, start/3, kill/1, errors/1, remove/2, tail/2, hinted/4, report/5, cause_of/1]).
 -define(MAJOR, 1).               % of the oldest program that this library works with
 -define(MINOR, 4).
--define(WIDE, #{                 % the wide kind of each model that has one, and the minor version of the first program that has the kind
-    register => {'wide-register', 5}, set => {'wide-set', 5}, 'cas-register' => {'wide-cas-register', 6},
-    'unordered-queue' => {'wide-unordered-queue', 6}, 'wide-fifo-queue' => {'wide-fifo-queue', 6}}).
+-define(WIDE_MINOR, 5).          % of the first one that has wide kinds
+-define(WIDE, #{register => 'wide-register', set => 'wide-set'}).
 
 %% The path that is named, or that JEPMON names; else the program in a folder above this library; else jepmon on the PATH.
 find(#{program := Path}) -> Path;
@@ -34,18 +33,11 @@ is_machine_code(Path) ->
     end.
 
 %% The model of this name, or of its wide kind.
-model(Name) -> maps:get(Name, maps:from_list([{Kind, Model} || {Model, {Kind, _}} <- maps:to_list(?WIDE)]), Name).
-
-%% The plain kind of the model.
-plain('wide-fifo-queue') -> 'fifo-queue';
-plain(Model) -> Model.
+model(Name) -> maps:get(Name, maps:from_list([{Kind, Model} || {Model, Kind} <- maps:to_list(?WIDE)]), Name).
 
 %% The kind by which a program of this minor version judges the model.
-kind(#{model := Model, by_ends := ByEnds}, Minor) ->
-    case maps:get(Model, ?WIDE, none) of
-        {Kind, First} when Minor >= First, not ByEnds -> Kind;
-        _ -> plain(Model)
-    end.
+kind(#{model := Model, by_ends := false}, Minor) when Minor >= ?WIDE_MINOR -> maps:get(Model, ?WIDE, Model);
+kind(#{model := Model}, _) -> Model.
 
 %% {ok, Minor}, or {error, Text}: what is wrong with the program or its version.
 version(Program) ->
@@ -146,12 +138,8 @@ tail(History, #{key := Key, index := Index}) ->
     [iolist_to_binary(io_lib:format("~b ~s", [N, Line])) || {N, Line} <- lists:nthtail(max(0, length(All) - 12), All)].
 
 %% The verdict with what helps if the key is over its budget.
-hinted(#{status := unknown, key := Key} = Verdict, _, _, 'wide-fifo-queue') ->
-    Verdict#{hint => unicode:characters_to_binary(io_lib:format(
-        "key ~b has two enqueues of one value that have not failed: let values differ, or take the model fifo-queue", [Key]))};
 hinted(#{status := unknown, key := Key} = Verdict, #{model := Model} = Options, Program, Kind) ->
-    {Second, _} = maps:get(Model, ?WIDE, {Kind, 0}),
-    Way = case {Second, Options} of
+    Way = case {maps:get(Model, ?WIDE, Kind), Options} of
         {Kind, _} -> "";
         {Wide, #{by_ends := true}} -> io_lib:format(". Without by_ends the kind ~s may decide it", [Wide]);
         {Wide, _} -> io_lib:format(". ~s does not have the kind ~s: a newer jepmon may decide it", [Program, Wide])
@@ -187,7 +175,7 @@ cause(File, Options, Program) ->
     case judge(Program) of
         none -> [];
         Judge ->
-            Words = [Judge, File, "--json", "--model", atom_to_list(plain(maps:get(model, Options))), "--concurrency", integer_to_list(maps:get(concurrency, Options))],
+            Words = [Judge, File, "--json", "--model", atom_to_list(maps:get(model, Options)), "--concurrency", integer_to_list(maps:get(concurrency, Options))],
             {_, Text} = quietly(Words, [{"JEPMON", Program}]),
             cause_of(Text)
     end.

@@ -6,7 +6,6 @@ import (
 	"errors"
 	"fmt"
 	"os"
-	"os/exec"
 	"path/filepath"
 	"strconv"
 	"strings"
@@ -46,25 +45,10 @@ func scenarios(t *testing.T) []scenario {
 	return all
 }
 
-// minorVersion gives the minor version of the program that is tested.
-func minorVersion(t *testing.T) int64 {
-	program := os.Getenv("JEPMON")
-	if program == "" {
-		program = "../../dist/jepmon"
-	}
-	said, err := exec.Command(program, "--version").Output()
-	numbers := strings.Split(string(said), ".")
-	if err != nil || len(numbers) < 3 {
-		t.Fatalf("%s: %v, and its --version prints %q", program, err, said)
-	}
-	return integer(numbers[1])
-}
-
 func TestConformance(t *testing.T) {
-	minor := minorVersion(t)
 	for _, scenario := range scenarios(t) {
 		for _, wait := range []bool{false, true} {
-			if wait && scenario.says("waiting", "no") || scenario.since() > minor {
+			if wait && scenario.says("waiting", "no") {
 				continue
 			}
 			name := scenario.name + map[bool]string{false: "", true: "_waiting"}[wait]
@@ -76,16 +60,6 @@ func TestConformance(t *testing.T) {
 			}
 		}
 	}
-}
-
-// since gives the minor version of the program that the scenario needs, or 0.
-func (s scenario) since() int64 {
-	for _, line := range s.lines {
-		if line[0] == "since" {
-			return integer(line[1])
-		}
-	}
-	return 0
 }
 
 func (s scenario) says(words ...string) bool {
@@ -130,7 +104,7 @@ func integer(word string) int64 {
 
 func (r *runner) step(words []string) error {
 	switch words[0] {
-	case "waiting", "since":
+	case "waiting":
 	case "model":
 		r.options.Model = jepmon.Model(words[1])
 	case "concurrency":

@@ -61,16 +61,13 @@ func hint(verdict *Verdict, o Options, p *program) string {
 	if verdict.Status != "unknown" {
 		return ""
 	}
-	if p.kind == WideFIFOQueue {
-		return fmt.Sprintf("key %d has two enqueues of one value that have not failed: let values differ, or take the model fifo-queue", verdict.Key)
-	}
 	text := fmt.Sprintf("key %d has more outcomes than its budget: raise Budget, let fewer clients use one key, or write to a new key after timeouts", verdict.Key)
-	switch of, is := wide[o.Model]; {
-	case !is || of.kind == p.kind:
+	switch kind := wide[o.Model]; {
+	case kind == "" || kind == p.kind:
 	case o.ByEnds:
-		text += ". Without ByEnds the kind " + string(of.kind) + " may decide it"
+		text += ". Without ByEnds the kind " + string(kind) + " may decide it"
 	default:
-		text += fmt.Sprintf(". %s does not have the kind %s: a newer jepmon may decide it", p.path, of.kind)
+		text += fmt.Sprintf(". %s does not have the kind %s: a newer jepmon may decide it", p.path, kind)
 	}
 	return text
 }
@@ -121,7 +118,7 @@ func cause(history string, o Options, p *program) string {
 	}
 	ctx, cancel := context.WithTimeout(context.Background(), time.Minute)
 	defer cancel()
-	command := exec.CommandContext(ctx, judge, history, "--json", "--model", string(o.Model.plain()), "--concurrency", strconv.Itoa(o.Concurrency))
+	command := exec.CommandContext(ctx, judge, history, "--json", "--model", string(o.Model), "--concurrency", strconv.Itoa(o.Concurrency))
 	command.Env = append(os.Environ(), "JEPMON="+p.path)
 	text, _ := command.Output()
 	var report struct {

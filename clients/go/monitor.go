@@ -27,49 +27,25 @@ import (
 type Model string
 
 const (
-	Register       Model = "register"     // also "wide-register"
-	CASRegister    Model = "cas-register" // also "wide-cas-register"
+	Register       Model = "register" // also "wide-register"
+	CASRegister    Model = "cas-register"
 	Mutex          Model = "mutex"
 	FIFOQueue      Model = "fifo-queue"
-	UnorderedQueue Model = "unordered-queue" // also "wide-unordered-queue"
-	Set            Model = "set"             // also "wide-set"
-
-	// WideFIFOQueue is a FIFO queue whose values all differ: then it is never unknown, however many clients share a key. It is unknown as
-	// soon as two enqueues of one value have not failed, and no budget decides it. A program before 1.6 judges it as FIFOQueue.
-	WideFIFOQueue Model = "wide-fifo-queue"
+	UnorderedQueue Model = "unordered-queue"
+	Set            Model = "set" // also "wide-set"
 )
 
-// wideKind is the program's second kind of an object, of which fewer outcomes count against the budget, and the minor version of the
-// first program that has it.
-type wideKind struct {
-	kind  Model
-	minor int
-}
-
-var wide = map[Model]wideKind{
-	Register:       {"wide-register", 5},
-	Set:            {"wide-set", 5},
-	CASRegister:    {"wide-cas-register", 6},
-	UnorderedQueue: {"wide-unordered-queue", 6},
-	WideFIFOQueue:  {WideFIFOQueue, 6},
-}
+// wide has the models of which the program has a second kind. It is the same object, and fewer outcomes count against the budget.
+var wide = map[Model]Model{Register: "wide-register", Set: "wide-set"}
 
 // modelOf is the model by one of its names.
 func modelOf(name Model) Model {
-	for model, of := range wide {
-		if of.kind == name {
+	for model, kind := range wide {
+		if kind == name {
 			return model
 		}
 	}
 	return name
-}
-
-// plain is the program's plain kind of the object.
-func (m Model) plain() Model {
-	if m == WideFIFOQueue {
-		return FIFOQueue
-	}
-	return m
 }
 
 // Absent is the value of a missing key. The key of a register begins with it, if Options.Initial is nil.
@@ -89,7 +65,7 @@ type Options struct {
 	Model       Model            // default: Register
 	Concurrency int              // operations that may be open at once, 1 to 64; default 64
 	Budget      int              // outcomes of a key that are followed; default: the program's
-	ByEnds      bool             // keys are judged by all their outcomes: no model is judged as its wide kind
+	ByEnds      bool             // registers and sets are judged by all their outcomes, as `jepmon check --model register` does
 	Wait        bool             // each event waits for its reply: no request is sent after a bad event
 	Initial     *int64           // what each register holds at first; default: it is missing
 	Failed      func(error) bool // whether an error means that the operation did not take place; default: ErrFailed and refused connections

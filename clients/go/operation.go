@@ -93,7 +93,7 @@ var operations = map[Model]string{
 }
 
 func (m *Monitor) argumentError(name string, key int) error {
-	if known := operations[m.options.Model.plain()]; !strings.Contains(" "+known+" ", " "+name+" ") {
+	if known := operations[m.options.Model]; !strings.Contains(" "+known+" ", " "+name+" ") {
 		return fmt.Errorf("jepmon: a %s has no operation %s: it has %s", m.options.Model, name, known)
 	}
 	return keyError(key)

@@ -19,8 +19,8 @@ import (
 	"time"
 )
 
-// The oldest program that this package works with.
-const needsMajor, needsMinor = 1, 4
+// The oldest program that this package works with, and the first one that has wide kinds.
+const needsMajor, needsMinor, wideMinor = 1, 4, 5
 
 const patience = 10 * time.Second // for what takes milliseconds
 
@@ -73,10 +73,10 @@ func chooseProgram(o Options) (string, Model, error) {
 	if err != nil {
 		return "", "", refused(err.Error())
 	}
-	if of, is := wide[o.Model]; is && !o.ByEnds && minor >= of.minor {
-		return path, of.kind, nil
+	if kind := wide[o.Model]; kind != "" && !o.ByEnds && minor >= wideMinor {
+		return path, kind, nil
 	}
-	return path, o.Model.plain(), nil
+	return path, o.Model, nil
 }
 
 // words are those options that `jepmon script` and `jepmon check` have.

@@ -1,6 +1,6 @@
 //! The lines of a history, for what is said of a verdict.
 use crate::program::{is_executable, on_path, Chosen};
-use crate::{Options, Status, Verdict, WIDE_FIFO_QUEUE};
+use crate::{Options, Status, Verdict};
 use std::io::Write;
 use std::path::{Path, PathBuf};
 use std::process::{Command, Stdio};
@@ -23,15 +23,12 @@ pub(crate) fn hint(verdict: &Verdict, options: &Options, program: &Chosen) -> Op
     if verdict.status != Status::Unknown {
         return None;
     }
-    let key = verdict.key;
-    if program.kind == WIDE_FIFO_QUEUE {
-        return Some(format!("key {key} has two enqueues of one value that have not failed: let values differ, or take the model fifo-queue"));
-    }
-    let way = match options.model.wide().map(|(kind, _)| kind).filter(|kind| *kind != program.kind) {
+    let way = match options.model.wide().filter(|kind| *kind != program.kind) {
         None => String::new(),
         Some(kind) if options.by_ends => format!(". Without by_ends the kind {kind} may decide it"),
         Some(kind) => format!(". {} does not have the kind {kind}: a newer jepmon may decide it", program.path.display()),
     };
+    let key = verdict.key;
     Some(format!(
         "key {key} has more outcomes than its budget: raise budget, let fewer clients use one key, or write to a new key after timeouts{way}"
     ))
@@ -75,7 +72,7 @@ fn cause(history: &Path, options: &Options, program: &Path) -> Vec<String> {
     };
     Command::new(judge)
         .arg(history)
-        .args(["--json", "--model", options.model.plain(), "--concurrency", &options.concurrency.to_string()])
+        .args(["--json", "--model", options.model.name(), "--concurrency", &options.concurrency.to_string()])
         .env("JEPMON", program)
         .stdin(Stdio::null())
         .stderr(Stdio::null())

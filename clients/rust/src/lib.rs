@@ -37,8 +37,6 @@ use std::time::Duration;
 /// The value of a missing key. The key of a register begins with it, if [`Options::initial`] is none.
 pub const ABSENT: i64 = i64::MIN;
 
-pub(crate) const WIDE_FIFO_QUEUE: &str = "wide-fifo-queue";
-
 /// The kind of object that each key is.
 #[derive(Clone, Copy, Debug, PartialEq, Eq)]
 #[allow(missing_docs)]
@@ -49,9 +47,6 @@ pub enum Model {
     FifoQueue,
     UnorderedQueue,
     Set,
-    /// A FIFO queue whose values all differ: then it is never unknown, however many clients share a key. It is unknown as soon as two
-    /// enqueues of one value have not failed, and no budget decides it. A program before 1.6 judges it as `FifoQueue`.
-    WideFifoQueue,
 }
 
 impl Model {
@@ -64,28 +59,15 @@ impl Model {
             Model::FifoQueue => "fifo-queue",
             Model::UnorderedQueue => "unordered-queue",
             Model::Set => "set",
-            Model::WideFifoQueue => WIDE_FIFO_QUEUE,
         }
     }
 
-    /// The name of the program's plain kind of the object.
-    pub(crate) fn plain(self) -> &'static str {
+    /// The name of the program's second kind of the same object, of which fewer outcomes count against the budget.
+    pub(crate) fn wide(self) -> Option<&'static str> {
         match self {
-            Model::WideFifoQueue => Model::FifoQueue.name(),
-            _ => self.name(),
-        }
-    }
-
-    /// The program's second kind of the same object, of which fewer outcomes count against the budget: its name, and the minor version
-    /// of the first program that has it.
-    pub(crate) fn wide(self) -> Option<(&'static str, u32)> {
-        match self {
-            Model::Register => Some(("wide-register", 5)),
-            Model::Set => Some(("wide-set", 5)),
-            Model::CasRegister => Some(("wide-cas-register", 6)),
-            Model::UnorderedQueue => Some(("wide-unordered-queue", 6)),
-            Model::WideFifoQueue => Some((WIDE_FIFO_QUEUE, 6)),
-            Model::FifoQueue | Model::Mutex => None,
+            Model::Register => Some("wide-register"),
+            Model::Set => Some("wide-set"),
+            _ => None,
         }
     }
 
@@ -94,7 +76,7 @@ impl Model {
             Model::Register => &["read", "write"],
             Model::CasRegister => &["read", "write", "cas"],
             Model::Mutex => &["acquire", "release"],
-            Model::FifoQueue | Model::UnorderedQueue | Model::WideFifoQueue => &["enqueue", "dequeue"],
+            Model::FifoQueue | Model::UnorderedQueue => &["enqueue", "dequeue"],
             Model::Set => &["add", "read"],
         }
     }
@@ -109,8 +91,8 @@ impl std::str::FromStr for Model {
 
     /// The model of this name, as `cas-register`, or of its kind, as `wide-register`.
     fn from_str(name: &str) -> Result<Model, Error> {
-        let all = [Model::Register, Model::CasRegister, Model::Mutex, Model::FifoQueue, Model::UnorderedQueue, Model::Set, Model::WideFifoQueue];
-        let found = all.iter().find(|model| model.name() == name || model.wide().map_or(false, |(kind, _)| kind == name));
+        let all = [Model::Register, Model::CasRegister, Model::Mutex, Model::FifoQueue, Model::UnorderedQueue, Model::Set];
+        let found = all.iter().find(|model| model.name() == name || model.wide() == Some(name));
         found.copied().ok_or_else(|| Error::Mistake(format!("there is no model {name}")))
     }
 }
@@ -126,7 +108,7 @@ pub struct Options {
     pub concurrency: usize,
     /// How many outcomes of a key are followed before it is unknown.
     pub budget: Option<u32>,
-    /// Keys are judged by all their outcomes: no model is judged as its wide kind.
+    /// Registers and sets are judged by all their outcomes, as `jepmon check --model register` does.
     pub by_ends: bool,
     /// Each event waits for its reply: no request is sent after a bad event.
     pub wait: bool,

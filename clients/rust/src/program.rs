@@ -10,6 +10,7 @@ use std::time::Duration;
 
 const MAJOR: u32 = 1; // of the oldest program that this crate works with
 const MINOR: u32 = 4;
+const WIDE_MINOR: u32 = 5; // of the first one that has wide kinds
 
 extern "C" {
     fn setsid() -> i32;
@@ -27,9 +28,8 @@ pub(crate) struct Chosen {
 impl Chosen {
     fn new(options: &Options) -> Result<Chosen, Verdict> {
         let path = find(options.program.as_deref())?;
-        let minor = minor_version(&path)?;
-        let wide = options.model.wide().filter(|(_, first)| minor >= *first && !options.by_ends);
-        let kind = wide.map_or(options.model.plain(), |(kind, _)| kind);
+        let has_wide = minor_version(&path)? >= WIDE_MINOR;
+        let kind = options.model.wide().filter(|_| has_wide && !options.by_ends).unwrap_or(options.model.name());
         let mut words = vec!["--concurrency".into(), options.concurrency.to_string(), "--model".into(), kind.into()];
         if let Some(budget) = options.budget {
             words.extend(["--budget".into(), budget.to_string()]);

@@ -1,7 +1,6 @@
 (ns jepmon.conformance-test
   "Runs the scenarios of clients/conformance, whose words clients/README.md explains."
   (:require [clojure.java.io :as io]
-            [clojure.java.shell :refer [sh]]
             [clojure.string :as str]
             [clojure.test :refer [deftest is]]
             [jepmon.live :as live])
@@ -112,20 +111,8 @@
                  :when wrong]
              (str (str/join " " words) ": it is " reply " " counts)))))
 
-(defn minor-version
-  "The minor version of the program that is tested."
-  []
-  (let [program (or (System/getenv "JEPMON") (str (io/file table ".." ".." "dist" "jepmon")))]
-    (parse-long (second (re-find #"^jepmon \d+\.(\d+)\." (:out (sh program "--version")))))))
-
-(defn since
-  "The minor version of the program that the scenario needs, or 0."
-  [scenario]
-  (or (some (fn [[word minor]] (when (= "since" word) (parse-long minor))) scenario) 0))
-
 (deftest scenarios-of-the-table
-  (doseq [minor [(minor-version)], scenario (scenarios), wait? [false true]
-          :when (<= (since scenario) minor)
+  (doseq [scenario (scenarios), wait? [false true]
           :when (not (and wait? (some #{["waiting" "no"]} scenario)))
           :let [name (str (second (first scenario)) (when wait? "_waiting"))
                 wrong (try (fault scenario wait?) (catch Throwable e (str e)))]]

@@ -42,9 +42,6 @@ final class History {
     }
 
     private static String hint(Verdict verdict, Options options, Program program) {
-        if (program.kind.equals(Model.WIDE_FIFO_QUEUE.wide)) {
-            return "key " + verdict.key + " has two enqueues of one value that have not failed: let values differ, or take the model fifo-queue";
-        }
         String text = "key " + verdict.key + " has more outcomes than its budget: raise budget, let fewer clients use one key, or write to a new key"
             + " after timeouts";
         String kind = options.model.wide;

@@ -53,7 +53,7 @@ public final class Options implements Cloneable {
         return with(o -> o.budget = outcomes);
     }
 
-    /** Keys are judged by all their outcomes: no model is judged as its wide kind. */
+    /** Registers and sets are judged by all their outcomes, as {@code jepmon check --model register} does. */
     public Options byEnds() {
         return with(o -> o.byEnds = true);
     }

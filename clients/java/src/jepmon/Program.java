@@ -16,6 +16,7 @@ import java.util.regex.Pattern;
 /** The running {@code jepmon script}. */
 final class Program {
     private static final int MAJOR = 1, MINOR = 4; // of the oldest program that this package works with
+    private static final int WIDE_MINOR = 5; // of the first one that has wide kinds
     private static final int PATIENCE = 10; // seconds, for what takes milliseconds
     private static final Pattern VERSION = Pattern.compile("jepmon (\\d+)\\.(\\d+)\\.\\d+\n[\\s\\S]*");
 
@@ -25,7 +26,7 @@ final class Program {
 
     Program(Options options) {
         path = find(options.program);
-        boolean hasWide = minorVersion(path) >= options.model.wideMinor;
+        boolean hasWide = minorVersion(path) >= WIDE_MINOR;
         kind = options.model.wide != null && !options.byEnds && hasWide ? options.model.wide : options.model.word;
         List<String> words = words("script", "--strict", options);
         try {
@@ -94,7 +95,7 @@ final class Program {
         }
     }
 
-    static int minorVersion(String path) {
+    private static int minorVersion(String path) {
         String said;
         try {
             Process asked = new ProcessBuilder(path, "--version").redirectError(ProcessBuilder.Redirect.DISCARD).start();

@@ -26,9 +26,7 @@ class ConformanceTest {
 
     @Test void scenarios() throws Exception {
         List<String> failed = new ArrayList<>();
-        int minor = Program.minorVersion(Program.find(null));
         for (List<String[]> scenario : read()) {
-            if (scenario.stream().anyMatch(line -> line[0].equals("since") && Integer.parseInt(line[1]) > minor)) continue;
             for (boolean waits : new boolean[] {false, true}) {
                 if (waits && scenario.stream().anyMatch(line -> String.join(" ", line).equals("waiting no"))) continue;
                 String name = scenario.get(0)[1] + (waits ? "_waiting" : "");
@@ -79,7 +77,7 @@ class ConformanceTest {
 
     private void step(String[] words) throws Exception {
         switch (words[0]) {
-            case "scenario", "waiting", "since" -> { }
+            case "scenario", "waiting" -> { }
             case "model" -> {
                 Options chosen = Options.of(Model.of(words[1])).out(out);
                 options = options.waits ? chosen.waiting() : chosen;

@@ -23,8 +23,7 @@ fn scenarios() {
         all.last_mut().unwrap().push(words);
     }
     let mut failed = vec![];
-    let minor = minor_version();
-    for scenario in all.iter().filter(|scenario| since(scenario) <= minor) {
+    for scenario in &all {
         for wait in [false, true] {
             if wait && scenario.contains(&vec!["waiting", "no"]) {
                 continue;
@@ -40,18 +39,6 @@ fn scenarios() {
         }
     }
     assert!(failed.is_empty(), "failed: {failed:?}");
-}
-
-/// The minor version of the program that is tested.
-fn minor_version() -> u32 {
-    let program = std::env::var_os("JEPMON").map_or_else(|| table().join("../../dist/jepmon"), PathBuf::from);
-    let told = std::process::Command::new(program).arg("--version").output().unwrap();
-    String::from_utf8_lossy(&told.stdout).split('.').nth(1).unwrap().parse().unwrap()
-}
-
-/// The minor version of the program that the scenario needs, or 0.
-fn since(scenario: &[Vec<&str>]) -> u32 {
-    scenario.iter().find(|words| words[0] == "since").map_or(0, |words| words[1].parse().unwrap())
 }
 
 /// What a scenario says before its first operation.
