@@ -11,9 +11,10 @@ import unittest
 from typing import Any, Dict, Iterator, List, Tuple
 from unittest import mock
 
-from jepmon.forms import Refused, door, files, plain_rows
+from jepmon.forms import Refused, door, files, json_lines, plain_rows
+from jepmon.forms import rows as rows_of_files
 from jepmon.forms.row_events import Events
-from jepmon.forms.rows import Row
+from jepmon.forms.runs import Run
 from jepmon.judge import words
 from tests.forms_fuzz.cases import cases
 
@@ -45,14 +46,13 @@ class Counted:
 
     @contextlib.contextmanager
     def counting(self) -> Iterator[None]:
-        whole = Events.take_run
+        whole = Events._take_plain
 
-        def take_run(events: Events, rows: Iterator[Row]) -> Any:
-            passed: List[Row] = []
-            odd = whole(events, (passed.append(row) or row for row in rows))  # type: ignore[func-returns-value]
-            self.count += len(passed) - (odd is not None)
-            return odd
-        with mock.patch.object(Events, "take_run", take_run):
+        def take_plain(events: Events, run: Run, begin: int, told: plain_rows.ToldByPlans) -> int:
+            end = whole(events, run, begin, told)
+            self.count += end - begin
+            return end
+        with mock.patch.object(Events, "_take_plain", take_plain):
             yield
 
 
@@ -67,7 +67,7 @@ class PlainRows(unittest.TestCase):
     def assert_same(self, given: words.Given) -> None:
         with self.counted.counting():
             by_plans = what_comes(given)
-        with mock.patch.object(plain_rows.Plans, "learn"):
+        with mock.patch.object(plain_rows.Plans, "learn"), mock.patch.object(rows_of_files, "rows_of_lines", return_value=None):
             self.assertEqual(by_plans, what_comes(given), given.histories)
 
     def test_printed_histories(self) -> None:

@@ -15,7 +15,7 @@ function, so that a process can send it to another one.
 from __future__ import annotations
 
 import collections
-from typing import Counter, Iterator, List, NamedTuple
+from typing import Counter, Iterator, List, NamedTuple, Optional
 
 from . import Refused
 
@@ -56,11 +56,12 @@ class Account:
             self._until = max(self._until, last)
         self.taken += self._latest
 
-    def drop(self, reason: str) -> None:
-        """Skips the lines that were taken last: they hold no event."""
-        self.taken -= self._latest
-        self.skip(reason, self._latest)
-        self._latest = 0
+    def drop(self, reason: str, lines: Optional[int] = None) -> None:
+        """Skips so many lines that were taken, or those that were taken last: they hold no event."""
+        if lines is None:
+            lines, self._latest = self._latest, 0
+        self.taken -= lines
+        self.skip(reason, lines)
 
     def took_none(self, reason: str, first: int, last: int) -> None:
         """Records lines that are not events, with the reason. It does not count again those that hold a part of an event too."""

@@ -28,6 +28,7 @@ from .clients import Clients
 from .clock import nanoseconds
 from .files import Several, Source
 from .mapping import LINES, Mapping
+from .runs import Drawn, Found
 from .written import Written
 
 OWN, JEPSEN, KEYED, LOG = "jepmon's own form", "Jepsen's form", "EDN with a key in each event", "a log, an operation a line"
@@ -198,17 +199,17 @@ def _written(source: Source, form: str, asked: rows_told.Asked, account: Account
     return made
 
 
-def _rows(source: Source, form: str, mapping: Mapping, account: Account) -> Iterator[rows.Row]:
+def _rows(source: Source, form: str, mapping: Mapping, account: Account) -> Iterator[Found]:
     """The rows of a file, or of several."""
     if not isinstance(source, Several):
         yield from rows_of(form, source.texts(), mapping, account)
         return
     for part, base in zip(source.parts, source.bases):
-        for line, fields in rows_of(form, part.texts(), mapping, Shifted(account, base)):
-            yield rows.Row(base + line, fields)
+        for row in Drawn(rows_of(form, part.texts(), mapping, Shifted(account, base))):
+            yield row._replace(line=base + row.line)
 
 
-def rows_of(form: str, texts: Iterable[str], mapping: Mapping, account: Account) -> Iterator[rows.Row]:
+def rows_of(form: str, texts: Iterable[str], mapping: Mapping, account: Account) -> Iterator[Found]:
     """The rows of a text of this form."""
     if form == detect.JSON:
         return rows.of_json(texts, mapping, account)

@@ -15,7 +15,7 @@ from ..from_jepsen.clients import Clients
 from . import Refused, rows_told
 from .account import Account
 from .files import Source
-from .rows import Row
+from .runs import Row
 from .written import Written
 
 LOOKED_AT = 50  # elements within which the first event of a client is looked for

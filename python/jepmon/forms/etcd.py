@@ -8,7 +8,7 @@ from __future__ import annotations
 from typing import Any, Dict, List, NoReturn, Optional
 
 from . import Refused
-from .rows import Row
+from .runs import Row
 from .vocabulary import plain
 from .written import Writer
 
@@ -47,7 +47,7 @@ def turned(row: Row, writer: Writer) -> Optional[Row]:
         fields.update(_write(row, _inner(row, asked, "txn")))
     else:
         _refuse(row, "a lease")
-    return Row(row.line, fields)
+    return row._replace(fields=fields)
 
 
 def _error(row: Row, came: Dict[str, Any]) -> Any:

@@ -8,7 +8,8 @@ from . import Refused
 from .account import Account
 from .cells import cell_value, quoted_value
 from .mapping import Mapping
-from .rows import BLANK, Lines, Row
+from .rows import BLANK, Lines
+from .runs import Row
 
 PAIR = re.compile(r'([\w.@/\-]+)=(?:"((?:[^"\\]|\\.)*)"|([^\s"]*))(?:\s+|$)')
 LOGFMT = re.compile(r'\s*(?:[\w.@/\-]+=(?:"(?:[^"\\\n]|\\.)*"|[^\s"]*)(?:[ \t]+|\r?$)){2,}', re.M)

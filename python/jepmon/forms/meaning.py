@@ -10,7 +10,7 @@ from .account import Account
 from .clock import Clock, Time, nanoseconds
 from .mapping import Mapping
 from .outcomes import Outcomes, Said, error_of, truth
-from .rows import Row
+from .runs import Row
 from .shapes import Fields, Shape, Shapes, Use, allowed, short, shown
 from .vocabulary import OF_STACKS, both_of, plain
 from .written import MISSING, element

@@ -47,14 +47,14 @@ class Blocks:
             self._timed += 1
             self._latest = time
 
-    def take_run(self, clients: Sequence[Any], line: int, times: Sequence[Time]) -> None:
-        """Takes events that stand a line each, from this line on; all have times, or none."""
-        known = set(clients)
+    def take_run(self, clients: Sequence[Any], line: int, times: Sequence[Optional[Time]]) -> None:
+        """Takes events that stand a line each, from this line on. `times` may be empty: then none has one."""
+        known, timed = set(clients), [time for time in times if time is not None]
         if known <= self._first.keys():
             self._join(min(self._first[client] for client in known))
             self._count += len(clients)
-            self._timed += len(times)
-            self._latest = times[-1] if times else self._latest
+            self._timed += len(timed)
+            self._latest = timed[-1] if timed else self._latest
             return
         for place, client in enumerate(clients):
             self.take(client, line + place, times[place] if times else None)

@@ -3,6 +3,7 @@ from __future__ import annotations
 
 from typing import Any, Dict, Iterator, List, Optional, Tuple, Union
 
+from ..from_jepsen.taken import ANSWERED as ANSWERED_BY
 from . import Refused
 from .account import ORDER, Account
 from .answers import completed
@@ -10,8 +11,8 @@ from .clock import Time
 from .mapping import LINES, Mapping
 from .meaning import ANSWERED, MISSING, Reader, Told
 from .order import EITHER, Blocks
-from .plain_rows import Plans, plain_key, plain_part
-from .rows import Row
+from .plain_rows import NOTHING_TOLD, Plans, ToldByPlans
+from .runs import Drawn, Row, Run
 from .unfinished import Unfinished
 from .written import Writer, element, value_of, word
 
@@ -71,67 +72,74 @@ class Events:
         if self._writer.collector.meant.says_nothing:
             self._plans.learn(row)
 
-    def take_run(self, rows: Iterator[Row]) -> Optional[Row]:
-        """Takes rows that are plainly events by their plans, with what take() would do. Gives the first row that is none."""
-        plans, words, opened, clients = self._plans.by_names, self._plans.words, self._opened, self._clients
-        collector, reader, are_numbers = self._writer.collector, self._reader, self._are_numbers
-        history = collector.history
-        for row in rows:
-            line, fields = row
-            plan = plans.get(tuple(fields))
-            if plan is None or self._unfinished.clients:
-                return row
-            shape, pick, has_key, has_value, has_time, factor, numbered, others = plan
-            client, word, said, key, value, time = pick(fields)
-            found = words.get((word, said)) if type(word) is str and type(said) is str else None
-            process = client if are_numbers else clients.get(client) if type(client) is str else None
-            if found is None or type(process) is not int or process < 0:
-                return row
-            kind, name = found
-            key = plain_key(key) if has_key else collector.lone_key
-            part = plain_part(name, value) if has_value else "nil"
-            if kind == "invoke":
+    def odd_rows(self, drawn: Drawn) -> Iterator[Row]:
+        """Takes rows that are plainly events by their plans, with what take() would do. Gives each other row, which is to be taken before the
+        next one is asked for."""
+        for run in drawn.runs():
+            at, known, told = 0, -1, NOTHING_TOLD
+            while at < len(run.rows):
+                if not self._unfinished.clients:
+                    if known != self._plans.known:  # also if something was learned by the last odd row
+                        known, told = self._plans.known, self._plans.read(run.rows, at, None if self._are_numbers else self._clients)
+                    at = self._take_plain(run, at, told)
+                if at < len(run.rows):
+                    yield run.row(at)
+                    at += 1
+
+    def _take_plain(self, run: Run, begin: int, told: ToldByPlans) -> int:
+        """Takes the rows from this place on, up to the first that is not plain; its place."""
+        opened, latest, last_index, collector = self._opened, self._latest, self._reader.last_index, self._writer.collector
+        takes, invocations, lone_key, at = collector.takes, collector.open, collector.lone_key, begin
+        for at in range(begin, len(run.rows)):
+            event = told.events[at]
+            if event is None:
+                break
+            kind, process, name, key, part, time, beside, index, client = event
+            if kind == ":invoke":
                 if process in opened:
-                    return row
+                    break
+                key = key or lone_key  # type: ignore[assignment]
             elif type(opened.get(process)) is not Row:
-                return row
+                break
             else:
-                invoked = collector.open[process]
-                key = key if has_key else invoked[3]
-                part = part if part != "nil" or name in ANSWERED else invoked[4]
-            beside = None
-            if has_time:
-                if type(time) is not int and (type(time) is not float or time - time != 0) or self._latest is None:
-                    return row
-                time *= factor
-                if time < self._latest:
-                    return row
-                beside = int(time), None
-            if numbered is not None and not (type(fields[numbered]) is int and fields[numbered] > reader.last_index):
-                return row
-            if part is None or type(key) is not str or others and any(type(fields[other]) is dict for other in others):
-                return row
-            if not collector.takes((f":{kind}", process, f":{name}", key, part, collector.count, line, beside)):
-                return row
-            # The row is taken. The rest is for the tests of the next rows, and for the notes at the end.
+                invoked = invocations[process]
+                key = key or invoked[3]
+                part = part if part != "nil" or name in ANSWERED_BY else invoked[4]
+            if time is not None and (latest is None or time < latest) or index is not None and index <= last_index or type(key) is not str:
+                break
+            if not takes((kind, process, name, key, part, collector.count, run.line + at, beside)):
+                break
+            # The row is taken. The rest is for the tests of the next rows.
             collector.count += 1
-            if kind == "invoke":
-                opened[process] = row
+            if kind == ":invoke":
+                opened[process] = Row(run.line + at, run.rows[at], run.lines)
             else:
                 del opened[process]
-            if has_value and type(value) is str:
-                history.is_plain = False
-            if has_time:
-                if time == self._latest:
-                    self._tie(line, client)
-                self._latest, self._latest_client = time, client
-            self._blocks.take(process, line, time if has_time else None)
-            if numbered is not None:
-                reader.last_index = fields[numbered]
-            shape.count += 1
-            for name in shape.unknown:
-                reader.shapes.unused(line, name, fields[name])
-        return None
+            if time is not None:
+                if time == latest:
+                    self._tie(run.line + at, client)
+                latest, self._latest_client = time, client
+            last_index = last_index if index is None else index
+        else:
+            at = len(run.rows)
+        self._latest, self._reader.last_index = latest, last_index
+        self._note(run, begin, at, told)
+        return at
+
+    def _note(self, run: Run, begin: int, end: int, told: ToldByPlans) -> None:
+        """Notes what is said at the end of the rows from one place up to another, which were taken."""
+        if begin == end:
+            return
+        events, plans = told.events[begin:end], told.plans[begin:end]
+        for plan in set(plans):
+            plan.shape.count += plans.count(plan)  # type: ignore[union-attr]
+        for at, plan in enumerate(plans, begin) if any(plan.shape.unknown for plan in set(plans)) else ():  # type: ignore[union-attr]
+            for name in plan.shape.unknown:  # type: ignore[union-attr]
+                self._reader.shapes.unused(run.line + at, name, run.rows[at][name])
+        self._blocks.take_run([event[1] for event in events], run.line + begin, [event[5] for event in events])  # type: ignore[index]
+        history = self._writer.collector.history
+        if history.is_plain and self._plans.has_texts:
+            history.is_plain = not any(type(event[4]) is str and event[4][0] == '"' for event in events)  # type: ignore[index]
 
     def _test_time(self, told: Told) -> None:
         if told.time is None:

@@ -8,12 +8,14 @@ from __future__ import annotations
 import csv
 import json
 import re
-from typing import Any, Dict, Iterable, Iterator, List, NamedTuple, Optional, Tuple
+from typing import Any, Dict, Iterable, Iterator, List, Optional, Tuple
 
 from . import Refused, spans, traces
 from .account import Account
 from .cells import DECODER, Twice, cell_value, spelled
+from .json_lines import MOST, rows_of_lines
 from .mapping import Mapping
+from .runs import Found, Row, Run
 from .vocabulary import plain
 
 SPACE = re.compile(r"(?:[\s,]+|(?:#|//)[^\n]*)*")  # also comments
@@ -24,17 +26,10 @@ BLANK, BRACKETS, HEADING = "blank", "brackets alone", "the heading"
 OF_A_ROW = {"f", "op", "process", "client", "clientid"}  # an object with a field of these is a row
 
 
-class Row(NamedTuple):
-    """An object: its line in the file, and its fields."""
-
-    line: int
-    fields: Dict[str, Any]
-
-
 # --- JSON ---
 
 
-def of_json(texts: Iterable[str], mapping: Mapping, account: Account) -> Iterator[Row]:
+def of_json(texts: Iterable[str], mapping: Mapping, account: Account) -> Iterator[Found]:
     """The objects of a JSON text, which comes in pieces of whole lines."""
     text = _Pieces(texts)
     text.pass_gap()
@@ -76,10 +71,19 @@ class _Pieces:
         self._last = ""
         self._comments = 0  # lines
 
-    def rows_a_line(self, account: Account) -> Iterator[Row]:
+    def rows_a_line(self, account: Account) -> Iterator[Found]:
         """The rows that follow in the text that is held, as long as each is an object in a line of its own."""
         text, at, line, scan = self.text, self.at, self.line(), DECODER.scan_once  # type: ignore[attr-defined]
+        alone = at  # the end of the lines that are read one by one
         while text.startswith("\n{", at):
+            if at >= alone:
+                alone = text.rfind("\n", at + 1, at + MOST)
+                rows = rows_of_lines(text[at + 1:alone]) if alone > at else None
+                if rows is not None:
+                    account.took(line + 1, line + len(rows))
+                    yield Run(line + 1, rows)
+                    at, line = alone, line + len(rows)
+                    continue
             try:
                 value, end = scan(text, at + 1)
             except (ValueError, StopIteration, RecursionError, Twice):  # _decoded() reports it

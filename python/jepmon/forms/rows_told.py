@@ -17,11 +17,11 @@ from .meaning import MISSING, Reader, Told
 from .order import APART, BY_TIMES, ONE_CLOCK, SKEW
 from .pairs import Pairs
 from .row_events import Events, TimesGoBack, is_nemesis
-from .rows import Row
+from .runs import Drawn, Found, Row
 from .shapes import shown
 from .written import Writer, Written
 
-Rows = Callable[[Account], Iterable[Row]]  # which may be read twice, each time with an account of its own
+Rows = Callable[[Account], Iterable[Found]]  # which may be read twice, each time with an account of its own
 
 
 class Asked(NamedTuple):
@@ -61,8 +61,8 @@ class _Turning:
         self._clients = Clients(asked.source, asked.mapping.clients)
 
     def written(self) -> Written:
-        rows = iter(self._rows(self._account))
-        told = self._all_told(rows)
+        drawn = Drawn(self._rows(self._account))
+        told = self._all_told(drawn)
         first = next(told, None)
         if first is None:
             if self._account.skipped[OTHERS]:
@@ -75,19 +75,17 @@ class _Turning:
             return self._of_events_by_times(told, 0)
         events = Events(self._writer, self._reader, self._account, self._mapping)
         events.take(first)
-        row = events.take_run(rows)
-        while row is not None:
+        for row in events.odd_rows(drawn):
             taken = self._told(row)
             if taken is not None:
                 events.take(taken)
                 events.learn(row)
-            row = events.take_run(rows)
         self._close()
         return self._writer.written(events.notes())
 
     def by_times(self, first_back: int) -> Written:
         """The events in the order of their times, which go back in this line."""
-        return self._of_events_by_times(self._all_told(self._rows(self._account)), first_back)
+        return self._of_events_by_times(self._all_told(Drawn(self._rows(self._account))), first_back)
 
     def _of_events_by_times(self, told: Iterable[Told], first_back: int) -> Written:
         pairs = Pairs(self._writer, self._reader, self._account, self._mapping, first_back)
@@ -128,7 +126,7 @@ class _Turning:
             row = turned
         told = self._reader.told(row)
         if told is None:
-            self._account.drop(OTHERS)
+            self._account.drop(OTHERS, row.lines)
         elif self._clients.are_of_several_files and told.client is not MISSING and not is_nemesis(told):
             return told._replace(client=self._clients.named(told.client, told.line))
         return told

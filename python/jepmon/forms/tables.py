@@ -9,7 +9,8 @@ from . import Refused
 from .account import Account
 from .cells import cell_value
 from .mapping import Mapping
-from .rows import BLANK, HEADING, Lines, Row, columns_of
+from .rows import BLANK, HEADING, Lines, columns_of
+from .runs import Row
 
 RULED = " |+\u2500-\u257f-"  # characters of rulers
 FRONT = re.compile(r"[^\n|]*\|[^\n]*\n[ |+-]*--[ |+-]*\n|\+--[+-]*\+\n|[┌╔╭┏][┬╦┳─═━]+[┐╗╮┓]\n")  # with which a table begins

@@ -130,7 +130,6 @@ class Collector:
             elif part != invoked[4]:
                 return False
             del self.open[process]
-        self.history.count(row)
         self.rows.append(row)
         if len(self.rows) >= MOST_ROWS:
             self.keep_rows()
@@ -180,6 +179,7 @@ class Collector:
 
     def keep_rows(self) -> None:
         if self.rows:
+            self.history.count_rows(self.rows)
             self.history.events.extend(self.rows)
             self.rows = []
 

@@ -2,7 +2,8 @@
 from __future__ import annotations
 
 import collections
-from typing import Any, Counter, Dict, Iterator, List, NamedTuple, Optional, Protocol, Sequence, Set, Tuple, Union
+import itertools
+from typing import Any, Counter, Dict, Iterable, Iterator, List, NamedTuple, Optional, Protocol, Sequence, Set, Tuple, Union
 
 from ..edn import Many, Value, fields_of, integer
 from ..history.process_lives import Lives
@@ -107,29 +108,42 @@ class History:
         self.count(event)
         self.events.append(event)
 
-    def count(self, event: Union[Event, Row]) -> None:
-        """Counts the next event of a client, which is kept apart: one whose part is nil, or one or more plain integers."""
-        kind, process, name, key, part, _, line, _ = event
-        if kind == ":invoke":
-            seen = self.keys.get(key)
-            if seen is None:
-                seen = self.keys[key] = KeySeen(line)
-            seen.names.add(name)
-            self._open += 1
-            if self._open > self.most_open:
-                self.most_open = self._open
-            if process not in self._begun:
-                self._begun.add(process)
-                self.lives.tell(process, False)
-            return
-        self._open -= 1
-        self.outcomes[name, kind] += 1
-        if kind == ":ok":
-            if name == ":read":
-                self.keys[key].answer(line, part)
-        elif kind == ":info":
+    def count(self, event: Event) -> None:
+        """Counts the next event of a client, which is kept apart."""
+        self.count_rows([event])
+
+    def count_rows(self, rows: Sequence[Union[Event, Row]]) -> None:
+        """Counts the next events of clients, which are kept apart."""
+        kinds, processes, names, keys, _, _, lines, _ = zip(*rows)
+        invoked = list(map(":invoke".__eq__, kinds))
+        self._count_keys(list(itertools.compress(keys, invoked)), itertools.compress(names, invoked), itertools.compress(lines, invoked))
+        steps = [1 if begins else -1 for begins in invoked]
+        self.most_open = max(self.most_open, max(itertools.accumulate(steps, initial=self._open)))
+        self._open += sum(steps)
+        self.outcomes.update((name, kind) for name, kind, begins in zip(names, kinds, invoked) if not begins)
+        for row in rows if ":read" in names and ":ok" in kinds else ():
+            if row[0] == ":ok" and row[2] == ":read":
+                self.keys[row[3]].answer(row[6], row[4])
+        if ":info" in kinds or not self._begun.issuperset(processes):
+            for kind, process in zip(kinds, processes):
+                self._live(kind, process)
+
+    def _count_keys(self, keys: Sequence[Any], names: Iterable[str], lines: Iterable[int]) -> None:
+        """Counts the keys of invocations."""
+        if not self.keys.keys() >= set(keys):
+            for key, line in zip(keys, lines):
+                if key not in self.keys:
+                    self.keys[key] = KeySeen(line)
+        for key, name in set(zip(keys, names)):
+            self.keys[key].names.add(name)
+
+    def _live(self, kind: str, process: int) -> None:
+        if kind == ":info":
             self._begun.discard(process)
             self.lives.tell(process, True)
+        elif kind == ":invoke" and process not in self._begun:
+            self._begun.add(process)
+            self.lives.tell(process, False)
 
 
 def tuple_of(value: Value) -> Optional[Tuple[Value, Value]]:

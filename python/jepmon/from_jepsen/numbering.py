@@ -1,7 +1,7 @@
 """Numbers for keys and values that are not integers within jepmon's limits."""
 from __future__ import annotations
 
-from typing import Callable, Dict, Iterable, Iterator, List, Optional, Set
+from typing import Callable, Dict, Iterable, Iterator, List, Optional, Sequence, Set
 
 from ..edn import Value, integer, shown
 
@@ -41,6 +41,10 @@ class Numbering:
     def __call__(self, thing: Value) -> str:
         """The number of a thing, whose spelling is canonical, as it is written."""
         return thing if self.stays and isinstance(thing, str) else str(self.number(thing))
+
+    def all(self, atoms: Sequence[str]) -> Iterable[str]:
+        """The numbers of these atoms, as they are written."""
+        return atoms if self.stays else map(str, map(self._numbers.__getitem__, atoms))
 
     def another(self) -> int:
         """A number that nothing has."""

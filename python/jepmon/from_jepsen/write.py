@@ -2,11 +2,11 @@
 from __future__ import annotations
 
 import itertools
-from typing import Any, Dict, Iterator, NamedTuple, Optional, Sequence, Tuple
+from typing import Any, Dict, Iterable, Iterator, NamedTuple, Optional, Sequence, Tuple
 
 from ..edn import Many, Value, integer
 from ..history.kinds import KEYS, REGISTERS, THREADS, VALUES
-from ..history.line import line_of_words
+from ..history.line import head_of_words, line_of_words
 from ..history.names import ABSENT, Names
 from .events import Event, History
 from .meant import EXACT
@@ -27,6 +27,16 @@ class Limits(NamedTuple):
 OF_SHARDS = Limits(range(1 << 63), 1 << 20)
 
 MOST_KNOWN = 10_000  # operations whose texts are remembered
+ATOMS, SPACES = frozenset((str,)), itertools.repeat(" ")
+
+
+class Heads(Dict[Tuple[str, int, str], str]):
+    """How the lines of events begin, by the type, the process and the operation."""
+
+    def __missing__(self, head: Tuple[str, int, str]) -> str:
+        kind, process, name = head
+        text = self[head] = head_of_words(kind, process, name)
+        return text
 
 
 class Writer:
@@ -42,6 +52,7 @@ class Writer:
         self.values = Numbering(self._values, VALUES, None if history.meant.values == EXACT else history.meant.alike)
         self.absent = str(self.values.another()) if nil_is_absent else "nil"
         self.processes = processes_of(history, limits.threads)
+        self.heads = Heads()
         self.known: Dict[Tuple[str, str, Value, Value], Tuple[str, str]] = {}  # the texts of keys and parts that come again and again
         if len(history.keys) > limits.keys.stop:
             raise TooMany(f"it has {len(history.keys)} keys, and jepmon takes {limits.keys.stop}")
@@ -77,26 +88,28 @@ class Writer:
         for key in (key for key in self.history.keys if key in self.registers):
             for kind in (":invoke", ":ok"):
                 yield line_of_words(kind, 0, ":write", self.keys(key), first, "") + "\n"
-        stays = self.keys.stays and self.values.stays and self.absent == "nil" and not self.processes.renumbered
         processes = OnThreads(self.processes.threads) if self.processes.renumbered else OwnProcesses()
         for batch in self.history.events.batches():
-            yield "".join(self.lines_that_stay(batch) if stays else [self.line(row, processes) for row in batch])
+            for size, rows in itertools.groupby(batch, len):
+                yield "".join(map(fault_line, rows) if size == 2 else self.lines(list(rows), processes))
         yield from self.names().comments()
 
-    def lines_that_stay(self, batch: Sequence[Tuple[Any, ...]]) -> Iterator[str]:
-        """The lines of events where keys, values and processes are as they were."""
-        for row in batch:
-            if len(row) == 2:
-                yield fault_line(row)
-                continue
-            kind, process, name, key, part, own_index, line, _ = row
-            if type(part) is not str:
-                part = f"[{' '.join(part[1])}]" if name == ":cas" else self.part(event_of(row))
-            yield line_of_words(kind, process, name, key, part, self.place(own_index, line)) + "\n"
+    def lines(self, rows: Sequence[Tuple[Any, ...]], processes: OwnProcesses) -> Iterable[str]:
+        """The lines of events of clients, or pieces of them: column by column, if each event keeps its process, and nil is written as nil."""
+        kinds, own, names, keys, parts, indices, lines, _ = zip(*rows)
+        if self.processes.renumbered or self.absent != "nil" or not ATOMS.issuperset(map(type, keys)):
+            return [self.line(row, processes) for row in rows]
+        if not ATOMS.issuperset(map(type, parts)):
+            parts = tuple(self.part(event_of(row)) for row in rows)
+        elif not self.values.stays:
+            parts = tuple(map({part: "nil" if part == "nil" else self.values(part) for part in set(parts)}.__getitem__, parts))
+        ends: Iterable[str] = itertools.repeat("]}\n")
+        if not (self.history.is_of_rows and self.is_of_shards):
+            ends = [f"]{self.place(index, line)}}}\n" for index, line in zip(indices, lines)]
+        return itertools.chain.from_iterable(zip(map(self.heads.__getitem__, zip(kinds, own, names)), self.keys.all(keys), SPACES, parts, ends))
 
     def line(self, row: Tuple[Any, ...], processes: OwnProcesses) -> str:
-        if len(row) == 2:
-            return fault_line(row)
+        """The line of an event of a client."""
         kind, process, name, key, part, own_index, line, _ = row
         texts = self.known.get((kind, name, key, part))
         if texts is None:

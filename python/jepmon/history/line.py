@@ -17,7 +17,12 @@ def event_line(kind: str, process: int, name: str, key: object, part: str, furth
 
 def line_of_words(kind: str, process: int, name: str, key: object, part: str, further: str) -> str:
     """Gives the same line; `kind` and `name` have their colons."""
-    return f"{{:type {kind}, :process {process}, :f {name}, :value [{key} {part}]{further}}}"
+    return f"{head_of_words(kind, process, name)}{key} {part}]{further}}}"
+
+
+def head_of_words(kind: str, process: int, name: str) -> str:
+    """Gives the begin of the same line, up to the key."""
+    return f"{{:type {kind}, :process {process}, :f {name}, :value ["
 
 
 def part_text(value: Any) -> str:
