@@ -7,6 +7,9 @@ use crate::help;
 use clap::{Arg, ArgAction, Command};
 use std::alloc::{AllocError, Global};
 
+/// How many workers judge if the words do not say it.
+pub(crate) const WORKERS: &str = "1";
+
 // An option that takes a value; the help calls the value by the word `value`, and shows the default. `order` has the default value, not
 // this function.
 fn an_option<'a>(
@@ -129,7 +132,7 @@ fn check<'a>(alloc: Global) -> Result<Command<'a>, AllocError>
     );
     let command = bare
         .arg(file)?
-        .arg(a_number(alloc, "workers", "1", help::WORKERS))?;
+        .arg(a_number(alloc, "workers", WORKERS, help::WORKERS))?;
     with_settings(alloc, command, help::CONCURRENCY)
 }
 
