@@ -8,7 +8,7 @@ compare and set that of fronts. Each reply of a wide fifo queue must be the one 
 enqueues of one value have not failed. A history of a right store must never be illegal, also if it has many clients and the plain kind does not
 decide it.
 
-usage: tests/fuzz_kinds.py [COUNT [FIRST]]     COUNT scripts of each kind, 700 unless it is named; JEPMON names the program
+usage: tests/fuzz_kinds.py [COUNT [FIRST]]     COUNT scripts of each kind, 400 unless it is named; JEPMON names the program
 """
 import collections
 import pathlib
@@ -209,7 +209,7 @@ def scripts_of(seen: Counts) -> int:
 
 
 def main() -> int:
-    count, first = int(sys.argv[1]) if len(sys.argv) > 1 else 700, int(sys.argv[2]) if len(sys.argv) > 2 else 0
+    count, first = int(sys.argv[1]) if len(sys.argv) > 1 else 400, int(sys.argv[2]) if len(sys.argv) > 2 else 0
     models = [model for model, kind in WIDE.items() if kind in wide_kinds(str(PROGRAM))]
     seen: "collections.Counter[str]" = collections.Counter()
     wrong = 0
