@@ -67,7 +67,7 @@ impl Listed {
 
 // The summand of a value in the sum of its set, its multiset or its queue. It is a number that is spread over 128 bits, so that few lists
 // have the same sum, also if somebody has chosen the values for that. Its lower half is the value itself, mixed by steps that can be
-// undone. So different values have different lower halves, and at any two places of a queue their weighed summands differ too.
+// undone. So different values have different lower halves, and at each place of a queue their weighed summands differ too.
 pub(crate) fn mixed(value: i64) -> u128
     ensures { result ≡ mixed value }
 {
