@@ -464,7 +464,7 @@ fn wide_kinds_agree_on_eight_open(rt: HostRuntime) -> Result<(), Fail> {
     Ok(())
 }
 
-/// There are 400 more histories, 50 of each kind that reads and of each kind of unordered queues; half of their reads that end crash. The
+/// There are 400 more histories: 50 for each kind that reads and for each kind of unordered queues. Half of their reads that end crash. The
 /// rows have how many are legal. In 217 a read has crashed, in 214 an operation has failed.
 #[test]
 fn orders_and_ends_agree_on_crashed_reads(rt: HostRuntime) -> Result<(), Fail> {

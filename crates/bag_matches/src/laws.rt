@@ -35,7 +35,7 @@ pub fn ok_of_enqueue_law()
         → IsMatched (marks ++ Returned id answer ∷ []) }
 {}
 
-/// A history is matched with the ok of a dequeue exactly if it was matched before, the answer is a value, and that may be dequeued now.
+/// A history is matched with the ok of a dequeue exactly if it was matched before, the answer is a value, and a dequeue may take it now.
 pub fn ok_of_dequeue_law()
     ensures value { (marks : List Mark) (id : ℕ) (op : Op) (v : ℤ) →
         AreWellFormed (marks ++ Returned id (Number v) ∷ []) → Contains marks (Invoked id op)

@@ -1,5 +1,5 @@
 //! Times a glance and a call from inside, on a board and under a plain lock, the commands of a trial, and loads by workers.
-//! Without words that it knows it only says how it is run.
+//! Without arguments that it knows it only says how it is run.
 #![tactic(auto)]
 
 pub mod load_runs;

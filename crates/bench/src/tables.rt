@@ -28,7 +28,7 @@ impl Display for Mean {
     }
 }
 
-/// Prints the mean times of glances and of calls, on a board and under a lock, and of calls on boards of more seats. Each run
+/// Prints the mean times of glances and calls, on a board and under a lock, and of calls on boards of more seats. Each run
 /// lasts so long.
 pub fn print_table<R: Threads + Wait + Clock + Print + Sync>(
     rt: &R,

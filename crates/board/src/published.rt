@@ -86,8 +86,8 @@ impl<X: OneThread, B: Tag> Published<X, B> {
 
 /// The copy that readers take: one publication, which a newer one replaces. It has no list of operations, which would take memory.
 ///
-/// It is a bound with one type, [`PublishedCopy`], since a generic struct may not hold a type with ghost fields of a trait that a generic
-/// `impl` alone gives it, as the `Writer` and `Reader` of a `PublishedCopy` have of `Absorb`.
+/// It is a bound with one type, [`PublishedCopy`]. A generic struct may not hold a type with ghost fields of a trait that a generic `impl`
+/// alone gives it. The `Writer` and `Reader` of a `PublishedCopy` have such fields of `Absorb`.
 pub trait HoldsPublished<P: Drop>: Absorb<(), State = ()> + Drop {
     ghost holds: { Self → P };
 

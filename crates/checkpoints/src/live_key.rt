@@ -99,7 +99,7 @@ impl LiveKey {
     }
 }
 
-// The id of the operation that a prepared event of the process is of: the index of its invocation. An invocation's own index is
+// The id of the operation to which the process's prepared event belongs: the index of its invocation. An invocation's own index is
 // noted at once, since its process has no open operation before it. A completion's is the one that is noted, and stays noted
 // until the completion is carried out.
 fn operation_id(

@@ -32,8 +32,8 @@ pub fn status_of_verdict(verdict: &Verdict) -> u8
     }
 }
 
-/// Writes the line of a refusal, or that of out of memory if there is none for it, flushes, and gives 3. The line of `ReadFailed` takes no
-/// memory. It waits for the writer.
+/// Writes the line of a refusal, or the out-of-memory line if there is none for it, and flushes. It gives 3, and waits for the writer. The
+/// line of `ReadFailed` takes no memory.
 pub(crate) fn put_refusal<X: Wait, W: Write + Failed + Flushes>(
     rt: &X,
     alloc: Global,
@@ -51,7 +51,7 @@ pub(crate) fn put_refusal<X: Wait, W: Write + Failed + Flushes>(
     }
 }
 
-/// Writes the line of a refusal, or that of out of memory if there was none for it, flushes, and gives 3. It waits for the writer, and
+/// Writes the line of a refusal, or the out-of-memory line if there was none for it, and flushes. It gives 3, waits for the writer, and
 /// takes no memory of its own.
 pub fn put_refused<X: Wait, W: Write + Failed + Flushes>(
     rt: &X,

@@ -24,8 +24,8 @@ struct Ended<S> {
     why: Option<Refusal>,
 }
 
-/// Runs clients, each in a thread of its own: the seat at place `i` is that of the client of thread `i`, and the last one
-/// that of the nemesis. So there are 1 to 64 seats, one more than there are threads.
+/// Runs clients, each in its own thread: the seat at place `i` belongs to the client in thread `i`, and the last seat to
+/// the nemesis. So there are 1 to 64 seats, one more than there are threads.
 ///
 /// A client draws, serves and finishes, one operation after the other, until there is none for it. If others completed or cut its
 /// operation, it draws again. If there may be one later, it lets others go on before that. The nemesis asks for its first fault before any

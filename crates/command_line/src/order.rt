@@ -60,13 +60,13 @@ pub enum Stop {
     Refused(Refusal),
 }
 
-/// The order that the words after the program's name give. Without words it is `script` with its defaults, and takes no memory; else it
-/// takes memory for the table of the options and for their values.
+/// The order that the words after the program's name give. If there are none, it is `script` with its defaults, and takes no memory; else
+/// it takes memory for the table of the options and for their values.
 ///
 /// # Errors
 ///
 /// `Words` for help and the version. Also for words that the program does not have, for a value that is not a number, for a model, a mode
-/// or faults of another name. And for a seed, a number of operations, of keys or of workers out of its limits. `Refused` for another number
+/// or faults of another name. And for a seed, or a number of operations, keys or workers, out of its limits. `Refused` for another number
 /// out of its limits: `BadBudget` first, then `BadConcurrency`, which `run` has above 63 too, then `NoSuchReplica`; and with `NoMemory` if
 /// memory is refused.
 pub fn order_of(alloc: Global, words: &[String]) -> Result<Order, Stop>
@@ -91,7 +91,7 @@ pub fn order_of(alloc: Global, words: &[String]) -> Result<Order, Stop>
     order_by(alloc, name, options)
 }
 
-/// The order of the command of this name, from the found options: of `run`, of `check`, of `confirm`, else of `script`. It takes memory for
+/// The order of the command with this name, from the found options: `run`, `check`, `confirm`, else `script`. It takes memory for
 /// the parts of a run, for the path of a file, and for a usage fault.
 ///
 /// # Errors

@@ -14,8 +14,8 @@ use std::io::Write;
 use std::sync::Wait;
 use witness::{Confirmation, Misfit, Unfit};
 
-// The lines that need no memory: the line of a reader that failed, which that of out of memory may not replace, and that of an order which
-// is one.
+// The lines that need no memory: the line of a reader that failed, which the out-of-memory line may not replace, and the line of an order
+// which is one.
 const READ_FAILED: &str = "refused 20 ReadFailed\n";
 
 const ORDER_READ_FAILED: &str = "refused 20 ReadFailed order\n";

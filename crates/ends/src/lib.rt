@@ -1,4 +1,4 @@
-//! The ends of the legal orders of one key's history, as rows of small numbers, and what operations and answers make of them.
+//! The ends of one key's legal orders, as rows of small numbers, and the effects of operations and answers on them.
 //!
 //! A row has the number of the end's state, and then a number for each call. The number is zero if the call is not in the end, else one
 //! more than the number of its answer. Equal ends are equal rows ([`Table`]). An ok ([`advance`]) lets the rows grow by the moves of each

@@ -94,7 +94,7 @@ impl Event {
         })
     }
 
-    /// The key of the operation that the event speaks of, or `None` if it speaks of none, as a fault of the nemesis.
+    /// The key of the event's operation, or `None` if the event has none, as a fault of the nemesis.
     pub fn key(&self) -> Option<Key>
         ensures { result ≡ key_of self.now }
     {

@@ -25,8 +25,8 @@ use wide_register::WideRegister;
 use wide_set::WideSet;
 use wide_unordered_queue::WideUnorderedQueue;
 
-/// The judge of one key's history, for a key whose kind of object is known only as the program runs: a [`Frontier`] of that kind, or the
-/// judge of a wide kind.
+/// The judge of one key's history, for a key whose kind is known only as the program runs: a [`Frontier`] of that kind, or the judge of a
+/// wide kind.
 #[derive(Drop)]
 pub enum AnyFrontier {
     /// Of a register.
@@ -45,11 +45,11 @@ pub enum AnyFrontier {
     WideRegister(Box<WideRegister>),
     /// For a register with compare and set whose fronts are counted.
     WideCasRegister(Box<WideCasRegister>),
-    /// For a set, of which nothing is counted.
+    /// For a set: it counts nothing.
     WideSet(Box<WideSet>),
     /// For a queue of which only equal values are counted.
     WideFifoQueue(Box<WideFifoQueue>),
-    /// For a queue without an order, of which nothing is counted.
+    /// For a queue without an order: it counts nothing.
     WideUnorderedQueue(Box<WideUnorderedQueue>),
 }
 

@@ -1,4 +1,4 @@
-//! Generators of operations and faults, in the manner of Jepsen's: the next step of a client, or of the nemesis.
+//! Generators of operations and faults, like Jepsen's: the next step of a client, or of the nemesis.
 //!
 //! A generator is a tree of forms ([`Gen`]): items in turn, a mix, a limit, one after another, phases, one for each thread. A draw looks
 //! for the next item without a change, by the random words of a seed, and keeps the path to it. When the item is carried out, the generator

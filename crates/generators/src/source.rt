@@ -11,8 +11,8 @@ use crate::words::Words;
 use std::alloc::{AllocError, Global};
 use std::marker::Model;
 
-/// A generator, and its place in the stream of random words of a seed: the words of 32 bits of the ChaCha8 generator that
-/// the seed gives.
+/// A generator, and its place in a seed's stream of random words: the words of 32 bits of the ChaCha8 generator that the
+/// seed gives.
 ///
 /// A draw has two halves: [`prepare`](Source::prepare) finds the item and changes nothing else, and
 /// [`commit`](Source::commit) moves on behind it. Neither copies the generator.

@@ -8,7 +8,7 @@ use rand_core::SeedableRng;
 use rand_core::utils::NextWord;
 use std::marker::Model;
 
-/// A place in the stream of random words of a seed: the words of 32 bits of the ChaCha8 generator that the seed gives,
+/// A place in a seed's stream of random words: the words of 32 bits of the ChaCha8 generator that the seed gives,
 /// from its first one on.
 #[derive(Drop)]
 pub struct Words {

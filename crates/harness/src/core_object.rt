@@ -27,9 +27,9 @@ use std::alloc::Global;
 use std::marker::Model;
 use test_store::Store;
 
-/// The one-thread object with all its commands. It has a history under a live monitor, a generator of operations and faults, a schedule of
-/// faults, a replicated store in the process, and a ticket for each operation that was drawn. Linearizability is that of Herlihy and Wing
-/// (1990).
+/// The one-thread object with all its commands. It has a history under a live monitor, a generator of operations and faults, and a schedule
+/// of faults. It also has a replicated store in the process, and a ticket for each operation that was drawn.
+/// Linearizability is that of Herlihy and Wing (1990).
 ///
 /// Each command is prepared, which may fail and changes nothing but the prepared change, and then committed; [`step`](Core::step) does both
 /// in one call.

@@ -194,7 +194,7 @@ fn kinds_prepared(alloc: Global) -> Result<[Option<EventKind>; 4], Refusal> {
     Ok([first, second, third, kind_prepared(&history)])
 }
 
-// The history shows the event that is prepared to be appended until it is carried out. A cut is not an event.
+// The history shows the event that it has prepared to append until it is carried out. A cut is not an event.
 #[test]
 fn shows_the_prepared_event(rt: HostRuntime) {
     assert!(rt; kinds_prepared(rt.alloc()) == Ok([None, Some(Invoke), None, None]));

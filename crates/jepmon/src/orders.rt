@@ -112,7 +112,7 @@ pub fn check<
     status
 }
 
-/// Says what an order of operations shows of the history of a file; of that of the reader, if the path is `-`.
+/// Says what an order of operations shows of the history in a file, or in the reader if the path is `-`.
 pub fn confirm<'a, X: Wait + Opens + Clock + Eprint, R: Read + Failed, W: Write + Failed + Flushes>(
     rt: &X,
     alloc: Global,

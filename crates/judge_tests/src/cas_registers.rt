@@ -75,7 +75,7 @@ const THREE_FRONTS: [Row; 3] = [
     (1, Done, Write, One(6), Alive),
 ];
 
-// After Over the register stands for what it stood for.
+// After Over the register stands for the same histories as before.
 const THREE_FRONTS_OF_TWO: [Row; 4] = [
     (0, Invoke, Write, One(5), Alive),
     (1, Invoke, Write, One(6), Alive),

@@ -34,7 +34,7 @@ const OUT_OF_TURN: [Row; 8] = [
     (3, Done, Dequeue, One(5), Dead),
 ];
 
-// A dequeue that crashed may have taken 5, until it is told that one which began later did.
+// A dequeue that crashed may have taken 5, until an ok shows that one which began later did.
 const CRASHED_TAKER: [Row; 10] = [
     (0, Invoke, Enqueue, One(5), Alive),
     (0, Done, Enqueue, One(5), Alive),

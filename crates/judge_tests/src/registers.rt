@@ -75,7 +75,7 @@ const NO_WRITE_BEFORE_ITS_INVOCATION: [Row; 8] = [
     (3, Done, Read, One(5), Dead),
 ];
 
-// The write that timed out began before the other one returned, so it may have come before it.
+// The write that timed out began before the other write returned, so it may have come before it.
 const WRITE_BEFORE_ANOTHER_ONE: [Row; 8] = [
     (0, Invoke, Read, Nil, Alive),
     (1, Invoke, Write, One(5), Alive),
@@ -123,7 +123,7 @@ const TWO_ENDS: [Row; 6] = [
     (0, Done, Write, One(5), Alive),
 ];
 
-// After Over the register stands for what it stood for.
+// After Over the register stands for the same histories as before.
 const TWO_ENDS_OF_ONE: [Row; 7] = [
     (0, Invoke, Write, One(5), Alive),
     (1, Invoke, Write, One(6), Alive),

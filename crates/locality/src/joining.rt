@@ -6,8 +6,8 @@ ghost use Rattle.linspec.specs.Verdicts.{IsJoin};
 use linspec::{KeyStatus, Verdict};
 use models::Key;
 
-/// The verdict of a list of statuses: Illegal with the key and index of the least Dead; without a Dead Unknown with the
-/// key and index of the least Over; else Legal. If the list has the status of each key of a history, once, this is
+/// The verdict of a list of statuses: Illegal with the key and index of the least Dead. Without a Dead it is Unknown with
+/// the key and index of the least Over; else Legal. If the list has the status of each key of a history, once, this is
 /// the verdict on that history (`join_law`). Total, takes no memory, and the time of the list's length. (This project's
 /// own, on the locality of linearizability: Herlihy and Wing 1990, section 3.1.)
 pub fn join(statuses: &[(Key, KeyStatus)]) -> Verdict

@@ -21,7 +21,7 @@ pub fn locality_law()
         ↔ ((k : ℕ) → IsLinearizable (object_of (kinds k)) (marks (of_key k entries))) }
 {}
 
-/// The verdict on the whole history is the join of the statuses of its keys: for a list with the status of each key, once, the promise of
+/// The verdict on the whole history is the join of its keys' statuses: for a list with the status of each key, once, the promise of
 /// `join` is the verdict.
 pub fn join_law()
     ensures { (kinds : ℕ → ModelKind) (budgets : ℕ → ℕ) (entries : List Entry)

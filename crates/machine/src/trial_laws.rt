@@ -13,7 +13,7 @@ ghost use Rattle.machine.specs.Trials.{Answers, Trial, Move, opening, Leads, ser
 ghost use Rattle.machine.specs.Examples.{IsDoneTrial, IsLostTrial, IsRefusedTrial};
 
 /// No false alarm. Whatever moves lead there from the opening, if the store is strict, the history is linearizable (Herlihy and Wing 1990),
-/// over all keys together: the serves that took place are a legal order of it. So no verdict on it is Illegal, with whatever budgets, and
+/// over all keys together. The serves that took place are a legal order of it. So no verdict on it is Illegal, with whatever budgets, and
 /// so with whatever keys set aside. The law [`no_false_alarm`](crate::no_false_alarm) says it of the one-thread object.
 pub fn no_trial_is_a_false_alarm()
     ensures order { (c n : ℕ) (kind : ModelKind) (moves : List Move) (m : Trial)

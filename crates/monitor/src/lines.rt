@@ -22,8 +22,8 @@ use std::marker::Model;
 
 /// The line of each key that has events, as a [`Monitor`](crate::Monitor) keeps them. A key is found in constant time.
 ///
-/// A rewind of a monitor is [`prepare_cut`](Self::prepare_cut) and [`commit_cut`](Self::commit_cut) of its lines, whose clauses
-/// say what becomes of each line, the count of its replays among it.
+/// A rewind of a monitor is [`prepare_cut`](Self::prepare_cut) and [`commit_cut`](Self::commit_cut) of its lines. Their clauses
+/// say what becomes of each line and its count of replays.
 #[derive(Drop)]
 pub struct Lines {
     map: IndexMap<Key, KeyLine>,

@@ -76,8 +76,8 @@ fn narrowed<M: SeqObject>(
     Ok(Some(other))
 }
 
-/// A table that shows the same ends, with no more states than it has rows. Rows and states are copied; the items of queues and the members
-/// that were found are shared. Costs O(rows + states + answers).
+/// A table that shows the same ends, with no more states than it has rows. It has copies of the rows and states, and shares the items of
+/// queues and the found members. Costs O(rows + states + answers).
 pub fn copied<M: SeqObject>(
     table: &Table<M::State>,
     calls: &[PendingOp],

@@ -1,4 +1,4 @@
-//! The ends of the legal orders of one key's history, as rows of small numbers, and the moves of calls in their states.
+//! The ends of one key's legal orders, as rows of small numbers, and the moves of calls in their states.
 //!
 //! A row has the number of the end's state, and then a number for each call. The number is zero if the call is not in the end, else one
 //! more than the number of its answer. Equal ends are equal rows ([`Table`]). Ends become rows ([`table_of_ends`]), and rows ends

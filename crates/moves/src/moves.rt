@@ -57,7 +57,7 @@ pub struct Attempt {
     pub representative: usize,
 }
 
-/// The known moves of calls in states, with the list of the targets of those that lead to several, and memory to try more of them. For each
+/// The known moves of calls in states, with the list of targets for those that lead to several, and memory to try more of them. For each
 /// call it has the place of an equal one, which is tried instead.
 #[derive(Drop)]
 pub struct Moves<S> {

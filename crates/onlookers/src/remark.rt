@@ -18,7 +18,7 @@ pub enum Remark {
         name: Name,
         meant: Option<ModelKind>,
     },
-    /// The budget of the key did not suffice. Another kind of the same object may do with it.
+    /// The budget of the key was too small. Another kind of the same object may do with it.
     Blown {
         key: Key,
         kind: ModelKind,
@@ -84,7 +84,7 @@ fn none_of_the_kind(monitor: &Monitor, key: Key, index: u32) -> Option<Remark> {
     })
 }
 
-// What the budget of a key of this kind limits.
+// The things that the budget of a key of this kind limits.
 fn counted(kind: ModelKind) -> &'static str {
     match kind {
         ModelKind::WideRegister => "lean ends",

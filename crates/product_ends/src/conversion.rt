@@ -187,7 +187,7 @@ fn renumber_sets(
 }
 
 /// A table with the states and the answers of these products alone, and without rows, and the products by its numbers. None if a state or
-/// an answer is not in the table, or if a set of several numbers would get one above 62. Costs a copy of each product's state and of its
+/// an answer is not in the table, or if a number above 62 would be in a set of several. Costs a copy of each product's state and of its
 /// numbers, and [`Products::put`] for each product.
 pub fn renumbered<M: SeqObject>(
     table: &Table<M::State>,

@@ -19,7 +19,7 @@ pub enum LineCommand {
 }
 
 /// Reads a line as a command, or as nothing if it has no element. A map spells an event to append. `[:verdict]` asks for the verdict,
-/// `[:hello]` for the program's version, kinds and limits, `[:rewind n]` keeps the first n events, `[:model k m]` makes key k an object
+/// and `[:hello]` for the program's version, kinds and limits. `[:rewind n]` keeps the first n events, `[:model k m]` makes key k an object
 /// of kind m, and `[:budget k n]` gives it the budget n.
 ///
 /// An event that is spelled plainly costs one pass over the line, and memory for the members of a set alone. Any other line costs what

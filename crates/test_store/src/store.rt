@@ -109,8 +109,8 @@ impl Store {
     }
 
     /// Prepares a serve of the operation at the entry, and gives the outcome that [`commit`](Store::commit) will bring. The store stays as
-    /// it is. The entry is the number of a replica, from 0, and no version of the key may be greater than 2^64 - 2. It costs O(replicas +
-    /// the operation's outcomes in the key's state), whatever the number of keys, unless its memory grows.
+    /// it is. The entry is the number of a replica, from 0, and 2^64 - 2 is the greatest version that the key may have. It costs
+    /// O(replicas + the operation's outcomes in the key's state), whatever the number of keys, unless its memory grows.
     ///
     /// # Errors
     /// `AllocError` if an allocation fails; then nothing is prepared.

@@ -56,7 +56,7 @@ pub fn check_law()
         → (events : List Event) × IsRead bytes setup.concurrency [] events (Some (i, why)) }
 {}
 
-/// The bytes of a recorded history and of an order, of which `confirms::confirm_bytes` promises its finding by `ComesTo`. If it finds
+/// The bytes of a recorded history and of an order: `confirms::confirm_bytes` promises its finding on them by `ComesTo`. If it finds
 /// `linearizable`, the history that the first bytes spell is linearizable by the definition of Herlihy and Wing, over all keys together.
 pub fn confirm_law()
     ensures { (concurrency : ℕ) (kind : ModelKind) (budget : ℕ) (bytes order : List ℕ) →

@@ -136,7 +136,7 @@ pub(crate) fn no_fault(alloc: Global) -> Schedule {
 /// The budget, how many threads, and how many replicas.
 pub(crate) type Numbers = (u32, u32, u8);
 
-/// A budget that suffices, two threads, three replicas.
+/// A budget that is large enough, two threads, three replicas.
 pub(crate) const NUMBERS: Numbers = (4096, 2, 3);
 
 /// Registers of these numbers, whose clients are given this, under these faults.

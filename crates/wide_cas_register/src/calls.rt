@@ -6,7 +6,7 @@ ghost use Rattle.wide_cas_register.specs.declared.calls.Call.{Call};
 
 use models::{Name, Part};
 
-/// What an operation does to a register.
+/// The effect of an operation on a register.
 #[derive(Clone, Copy, Debug, PartialEq, Eq)]
 pub enum What {
     /// It writes the value.
@@ -17,8 +17,8 @@ pub enum What {
     Reads,
 }
 
-/// An operation that may still take place, since it is open or is a write or a cas that has crashed: its id, what it does, how many marks
-/// came before its invocation, and whether it is open.
+/// An operation that may still take place, since it is open or is a write or a cas that has crashed. It has its id, its effect, how many
+/// marks came before its invocation, and whether it is open.
 #[derive(Clone, Copy)]
 pub struct Call {
     pub id: u32,
@@ -27,7 +27,7 @@ pub struct Call {
     pub is_open: bool,
 }
 
-/// What an operation of this name and part does to a register; none if a register has no such operation. Takes constant time.
+/// The effect of an operation of this name and part on a register; none if a register has no such operation. Takes constant time.
 pub fn what_of(name: Name, part: &Part) -> Option<What>
     ensures { result ≡ what_by name part.now }
 {
@@ -39,7 +39,7 @@ pub fn what_of(name: Name, part: &Part) -> Option<What>
     }
 }
 
-/// The operation with this id that may still take place, if it is one. Takes the time of the operations.
+/// The operation with this id that may still take place, if it is one. Costs O(operations).
 pub fn call_of(calls: &[Call], id: u32) -> Option<Call>
     ensures found { IfSome result (λ c. Contains calls.now c × (c.id ≡ id)) }
     ensures none { result ≡ None → (c : Call) → Contains calls.now c → c.id ≢ id }

@@ -1,4 +1,4 @@
-//! What walks make of the ends: the fronts, layer upon layer.
+//! The effect of walks on the ends: the fronts, layer upon layer.
 ghost use Rattle.std.specs.Prelude.{◌≡◌, ◌≤◌, ◌↔◌, ◌⊎◌, Option, None, drop, length, IfOk, IfSome, IsTrue, OnOk};
 ghost use Rattle.std.specs.List.{AllZip, Contains};
 ghost use Rattle.wide_cas_register.specs.Facts.{CanStep, IsStepBy};
@@ -43,8 +43,8 @@ fn leave_out(layer: &mut Vec<Front>, calls: &[Call], front: &Front)
     layer.retain(|other| !is_less(calls, other, front));
 }
 
-/// The front once the operation takes place behind it, if it may: a write that hides no write, or a cas that finds its value. Takes the time of
-/// the operations, each with what the front finds.
+/// The front once the operation takes place behind it, if it may: a write that hides no write, or a cas that finds its value. Takes time in
+/// proportion to the operations, each with the values that the front finds.
 pub fn step(
     front: &Front,
     calls: &[Call],
@@ -90,7 +90,7 @@ fn keep(
     Ok(())
 }
 
-// What each operation makes of a front, for the layer.
+// Puts the fronts that the operations make of a front into the layer.
 fn step_all(
     there: &[Front],
     layer: &mut Vec<Front>,
@@ -126,7 +126,7 @@ fn next_layer(
     Ok(layer)
 }
 
-// The front of the empty walk, of each row.
+// For each row the front that the empty walk reaches.
 fn first_fronts(alloc: Global, rows: &[Row]) -> Result<Vec<Front>, AllocError>
     ensures { IfOk result (λ fronts. AllZip IsFirstFront rows.now fronts.items) }
 {
@@ -150,8 +150,8 @@ pub enum Reached {
     Over(usize),
 }
 
-/// The fronts of the rows, unless there are more than the budget. Takes the time of the fronts, each with each operation and with each
-/// front.
+/// The fronts that walks from the rows reach, unless there are more than the budget. Takes time in proportion to the fronts, each with each
+/// operation and with each front.
 pub fn fronts_of(
     alloc: Global,
     rows: &[Row],

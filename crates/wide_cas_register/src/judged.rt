@@ -16,15 +16,15 @@ use std::alloc::{AllocError, Global};
 
 /// The history of one register, judged as its events come, by its ends: it is linearizable exactly if it has one (`cas_ends`).
 ///
-/// An event can be prepared, which may fail for want of memory and leaves what the register stands for, and then committed, which takes no
-/// memory. What was prepared before is dropped.
+/// An event can be prepared and then committed. `prepare` may run out of memory, and changes nothing until `commit`, which takes no
+/// memory. A second `prepare` replaces the first.
 #[derive(Drop)]
 pub struct WideCasRegister {
     alloc: Global,
     budget: u32,
     applied: u64,
     kept: Kept,
-    /// What is prepared.
+    /// The prepared facts.
     next: Option<Kept>,
 }
 
@@ -35,7 +35,7 @@ fn can_kill(kind: EventKind) -> bool
     matches!(kind, EventKind::Ok | EventKind::Fail)
 }
 
-// What an event of this kind leaves.
+// The answer to an event of this kind that leaves these facts.
 fn step_left(left: &Kept, kind: EventKind) -> Step
     ensures { IsStepLeft left.now kind result }
 {
@@ -82,11 +82,11 @@ impl WideCasRegister {
         self.applied.saturating_add(steps)
     }
 
-    /// Prepares an event of an operation, and gives its answer. The id is the index of the operation's invocation, which is new if the event
-    /// is one, and else is that of an open operation; the part of an ok is the answer. Over if the event is an ok and more fronts than the
+    /// Prepares an event of an operation, and gives its answer. The id is the index of the operation's invocation: a new one for an
+    /// invocation, else that of an open operation. The part of an ok is the answer. Over if the event is an ok and more fronts than the
     /// budget stand just before it: then nothing is prepared. An invocation and an info are answered Alive, since they kill nothing. The
-    /// register stands for what it stood for until [`commit`](Self::commit); after `AllocError` no commit must follow. What was prepared before
-    /// is dropped. Takes the time of the pairs of the rows that are made.
+    /// register stands for the same histories until [`commit`](Self::commit); after `AllocError` no commit must follow. A second `prepare`
+    /// replaces the first. Takes time in proportion to the pairs of the rows that it makes.
     pub fn prepare(&mut self, id: u32, kind: EventKind, op: &Op) -> Result<Step, AllocError>
         ensures { Prepares (view_of self.old) (view_of self.new) HasMoreFrontsThan cas_register
             (mark_by id kind op.now) result }
@@ -117,7 +117,7 @@ impl WideCasRegister {
     }
 
     /// An event of an operation: [`prepare`](Self::prepare) and [`commit`](Self::commit) in one. After Over, and on `AllocError`, the register
-    /// stands for what it stood for.
+    /// stands for the same histories as before.
     pub fn observe(&mut self, id: u32, kind: EventKind, op: &Op) -> Result<Step, AllocError>
         ensures { Observes (view_of self.old) (view_of self.new) HasMoreFrontsThan cas_register
             (mark_by id kind op.now) result }
@@ -127,7 +127,7 @@ impl WideCasRegister {
         Ok(step)
     }
 
-    /// An equal one; nothing is prepared of it. Takes the time of the operations and rows.
+    /// An equal one, without a prepared event. Takes time in proportion to the operations and the rows with their lists.
     pub fn copy(&self) -> Result<Self, AllocError>
         ensures { IfOk result (λ w. IsCopy (view_of self.now) (view_of w)) }
     {

@@ -1,4 +1,4 @@
-//! What is kept of the history of a register with compare and set.
+//! The facts that are kept of the history of a register with compare and set.
 ghost use Rattle.std.specs.Prelude.{◌≡◌, ◌≢◌, ◌↔◌, ◌⊎◌, ◌+◌, [], List, map, IfOk, IsTrue, OnOk};
 ghost use Rattle.std.specs.List.{Contains, filter};
 ghost use Rattle.events.specs.Events.{act_by, mark_by_act};
@@ -15,7 +15,7 @@ use events::EventKind;
 use models::Op;
 use std::alloc::{AllocError, Global};
 
-/// What is kept of a history: how many marks it has, the operations that may still take place, and the ends.
+/// The facts that are kept of a history: how many marks it has, the operations that may still take place, and the ends.
 #[derive(Drop)]
 pub struct Kept {
     pub moment: u64,
@@ -84,7 +84,7 @@ fn calls_crashed(alloc: Global, calls: &[Call], id: u32) -> Result<Vec<Call>, Al
 }
 
 impl Kept {
-    /// Of a history without events. Takes constant time.
+    /// The facts of a history without events. Takes constant time.
     pub fn start(alloc: Global) -> Result<Kept, AllocError>
         ensures { IfOk result (λ k. AreFacts k []) }
     {
@@ -97,7 +97,7 @@ impl Kept {
         })
     }
 
-    /// The same again. Takes the time of the operations and rows.
+    /// The same again. Takes time in proportion to the operations and the rows with their lists.
     pub fn copy(&self, alloc: Global) -> Result<Kept, AllocError>
         ensures { IfOk result (AreSame self.now) }
     {
@@ -170,8 +170,8 @@ impl Kept {
         Ok(left)
     }
 
-    /// The fronts that the event meets: all or more than the budget, if it is an ok; else none. Takes the time of the fronts, each with each operation
-    /// and with each front.
+    /// The fronts that the event meets: all or more than the budget, if it is an ok; else none. Takes time in proportion to the fronts,
+    /// each with each operation and with each front.
     pub fn reached(
         &self,
         alloc: Global,
@@ -187,7 +187,7 @@ impl Kept {
         }
     }
 
-    /// What is kept after the event of an operation, which meets these fronts. The id is that of the operation, and the part of an ok is the
+    /// The facts after the event of an operation, which meets these fronts. The id is that of the operation, and the part of an ok is the
     /// answer.
     pub fn after(
         &self,

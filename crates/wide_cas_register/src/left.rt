@@ -34,8 +34,8 @@ fn has_finds(those: &[Found], these: &[Found]) -> bool
     true
 }
 
-// Whether the other row needs this operation if it is open and the row needs it, and it may take place before the last write of the other
-// row if it may here.
+// Whether the operation lets the row be at most the other row. If it is open and the row needs it, the other row needs it, too. If it may
+// take place before the row's last write, it may take place before the other row's last write, too.
 fn fits(call: &Call, row: &Row, other: &Row) -> bool
     ensures { IsTrue result ↔ FitsAt row.now other.now call.now }
 {
@@ -58,7 +58,7 @@ fn all_fit(calls: &[Call], row: &Row, other: &Row) -> bool
     true
 }
 
-/// Whether the other row may become all that this one may. Takes the time of its lists and of the operations, each with those of the other.
+/// Whether the other row may become all that this one may. Costs O((its lists + operations) * lists of both).
 pub fn is_at_most(calls: &[Call], row: &Row, other: &Row) -> bool
     ensures { IsTrue result ↔ IsAtMostBy calls.now row.now other.now }
 {
@@ -93,7 +93,7 @@ fn leave_out(rows: &mut Vec<Row>, calls: &[Call], row: &Row)
     rows.retain(|other| !is_at_most(calls, other, row));
 }
 
-/// Puts the row among these, if it is at most none of them, in place of those that are at most it. Takes the time of the rows.
+/// Puts the row among these, if it is at most none of them, in place of those that are at most it. Compares it with each row twice at most.
 pub fn keep(rows: &mut Vec<Row>, calls: &[Call], row: Row) -> Result<(), AllocError>
     ensures each { OnOk result ((r : Row) → Contains rows.new.items r → Contains rows.old.items r ⊎ (r ≡ row)) }
     ensures old { OnOk result ((r : Row) → Contains rows.old.items r → IsKeptIn calls.now rows.new.items r) }
@@ -108,7 +108,7 @@ pub fn keep(rows: &mut Vec<Row>, calls: &[Call], row: Row) -> Result<(), AllocEr
     Ok(())
 }
 
-/// Puts all of these rows among those. Takes the time of their pairs.
+/// Puts all of these rows among those. Takes time in proportion to the pairs of rows.
 pub fn keep_all(rows: &mut Vec<Row>, calls: &[Call], mut more: Vec<Row>) -> Result<(), AllocError>
     ensures each { OnOk result ((r : Row) → Contains rows.new.items r → Contains rows.old.items r ⊎ Contains more.items r) }
     ensures old { OnOk result ((r : Row) → Contains rows.old.items r → IsKeptIn calls.now rows.new.items r) }

@@ -1,5 +1,5 @@
-//! The history of one register with compare and set, judged as its events come, by its ends: a read, or a write that the next write hides, is
-//! among the operations of an end only if an answer needs it.
+//! The history of one register with compare and set, judged as its events come, by its ends. A read, or a write that the next write hides,
+//! is among the operations of an end only if an answer needs it.
 //!
 //! A call takes memory only where its result can be `AllocError`.
 #![tactic(auto)]

@@ -1,4 +1,4 @@
-//! What an event makes of a row, and of a front.
+//! The effect of an event on a row, and on a front.
 ghost use Rattle.std.specs.Prelude.{◌≡◌, ◌↔◌, ◌⊎◌, [], ◌∷◌, Option, Some, None, IfOk, IfSome, IsTrue, OnOk};
 ghost use Rattle.std.specs.List.{Contains};
 ghost use Rattle.models.specs.Objects.{answer_of};
@@ -14,7 +14,7 @@ use events::EventKind;
 use models::{Op, Part};
 use std::alloc::{AllocError, Global};
 
-/// What an event makes of each row.
+/// The effect of an event on each row.
 #[derive(Clone, Copy)]
 pub enum Deed {
     /// It stays.
@@ -37,7 +37,7 @@ pub enum Deed {
     Dies,
 }
 
-// What an invocation makes of each row.
+// The effect of an invocation on each row.
 fn deed_of_invoke(calls: &[Call], id: u32, op: &Op) -> Deed
     ensures { IsDeed calls.now (Invoked id op.now) result }
 {
@@ -47,7 +47,7 @@ fn deed_of_invoke(calls: &[Call], id: u32, op: &Op) -> Deed
     }
 }
 
-// What the answer of a read makes of each row.
+// The effect of the answer of a read on each row.
 fn deed_of_answer(read: Call, part: &Part) -> Deed
     ensures { IsDeedOfAnswer read (answer_of part.now) result }
 {
@@ -58,7 +58,7 @@ fn deed_of_answer(read: Call, part: &Part) -> Deed
     }
 }
 
-// What an ok makes of each row.
+// The effect of an ok on each row.
 fn deed_of_ok(calls: &[Call], id: u32, part: &Part) -> Deed
     ensures { IsDeed calls.now (Returned id (answer_of part.now)) result }
 {
@@ -72,7 +72,7 @@ fn deed_of_ok(calls: &[Call], id: u32, part: &Part) -> Deed
     }
 }
 
-// What an info makes of each row.
+// The effect of an info on each row.
 fn deed_of_info(calls: &[Call], id: u32) -> Deed
     ensures { IsDeed calls.now (Crashed id) result }
 {
@@ -85,7 +85,7 @@ fn deed_of_info(calls: &[Call], id: u32) -> Deed
     }
 }
 
-/// What an event of an operation makes of each row. The id is that of the operation, and the part of an ok is the answer.
+/// The effect of an event of an operation on each row. The id is that of the operation, and the part of an ok is the answer.
 pub fn deed_of(calls: &[Call], id: u32, kind: EventKind, op: &Op) -> Deed
     ensures { IsDeed calls.now (mark_by_act id id (act_by kind op.now)) result }
 {
@@ -237,7 +237,7 @@ fn end_read(
     Ok(Vec::new(alloc))
 }
 
-/// The rows that the deed makes of a row. Takes the time of the operations, each with what the row finds.
+/// The rows that the deed makes of a row. Takes time in proportion to the operations, each with the values that the row finds.
 pub fn rows_of_row(
     alloc: Global,
     row: &Row,
@@ -307,7 +307,7 @@ fn read_behind(front: &Front, id: u32, value: i64) -> Result<Option<Row>, AllocE
     Ok(Some(out))
 }
 
-/// The row that the deed makes of a front, if it makes one. Takes the time of the operations, each with what the front finds.
+/// The row that the deed makes of a front, if any. Takes time in proportion to the operations, each with the values that the front finds.
 pub fn row_of_front(
     front: &Front,
     calls: &[Call],

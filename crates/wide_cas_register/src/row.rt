@@ -31,7 +31,7 @@ pub fn has_id(ids: &[u32], id: u32) -> bool
     ids.contains(&id)
 }
 
-// Whether the read may find the value. Takes the time of what is found.
+// Whether the read may find the value. Costs O(found values).
 pub fn has_found(finds: &[Found], found: Found) -> bool
     ensures { IsTrue result ↔ Contains finds.now found }
 {
@@ -52,7 +52,7 @@ fn may_find(call: &Call, gap: u64) -> bool
     matches!(call.what, What::Reads) && call.since < gap
 }
 
-// The read may find the value, too. Takes the time of what is found.
+// The read may find the value, too. Costs O(found values).
 fn note(finds: &mut Vec<Found>, found: Found) -> Result<(), AllocError>
     ensures { OnOk result ((f : Found) → Contains finds.new.items f ↔ (Contains finds.old.items f ⊎ (found ≡ f))) }
 {
@@ -62,7 +62,7 @@ fn note(finds: &mut Vec<Found>, found: Found) -> Result<(), AllocError>
     Ok(())
 }
 
-// Each open read that was invoked before the gap may find the value. Takes the time of the operations and of what is found.
+// Each open read that was invoked before the gap may find the value. Costs O(operations * found values).
 fn find_value(
     finds: &mut Vec<Found>,
     calls: &[Call],
@@ -99,7 +99,7 @@ impl Row {
         }
     }
 
-    /// The same again. Takes the time of its lists.
+    /// The same again. Costs O(`needed` + `finds`).
     pub fn copy(&self) -> Result<Row, AllocError>
         ensures { IfOk result (IsSame self.now) }
     {
@@ -118,7 +118,7 @@ impl Row {
         call.since < self.door && !has_id(&self.needed, call.id) && !is_cas(call)
     }
 
-    /// The operation is done, or out. Takes the time of its lists.
+    /// The operation is done, or out. Costs O(`needed` + `finds`).
     pub fn leave(&mut self, id: u32)
         ensures { IsWithoutId id self.old self.new }
     {
@@ -126,7 +126,7 @@ impl Row {
         self.finds.retain(|found| found.read != id);
     }
 
-    /// The row without the operation. Takes the time of its lists.
+    /// The row without the operation. Costs O(`needed` + `finds`).
     pub fn without(&self, id: u32) -> Result<Row, AllocError>
         ensures { IfOk result (IsWithoutId id self.now) }
     {
@@ -135,7 +135,7 @@ impl Row {
         Ok(row)
     }
 
-    /// The row as the read begins, which may find the state. Takes the time of its lists.
+    /// The row as the read begins, which may find the state. Costs O(`needed` + `finds`).
     pub fn with_read(&self, id: u32) -> Result<Row, AllocError>
         ensures { IfOk result (IsBegun id self.now) }
     {
@@ -146,8 +146,8 @@ impl Row {
         Ok(row)
     }
 
-    /// The row as the write takes place at this gap, and leaves this state behind all. Takes the time of its lists and of the operations,
-    /// each with what is found.
+    /// The row as the write takes place at this gap, and leaves this state behind all. Takes time in proportion to its lists and to
+    /// the operations, each with the found values.
     pub fn put(
         &self,
         calls: &[Call],
@@ -166,8 +166,8 @@ impl Row {
         Ok(row)
     }
 
-    /// The row as the cas takes place behind all others, at this moment, and leaves this value. Takes the time of its lists and of the
-    /// operations, each with what is found.
+    /// The row as the cas takes place behind all others, at this moment, and leaves this value. Takes time in proportion to its
+    /// lists and to the operations, each with the found values.
     pub fn set(&self, calls: &[Call], cas: u32, value: i64, moment: u64) -> Result<Row, AllocError>
         ensures { IfOk result (IsSet calls.now cas value moment self.now) }
     {

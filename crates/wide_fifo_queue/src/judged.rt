@@ -16,8 +16,8 @@ use models::Op;
 use std::alloc::{AllocError, Global};
 
 /// The history of one fifo queue, judged as its events come, while its values differ. It is linearizable exactly if it is paired
-/// (`queue_pairs`): a value that came in before one that was dequeued was dequeued too, or a dequeue of its own that is open or has crashed
-/// was invoked in time for it. Nothing branches. Once two enqueues that have not failed have one value, an ok is answered Over.
+/// (`queue_pairs`): each value that came in before a dequeued one has its own dequeue. The dequeue has answered it, or is open or crashed
+/// and was invoked in time for it. Nothing branches. Once two enqueues that have not failed have one value, an ok is answered Over.
 ///
 /// An event can be prepared and then committed. `prepare` may run out of memory, and changes nothing until `commit`, which takes no
 /// memory. A second `prepare` replaces the first.
@@ -27,7 +27,7 @@ use std::alloc::{AllocError, Global};
 pub struct WideFifoQueue {
     /// The key's budget, which says nothing here: equal values exceed each.
     budget: u32,
-    /// What is known of the history, if it is linearizable.
+    /// The known facts of the history, if it is linearizable.
     known: Option<Known>,
     /// What is prepared.
     next: Option<Option<Known>>,

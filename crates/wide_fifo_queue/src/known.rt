@@ -113,7 +113,7 @@ impl Known {
         }
     }
 
-    // The same facts but for the moment and the open operations.
+    // The same facts except for the moment and the open operations.
     fn at(&self, moment: u64, pending: Vec<Pending>) -> Result<Known, AllocError>
         ensures { IfOk result (λ known. facts_of known
             ≡ record (facts_of self.now) { now = moment; pending = pending.items }) }

@@ -1,4 +1,4 @@
-//! Fifo queues that are judged by what was dequeued, live: a history of a queue whose values differ is linearizable exactly if it is paired
+//! Judges fifo queues live, by the dequeued values: a history of a queue whose values differ is linearizable exactly if it is paired
 //! (`queue_pairs`). The order of enqueues that overlap is never chosen, so an event costs no more for many clients.
 //!
 //! A call takes memory only where its result can be `AllocError`.

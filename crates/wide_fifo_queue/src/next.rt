@@ -1,4 +1,4 @@
-//! What is known after an event.
+//! The facts that are known after an event.
 ghost use Rattle.std.specs.Prelude.{◌≡◌, ◌≢◌, ℕ, [], Some, None, true, false, IfOk, IsTrue};
 ghost use Rattle.std.specs.List.{Contains};
 ghost use Rattle.models.specs.Objects.{answer_of};
@@ -363,7 +363,7 @@ impl Known {
         Ok(known)
     }
 
-    /// What is known after an event of the operation with this id, if the history is still linearizable. The part of an ok is the answer.
+    /// The known facts after an event of the operation with this id, if the history is still linearizable. The part of an ok is the answer.
     /// O(open operations, crashed dequeues), and O(log n) for each value that is owed from now on.
     pub fn after_event(
         &self,

@@ -1,4 +1,4 @@
-//! Of many rows only those that need the same open writes are compared: of others none is at most another one.
+//! Among many rows, those that need the same open writes are compared: a row is at most none that needs other open writes.
 ghost use Rattle.std.specs.Prelude.{◌≡◌, ◌↔◌, ◌⊎◌, true, ℕ, IfOk, OnOk};
 ghost use Rattle.std.specs.List.{Contains};
 ghost use Rattle.wide_register.specs.Facts.{AreApart, AreHalves, IsKeptIn, IsOpenIn};
@@ -27,7 +27,7 @@ fn note_open(ids: &mut Vec<u32>, call: &Call) -> Result<(), AllocError>
     Ok(())
 }
 
-// Open writes by which rows are told apart: so many at most that a stack holds a call for each. Takes the time of the operations.
+// The open writes that tell rows apart: at most `MOST`, since a stack holds a call for each. Costs O(operations).
 fn tellers(alloc: Global, calls: &[Call]) -> Result<Vec<u32>, AllocError>
     ensures { IfOk result (λ ids. (i : ℕ) → Contains ids.items i → IsOpenIn calls.now i) }
 {
@@ -87,8 +87,8 @@ fn gather_few(alloc: Global, calls: &[Call], rows: Vec<Row>) -> Result<Vec<Row>,
     Ok(left)
 }
 
-// Leaves out those that are at most another one. The ids, from `at` on, are of open operations. Takes the time of the rows with the ids, and of
-// the pairs of rows that need the same of them.
+// Leaves out those that are at most another one. The ids, from `at` on, are of open operations. Takes time in proportion to the rows with
+// the ids, and to the pairs of rows that need the same ids.
 fn gather_by(
     alloc: Global,
     calls: &[Call],
@@ -112,8 +112,8 @@ fn gather_by(
     Ok(left)
 }
 
-/// Leaves out those that are at most another one. Takes the time of the rows with the operations, and of the pairs of rows that need the same
-/// open writes.
+/// Leaves out those that are at most another one. Takes time in proportion to the rows with the operations, and to the pairs of rows
+/// that need the same open writes.
 pub fn gather(alloc: Global, calls: &[Call], rows: Vec<Row>) -> Result<Vec<Row>, AllocError>
     ensures each { IfOk result (λ left. (r : Row) → Contains left.items r → Contains rows.items r) }
     ensures kept { IfOk result (λ left. (r : Row) → Contains rows.items r → IsKeptIn calls.now left.items r) }

@@ -54,7 +54,7 @@ fn leaves_none(kept: &Kept, change: &Change) -> bool
     }
 }
 
-// What an event of this kind leaves.
+// The answer to an event of this kind with this change.
 fn step_left(kept: &Kept, change: &Change, kind: EventKind) -> Step
     ensures { IsStepLeft (changed change.now kept.now) kind result }
 {
@@ -110,12 +110,12 @@ impl WideRegister {
         is_ok(kind) && self.kept.rows.len() > self.budget as usize
     }
 
-    /// Prepares an event of an operation, and gives its answer. The id is the index of the operation's invocation, which is new if the event
-    /// is one, and else is that of an open operation; the part of an ok is the answer. Over if the event is an ok and more lean ends than the
+    /// Prepares an event of an operation, and gives its answer. The id is the index of the operation's invocation: a new one for an
+    /// invocation, else that of an open operation. The part of an ok is the answer. Over if the event is an ok and more lean ends than the
     /// budget stand just before it: then nothing is prepared. An invocation and an info are answered Alive, since they kill nothing. The
-    /// register stands for what it stood for until [`commit`](Self::commit); after `AllocError` no commit must follow. What was prepared before
-    /// is dropped. Takes the time of the rows that are made with the operations, and of the pairs of rows that need the same open writes; an
-    /// invocation takes the time of the operations.
+    /// register stands for the same histories until [`commit`](Self::commit); after `AllocError` no commit must follow. A second `prepare`
+    /// replaces the first. Takes time in proportion to the rows that it makes, each with the operations, and to the pairs of rows that need
+    /// the same open writes; an invocation costs O(operations).
     pub fn prepare(&mut self, id: u32, kind: EventKind, op: &Op) -> Result<Step, AllocError>
         ensures { Prepares (view_of self.old) (view_of self.new) (CountsMoreThan OfWideRegister) (object_of OfWideRegister)
             (mark_by id kind op.now) result }

@@ -1,4 +1,4 @@
-//! What is kept of the history of a register.
+//! The facts that are kept of the history of a register.
 ghost use Rattle.std.specs.Prelude.{◌≡◌, ◌⊎◌, ◌+◌, [], map, IfOk, OnOk};
 ghost use Rattle.std.specs.List.{Contains, filter};
 ghost use Rattle.events.specs.Events.{act_by, mark_by_act};
@@ -22,7 +22,7 @@ pub struct Kept {
     pub rows: Vec<Row>,
 }
 
-/// What an event makes of what is kept: the rows, unless they stay as they are.
+/// The effect of an event on the kept facts: the new rows, unless they stay as they are.
 #[derive(Drop)]
 pub struct Change {
     pub moment: u64,
@@ -97,7 +97,7 @@ fn reads(call: &Call) -> bool
     matches!(call.what, What::Reads)
 }
 
-// When the open reads were invoked. Takes the time of the operations.
+// When the open reads were invoked. Costs O(operations).
 fn moments_of(alloc: Global, calls: &[Call]) -> Result<Vec<u64>, AllocError>
     ensures { IfOk result (λ moments. moments.items ≡ moments_of calls.now) }
 {
@@ -231,7 +231,7 @@ impl Kept {
         Ok(Some(rows))
     }
 
-    /// What the event of an operation makes of what is kept. The id is that of the operation, and the part of an ok is the answer.
+    /// The effect of the event of an operation on the kept facts. The id is that of the operation, and the part of an ok is the answer.
     pub fn change(
         &self,
         alloc: Global,

@@ -31,7 +31,7 @@ pub enum Deed {
     Dies,
 }
 
-// What the answer of a read makes of each row.
+// The effect of the answer of a read on each row.
 fn deed_of_answer(read: Call, part: &Part) -> Deed
     ensures { IsDeedOfAnswer read (answer_of part.now) result }
 {

@@ -15,9 +15,9 @@ pub struct Passed {
     pub gap: u64,
 }
 
-/// A lean end: the state, which each open read may find, the open and crashed writes that took place, and what else the open reads may
-/// find, each value once, with its latest gap, the greatest value first. An operation that is not among these writes may still take place
-/// just before the last write if fewer marks than `door` came before its invocation.
+/// A lean end: the state, which each open read may find, and the open and crashed writes that took place. `passed` has the other values
+/// that the open reads may find, each once, with its latest gap, the greatest value first. An operation that is not among these writes may
+/// still take place just before the last write if fewer marks than `door` came before its invocation.
 #[derive(Drop)]
 pub struct Row {
     pub state: Option<i64>,
@@ -33,7 +33,7 @@ pub fn has_id(ids: &[u32], id: u32) -> bool
     ids.contains(&id)
 }
 
-/// The first place from this one on of a value that is not greater. Takes the time of the places before it.
+/// The first place from this one on of a value that is not greater. Costs O(places before it).
 pub fn place_of(passed: &[Passed], from: usize, value: i64) -> usize
     ensures { from ≤ length passed.now → result ≤ length passed.now }
 {
@@ -66,7 +66,7 @@ fn is_raised(passed: &mut [Passed], at: usize, gap: u64, value: i64) -> bool
     true
 }
 
-// The value stood at the gap, too. Takes the time of what is found.
+// The value stood at the gap, too. Costs O(found values).
 fn note(passed: &mut Vec<Passed>, gap: u64, value: i64) -> Result<(), AllocError>
     ensures { OnOk result ((v : ℤ) (t : ℕ) → StoodAfter passed.new.items v t
         ↔ (StoodAfter passed.old.items v t ⊎ ((value ≡ v) × (t < gap)))) }
@@ -105,7 +105,7 @@ fn least_with(least: u64, moment: u64, gap: u64) -> u64
     }
 }
 
-// The least gap that is later than the same of these moments; 0 if it is later than none. Takes the time of the moments.
+// The least gap that is later than the same of these moments; 0 if it is later than none. Costs O(moments).
 fn least_gap(moments: &[u64], gap: u64) -> u64
     ensures { IsLeastGap moments.now gap result }
 {
@@ -132,7 +132,7 @@ fn says_more(one: &Passed, state: Option<i64>) -> bool
     one.gap > 0 && state != Some(one.value)
 }
 
-// What stood at no gap is out, and so is the state.
+// Leaves out the values that stood at no gap, and the state.
 fn leave_out_known(passed: &mut Vec<Passed>, state: Option<i64>)
     ensures { (p : Passed) → Contains passed.new.items p ↔ (Contains passed.old.items p × (0 < p.gap) × (state ≢ Some p.value)) }
 {
@@ -209,8 +209,8 @@ impl Row {
                 .any(|passed| passed.value == value && read.since < passed.gap)
     }
 
-    /// What no read that was invoked at one of these moments may find is out, and each gap is the least that is later than the same of
-    /// them. Takes the time of what is found with the moments, and no memory.
+    /// Leaves out the values that no read that was invoked at one of these moments may find. Each gap becomes the least that is later than
+    /// the same of them. Costs O(found values * moments), and takes no memory.
     pub fn trim(&mut self, moments: &[u64])
         ensures same { FindTheSame moments.now self.old self.new }
         ensures least { HasLeastGaps moments.now self.new }
@@ -219,8 +219,8 @@ impl Row {
         leave_out_known(&mut self.passed, self.state);
     }
 
-    /// The row as the write takes place at this gap, before which this value may be found from then on, and leaves this state behind all,
-    /// without the operation that is done by it. Takes the time of its lists.
+    /// The row as the write takes place at this gap and leaves this state behind all, without the operation that is done by it. From then
+    /// on this value may be found before the gap. Costs O(`needed` + `passed`).
     pub fn put(
         &self,
         write: u32,

@@ -17,8 +17,8 @@ pub enum Call {
     Other,
 }
 
-/// An open operation: its id and its call. Of an enqueue also by how much its value was enqueued more often than dequeued, at the least since
-/// the operation was invoked.
+/// An open operation: its id and its call. An enqueue also has by how much its value was enqueued more often than dequeued, at the least
+/// since the operation was invoked.
 #[derive(Clone, Copy)]
 pub struct Pending {
     pub id: u32,
