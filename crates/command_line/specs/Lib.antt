@@ -1,2 +1,4 @@
+pub mod Commands
 pub mod Orders
 pub mod Stops
+pub mod Words

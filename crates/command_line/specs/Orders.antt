@@ -120,3 +120,11 @@ RunsAsFound found result =
     (λ stop. (why : Misspelled)
     × ((run_spelled texts ≡ Err why) ⊎ ((why ≡ Refused NoMemory) × IsOk (run_spelled texts)))
     × IsStopBy why stop))
+
+-- the order of the command of this name, from the found options
+abbrev pub IsOrderBy : List ℕ → Found → Result Order Stop → Type 0
+IsOrderBy name found result =
+    (name ≡ codes "run" → RunsAsFound found result)
+    × (name ≡ codes "check" → AfterJudging found (ChecksAsFound found) result)
+    × (name ≡ codes "confirm" → AfterJudging found (ConfirmsAsFound found) result)
+    × (name ≡ codes "script" → AfterJudging found (ScriptsAsFound found) result)

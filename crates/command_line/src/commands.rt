@@ -1,8 +1,10 @@
 //! The commands and their options, as `clap` has them.
+ghost use Rattle.std.specs.Prelude.{◌≡◌, false, IfOk};
+ghost use Rattle.clap.specs.Words.{app_of, new_app, rule_of};
+ghost use Rattle.command_line.specs.Commands.{bare_app, check_app, confirm_app, option_rule, program_app, run_app, script_app, with_object, with_settings};
 
 use crate::help;
 use clap::{Arg, ArgAction, Command};
-use run_plans::{JudgingTexts, RunTexts};
 use std::alloc::{AllocError, Global};
 
 /// How many workers judge if the words do not say it.
@@ -16,7 +18,10 @@ fn an_option<'a>(
     value: &'static str,
     default: &'static str,
     help: &'static str,
-) -> Arg<'a> {
+) -> Arg<'a>
+    ensures rule { rule_of result ≡ option_rule name.now default.now }
+    ensures global { result.global ≡ false }
+{
     Arg::new(alloc, name)
         .long(name)
         .value_name(value)
@@ -24,14 +29,17 @@ fn an_option<'a>(
         .help(help)
 }
 
-// One that takes a number. A number below zero is taken as its value, not as an option.
+// One that takes a number.
 fn a_number<'a>(
     alloc: Global,
     name: &'static str,
     default: &'static str,
     help: &'static str,
-) -> Arg<'a> {
-    an_option(alloc, name, "N", default, help).allow_negative_numbers(true)
+) -> Arg<'a>
+    ensures rule { rule_of result ≡ option_rule name.now default.now }
+    ensures global { result.global ≡ false }
+{
+    an_option(alloc, name, "N", default, help)
 }
 
 // One that takes a name.
@@ -40,7 +48,10 @@ fn a_name<'a>(
     name: &'static str,
     default: &'static str,
     help: &'static str,
-) -> Arg<'a> {
+) -> Arg<'a>
+    ensures rule { rule_of result ≡ option_rule name.now default.now }
+    ensures global { result.global ≡ false }
+{
     an_option(alloc, name, "NAME", default, help)
 }
 
@@ -49,9 +60,10 @@ fn with_settings<'a>(
     alloc: Global,
     command: Command<'a>,
     concurrency: &'static str,
-) -> Result<Command<'a>, AllocError> {
-    let budget = JudgingTexts::defaults().budget;
-    with_object(alloc, command, concurrency)?.arg(a_number(alloc, "budget", budget, help::BUDGET))
+) -> Result<Command<'a>, AllocError>
+    ensures { IfOk result (λ r. app_of r ≡ with_settings (app_of command.entry)) }
+{
+    with_object(alloc, command, concurrency)?.arg(a_number(alloc, "budget", "4096", help::BUDGET))
 }
 
 // A command with the options by which a history is read, and of which object.
@@ -59,80 +71,128 @@ fn with_object<'a>(
     alloc: Global,
     command: Command<'a>,
     concurrency: &'static str,
-) -> Result<Command<'a>, AllocError> {
-    let defaults = JudgingTexts::defaults();
+) -> Result<Command<'a>, AllocError>
+    ensures { IfOk result (λ r. app_of r ≡ with_object (app_of command.entry)) }
+{
     command
-        .arg(a_number(alloc, "concurrency", defaults.concurrency, concurrency))?
-        .arg(a_name(alloc, "model", defaults.model, help::MODEL))
+        .arg(a_number(alloc, "concurrency", "2", concurrency))?
+        .arg(a_name(alloc, "model", "register", help::MODEL))
+}
+
+// A command without options, with these texts of its help.
+fn described<'a>(
+    alloc: Global,
+    name: &'static str,
+    about: &'static str,
+    whole: &'static str,
+    status: &'static str,
+    forms: &'static str,
+) -> Command<'a>
+    ensures { app_of result ≡ new_app name.now }
+{
+    Command::new(alloc, name)
+        .about(about)
+        .long_about(whole)
+        .after_help(status)
+        .after_long_help(forms)
 }
 
 // The command `script`, with its options and their help.
-fn script<'a>(alloc: Global) -> Result<Command<'a>, AllocError> {
+fn script<'a>(alloc: Global) -> Result<Command<'a>, AllocError>
+    ensures { IfOk result (λ r. app_of r ≡ script_app) }
+{
     let strict = Arg::new(alloc, "strict")
         .long("strict")
         .action(ArgAction::SetTrue)
         .help(help::STRICT);
-    let command = Command::new(alloc, "script")
-        .about(help::SCRIPT)
-        .long_about(help::SCRIPT_LONG)
-        .after_help(help::STATUS)
-        .after_long_help(help::SCRIPT_FORMS)
-        .arg(strict)?;
+    let bare = described(
+        alloc,
+        "script",
+        help::SCRIPT,
+        help::SCRIPT_LONG,
+        help::STATUS,
+        help::SCRIPT_FORMS,
+    );
+    let command = bare.arg(strict)?;
     with_settings(alloc, command, help::CONCURRENCY)
 }
 
 // The command `check`, with its options and their help.
-fn check<'a>(alloc: Global) -> Result<Command<'a>, AllocError> {
+fn check<'a>(alloc: Global) -> Result<Command<'a>, AllocError>
+    ensures { IfOk result (λ r. app_of r ≡ check_app) }
+{
     let file = Arg::new(alloc, "FILE").required(true).help(help::FILE);
-    let command = Command::new(alloc, "check")
-        .about(help::CHECK)
-        .long_about(help::CHECK_LONG)
-        .after_help(help::STATUS)
-        .after_long_help(help::CHECK_FORMS)
+    let bare = described(
+        alloc,
+        "check",
+        help::CHECK,
+        help::CHECK_LONG,
+        help::STATUS,
+        help::CHECK_FORMS,
+    );
+    let command = bare
         .arg(file)?
         .arg(a_number(alloc, "workers", WORKERS, help::WORKERS))?;
     with_settings(alloc, command, help::CONCURRENCY)
 }
 
 // The command `confirm`, with its options and their help.
-fn confirm<'a>(alloc: Global) -> Result<Command<'a>, AllocError> {
+fn confirm<'a>(alloc: Global) -> Result<Command<'a>, AllocError>
+    ensures { IfOk result (λ r. app_of r ≡ confirm_app) }
+{
     let file = Arg::new(alloc, "FILE").required(true).help(help::FILE);
     let order = Arg::new(alloc, "ORDER").required(true).help(help::ORDER);
-    let command = Command::new(alloc, "confirm")
-        .about(help::CONFIRM)
-        .long_about(help::CONFIRM_LONG)
-        .after_help(help::CONFIRM_STATUS)
-        .after_long_help(help::CONFIRM_FORMS)
-        .arg(file)?
-        .arg(order)?;
+    let bare = described(
+        alloc,
+        "confirm",
+        help::CONFIRM,
+        help::CONFIRM_LONG,
+        help::CONFIRM_STATUS,
+        help::CONFIRM_FORMS,
+    );
+    let command = bare.arg(file)?.arg(order)?;
     with_object(alloc, command, help::CONCURRENCY)
 }
 
 // The command `run`, with its options and their help.
-fn run<'a>(alloc: Global) -> Result<Command<'a>, AllocError> {
-    let defaults = RunTexts::defaults();
-    let command = Command::new(alloc, "run")
-        .about(help::RUN)
-        .long_about(help::RUN_LONG)
-        .after_help(help::STATUS)
-        .after_long_help(help::RUN_FORMS)
-        .arg(a_number(alloc, "seed", defaults.seed, help::SEED))?
-        .arg(a_number(alloc, "ops", defaults.operations, help::OPERATIONS))?
-        .arg(a_number(alloc, "keys", defaults.keys, help::KEYS))?
-        .arg(a_number(alloc, "replicas", defaults.replicas, help::REPLICAS))?
-        .arg(a_name(alloc, "mode", defaults.mode, help::MODE))?
-        .arg(a_name(alloc, "faults", defaults.faults, help::FAULTS))?;
+fn run<'a>(alloc: Global) -> Result<Command<'a>, AllocError>
+    ensures { IfOk result (λ r. app_of r ≡ run_app) }
+{
+    let bare = described(
+        alloc,
+        "run",
+        help::RUN,
+        help::RUN_LONG,
+        help::STATUS,
+        help::RUN_FORMS,
+    );
+    let command = bare
+        .arg(a_number(alloc, "seed", "0", help::SEED))?
+        .arg(a_number(alloc, "ops", "100", help::OPERATIONS))?
+        .arg(a_number(alloc, "keys", "1", help::KEYS))?
+        .arg(a_number(alloc, "replicas", "3", help::REPLICAS))?
+        .arg(a_name(alloc, "mode", "strict", help::MODE))?
+        .arg(a_name(alloc, "faults", "off", help::FAULTS))?;
     with_settings(alloc, command, help::CLIENTS)
 }
 
-/// The program with its commands.
-pub(crate) fn program<'a>(alloc: Global) -> Result<Command<'a>, AllocError> {
-    Command::new(alloc, "jepmon")
+// The program without its commands.
+fn bare<'a>(alloc: Global) -> Result<Command<'a>, AllocError>
+    ensures { IfOk result (λ r. app_of r ≡ bare_app) }
+{
+    let command = Command::new(alloc, "jepmon")
         .no_binary_name(true)
-        .bin_name("jepmon")?
         .version(help::VERSION)
         .about(help::ABOUT)
-        .after_help(help::MORE)
+        .after_help(help::MORE);
+    command.bin_name("jepmon")
+}
+
+/// The program with its commands.
+pub(crate) fn program<'a>(alloc: Global) -> Result<Command<'a>, AllocError>
+    ensures { IfOk result (λ r. app_of r ≡ program_app) }
+{
+    bare(alloc)?
         .subcommand(script(alloc)?)?
         .subcommand(check(alloc)?)?
         .subcommand(confirm(alloc)?)?

@@ -2,10 +2,12 @@
 ghost use Rattle.std.specs.Prelude.{◌≡◌, ◌≤◌, length, IfOk, IfSome, Ok, false, codes, string_bytes};
 ghost use Rattle.harness.specs.Setups.{setup_of, IsSetup};
 ghost use Rattle.harness.specs.declared.config.Config.{Config};
-ghost use Rattle.clap.specs.Words.{found_of, kind_of};
+ghost use Rattle.clap.specs.Words.{found_of, kind_of, subcommand_rows_of};
+ghost use Rattle.clap.specs.declared.error.kind.ErrorKind.TheVariants.{OutOfMemory};
 ghost use Rattle.run_plans.specs.Options.{default_setup};
 ghost use Rattle.command_line.specs.Orders.{AfterJudging, AreJudgingTexts, AreRunTexts, ChecksAsFound, ConfirmsAsFound, IsWithinLimits, JudgesAsFound, RunsAsFound, ScriptsAsFound, text_found, workers_found};
 ghost use Rattle.command_line.specs.Stops.{IsRequest, IsStopBy, IsUsageFault};
+ghost use Rattle.command_line.specs.Words.{IsOrderIn, NamesOrder, words_of};
 
 use crate::{commands, help};
 use clap::error::ErrorKind;
@@ -16,6 +18,9 @@ use harness::Config;
 use models::ModelKind;
 use run_plans::{JudgingTexts, Misspelled, OptionName, RunTexts, workers_in};
 use std::alloc::{AllocError, Global};
+
+// The message of a text that does not spell the number of workers.
+const NO_WORKERS: &str = "--workers takes a number, 1 to 64";
 
 /// The order in the words for the program.
 #[derive(Drop)]
@@ -65,14 +70,15 @@ pub enum Stop {
 ///
 /// # Errors
 ///
-/// `Words` for help and the version. Also for words that the program does not have, for a value that is not a number, for a model, a mode
-/// or faults of another name. And for a seed, or a number of operations, keys or workers, out of its limits. `Refused` for another number
-/// out of its limits: `BadBudget` first, then `BadConcurrency`, which `run` has above 63 too, then `NoSuchReplica`; and with `NoMemory` if
-/// memory is refused.
+/// `Words` for help and the version. Also for words that the program does not have, such as a number below zero after an option. Also for
+/// a value that is not a number, and for a model, a mode or faults of another name. And for a seed, or a number of operations, keys or
+/// workers, out of its limits. `Refused` for another number out of its limits: `BadBudget` first, then `BadConcurrency`, which `run` has
+/// above 63 too, then `NoSuchReplica`; and with `NoMemory` if memory is refused.
 pub fn order_of(alloc: Global, words: &[String]) -> Result<Order, Stop>
     ensures defaults { length words.now ≡ 0 → (config : Config)
         × (result ≡ Ok (Order.Script config false)) × (setup_of config ≡ default_setup) }
     ensures within { IfOk result IsWithinLimits }
+    ensures spelled { 1 ≤ length words.now → IsOrderIn (words_of words.now) result }
 {
     if words.is_empty() {
         return Ok(Order::Script {
@@ -80,15 +86,24 @@ pub fn order_of(alloc: Global, words: &[String]) -> Result<Order, Stop>
             is_strict: false,
         });
     }
-    let mut command = commands::program(alloc)?;
-    let matches = match command.try_get_matches_from_mut(words) {
-        Ok(matches) => matches,
-        Err(error) => return Err(stop_at(alloc, words, error)),
+    let Ok(mut command) = commands::program(alloc) else {
+        return Err(Stop::Refused(Refusal::NoMemory));
     };
-    let Some((name, options)) = matches.subcommand() else {
-        return Err(usage(&mut command, "no command was given"));
-    };
-    order_by(alloc, name, options)
+    match command.try_get_matches_from_mut(words) {
+        Ok(matches) => order_in(alloc, &mut command, &matches),
+        Err(error) => Err(stop_at(alloc, words, error)),
+    }
+}
+
+// The order of the command that a parse found; a usage fault, if it found none.
+fn order_in(alloc: Global, command: &mut Command, matches: &ArgMatches) -> Result<Order, Stop>
+    ensures within { IfOk result IsWithinLimits }
+    ensures named { NamesOrder (subcommand_rows_of matches.now) result }
+{
+    match matches.subcommand() {
+        Some((name, options)) => order_by(alloc, name, options),
+        None => Err(usage(command, "no command was given")),
+    }
 }
 
 /// The order of the command with this name, from the found options: `run`, `check`, `confirm`, else `script`. It takes memory for
@@ -144,7 +159,7 @@ fn check_of(alloc: Global, options: &ArgMatches, config: Config) -> Result<Order
         return Err(usage_of(alloc, "check", "check takes a file"));
     };
     let Some(workers) = workers_of(options) else {
-        return Err(usage_of(alloc, "check", "--workers takes a number, 1 to 64"));
+        return Err(usage_of(alloc, "check", NO_WORKERS));
     };
     match String::from_str(alloc, path) {
         Ok(path) => Ok(Order::Check {
@@ -314,11 +329,13 @@ fn usage(command: &mut Command, message: &str) -> Stop
 
 /// The meaning of an error in these words for the program: itself for help and the version; else a usage fault.
 ///
-/// Script takes no file, and says so if it was given one; and so does the program where the name of a file stands in place of a command. It
-/// takes memory for its message.
+/// If script was given a file, the message says that it takes none. If a number below zero follows an option of numbers, the message says
+/// which it takes. If the name of a file stands in place of a command, the message says how to check this file. It takes memory for its
+/// message.
 pub fn stop_at(alloc: Global, words: &[String], error: clap::Error) -> Stop
     ensures asked { IsRequest (kind_of error) → result ≡ Stop.Words error }
     ensures fault { (¬ IsRequest (kind_of error)) → IsUsageFault result }
+    ensures memory { kind_of error ≡ OutOfMemory → result ≡ Stop.Refused Refusal.NoMemory }
 {
     if error.use_stderr() {
         fault_at(alloc, words, error)
@@ -327,19 +344,82 @@ pub fn stop_at(alloc: Global, words: &[String], error: clap::Error) -> Stop
     }
 }
 
-// The usage fault that an error in these words is.
+// The usage fault that an error in these words is; or out of memory.
 fn fault_at(alloc: Global, words: &[String], error: clap::Error) -> Stop
     requires { ¬ IsRequest (kind_of error) }
-    ensures { IsUsageFault result }
+    ensures fault { IsUsageFault result }
+    ensures memory { kind_of error ≡ OutOfMemory → result ≡ Stop.Refused Refusal.NoMemory }
 {
-    if error.kind() == ErrorKind::UnknownArgument && is_script_with_file(words) {
-        return usage_of(alloc, "script", help::NO_FILE);
+    if error.kind() == ErrorKind::UnknownArgument {
+        return stray_at(alloc, words, error);
     }
     match words.first() {
         Some(first) if error.kind() == ErrorKind::InvalidSubcommand && is_path(first) => {
             path_alone(alloc, first)
         }
         _ => fault_of(error),
+    }
+}
+
+// The usage fault of a word that the command does not take: a number below zero, a file for a script, or another word.
+fn stray_at(alloc: Global, words: &[String], error: clap::Error) -> Stop
+    requires { kind_of error ≡ ErrorKind.UnknownArgument }
+    ensures { IsUsageFault result }
+{
+    if is_script_with_file(words) {
+        return usage_of(alloc, "script", help::NO_FILE);
+    }
+    let Ok(text) = format!(in alloc; "{error}") else {
+        return Stop::Refused(Refusal::NoMemory);
+    };
+    match (words.first(), below_zero(words)) {
+        (Some(name), Some(message)) if is_command(name.as_str()) && is_of_number(text.as_str()) => {
+            usage_of(alloc, name.as_str(), message)
+        }
+        _ => Stop::Words(error),
+    }
+}
+
+// Whether a word names a command.
+fn is_command(word: &str) -> bool {
+    word == "script" || word == "check" || word == "confirm" || word == "run"
+}
+
+// Whether the text of an error says that a number below zero was not expected.
+fn is_of_number(text: &str) -> bool {
+    match text.strip_prefix("error: unexpected argument '") {
+        Some(rest) => is_below_zero(rest),
+        None => false,
+    }
+}
+
+// The message of the option that the first number below zero follows, if the option takes a number.
+fn below_zero(words: &[String]) -> Option<&'static str> {
+    for pair in words.windows(2) {
+        if is_below_zero(pair[1].as_str()) {
+            return number_taken_by(pair[0].as_str());
+        }
+    }
+    None
+}
+
+// Whether a text begins with a minus before a digit.
+fn is_below_zero(text: &str) -> bool {
+    let bytes = text.as_bytes();
+    bytes.len() >= 2 && bytes[0] == b'-' && bytes[1].is_ascii_digit()
+}
+
+// The message of the option of this spelling, if it takes a number.
+fn number_taken_by(option: &str) -> Option<&'static str> {
+    match option {
+        "--budget" => Some(taken_by(OptionName::Budget)),
+        "--concurrency" => Some(taken_by(OptionName::Concurrency)),
+        "--seed" => Some(taken_by(OptionName::Seed)),
+        "--ops" => Some(taken_by(OptionName::Operations)),
+        "--keys" => Some(taken_by(OptionName::Keys)),
+        "--replicas" => Some(taken_by(OptionName::Replicas)),
+        "--workers" => Some(NO_WORKERS),
+        _ => None,
     }
 }
 
@@ -378,7 +458,8 @@ fn is_script_with_file(words: &[String]) -> bool {
 // The usage fault of an error; or out of memory.
 fn fault_of(error: clap::Error) -> Stop
     requires { ¬ IsRequest (kind_of error) }
-    ensures { IsUsageFault result }
+    ensures fault { IsUsageFault result }
+    ensures memory { kind_of error ≡ OutOfMemory → result ≡ Stop.Refused Refusal.NoMemory }
 {
     if error.kind() == ErrorKind::OutOfMemory {
         Stop::Refused(Refusal::NoMemory)
