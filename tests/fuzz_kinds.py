@@ -6,10 +6,9 @@ If both kinds decide, their replies must be the same. A key that changes its kin
 unordered queue must never be unknown. By a small budget each reply of a wide register must be the one of the definition of lean ends, and with
 compare and set that of fronts. Each reply of a wide fifo queue must be the one of the definition: unknown from the first ok on before which two
 enqueues of one value have not failed. A history of a right store must never be illegal, also if it has many clients and the plain kind does not
-decide it.
-
-usage: tests/fuzz_kinds.py [COUNT [FIRST]]     COUNT scripts of each kind, 400 unless it is named; JEPMON names the program
+decide it. JEPMON names the program.
 """
+import argparse
 import collections
 import pathlib
 import random
@@ -209,7 +208,11 @@ def scripts_of(seen: Counts) -> int:
 
 
 def main() -> int:
-    count, first = int(sys.argv[1]) if len(sys.argv) > 1 else 400, int(sys.argv[2]) if len(sys.argv) > 2 else 0
+    parser = argparse.ArgumentParser(description=__doc__, formatter_class=argparse.RawDescriptionHelpFormatter)
+    parser.add_argument("count", nargs="?", type=int, default=400, help="scripts of each kind")
+    parser.add_argument("first", nargs="?", type=int, default=0, help="the first seed")
+    given = parser.parse_args()
+    count, first = given.count, given.first
     models = [model for model, kind in WIDE.items() if kind in wide_kinds(str(PROGRAM))]
     seen: "collections.Counter[str]" = collections.Counter()
     wrong = 0
