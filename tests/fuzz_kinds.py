@@ -32,6 +32,7 @@ from tests.python.lean_ends import Register  # noqa: E402
 TOGETHER = 25  # scripts that one program judges, with a rewind to nothing between two
 DECIDED = ("set", "unordered-queue")  # of which nothing is counted
 SMALL, BUDGETS = 40, (1, 2, 3, 7, 40, 300, 4096, 4096, 65536, 65536)
+OF_MANY = {"cas-register": 300}  # the budget for many clients, 4096 for other models: 4096 fronts of sixteen clients take minutes
 Counts = Dict[str, int]
 
 
@@ -56,7 +57,8 @@ def drawn(model: str, seed: int) -> Batch:
         ways = [way._replace(values=1000) for way in ways] if model == "fifo-queue" else ways
     scripts = [list(Clients(chance, way, model).lines()) for way in ways]
     kinds = [changes(chance, len(script), way) for script, way in zip(scripts, ways)]
-    return Batch(model, clients, 4096 if is_wide else chance.choice(BUDGETS), scripts, [is_wide or not way.wrong for way in ways], kinds)
+    budget = OF_MANY.get(model, 4096) if is_wide else chance.choice(BUDGETS)
+    return Batch(model, clients, budget, scripts, [is_wide or not way.wrong for way in ways], kinds)
 
 
 def changes(chance: random.Random, lines: int, way: Way) -> List[bool]:

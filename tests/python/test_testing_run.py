@@ -41,12 +41,13 @@ CLIENT_IS_WRONG = ("class Client(MyClient):\n    def read(self, key):\n        r
 LOGS = ("import logging, warnings\nclass Client(MyClient):\n    def read(self, key):\n        logging.getLogger('pool').warning('a connection was "
         "lost')\n        warnings.warn('old')\n        return super().read(key)\nclass Mine(MyServer):\n    objects = {'register': Client}\n"
         "    def client(self, number):\n        return Client(self.nodes[0].at)\n")
-LEAVES_ORPHANS = ("class Mine(MyServer):\n    def command(self, node):\n        code = \"(setsid sh -c '(sleep 600.25 &)'); {}\"\n"
+SLEEP = f"sleep 600.{os.getpid()}"  # of this process alone: the same tests may run elsewhere on the machine
+LEAVES_ORPHANS = (f"class Mine(MyServer):\n    def command(self, node):\n        code = \"(setsid sh -c '({SLEEP} &)'); {{}}\"\n"
                   "        return ['sh', '-c', code, 'sh', *super().command(node)]\n")
 UPGRADES = ("class Mine(MyServer):\n    def command(self, node):\n"
             "        return ['sh', '-c', f'echo version {min(node.starts, 1) + 1}; exec \"$@\"', 'sh', *super().command(node)]\n")
 LAYS_OUT = ("class Mine(MyServer):\n    def prepare(self, node):\n"
-            "        node.completed(['sh', '-c', 'while :; do : > x; sleep 600.125 & wait; done'])\n")
+            f"        node.completed(['sh', '-c', 'while :; do : > x; {SLEEP} & wait; done'])\n")
 HAS_ITS_OWN = """
 import contextlib
 from jepmon.testing import Parameter, Strike
@@ -99,9 +100,10 @@ class Runs(Monitored):
                 found.append(words)
         return found
 
-    def commands(self) -> List[str]:
-        """Of all processes."""
-        return subprocess.run(["ps", "-eo", "args"], stdout=subprocess.PIPE, universal_newlines=True).stdout.splitlines()
+    def sleeping(self) -> List[str]:
+        """The processes that servers here have left asleep, of all on the machine."""
+        ran = subprocess.run(["ps", "-eo", "args"], stdout=subprocess.PIPE, universal_newlines=True)
+        return [words for words in ran.stdout.splitlines() if words == SLEEP]
 
     def verdict_file(self) -> str:
         return (self.room / "runs" / "latest" / "verdict.txt").read_text().strip()
@@ -234,7 +236,7 @@ class Orphans(Runs):
         self.assertIn("died by itself, with status 4", ran.stderr)
 
     def left(self) -> List[str]:
-        return [*super().left(), *(word for word in self.commands() if word.startswith("sleep 600.25"))]
+        return [*super().left(), *self.sleeping()]
 
 
 class BrokenOff(Runs):
@@ -272,9 +274,6 @@ class BrokenOff(Runs):
                 self.assertEqual((test.returncode, "Traceback" in said), (status, False), said)
                 self.assertTrue(self.comes(lambda: not self.sleeping() and not os.listdir(self.room / "tmp")))
                 self.nothing_is_left()
-
-    def sleeping(self) -> List[str]:
-        return [path for path in self.commands() if path.startswith("sleep 600.125")]
 
     def comes(self, what: Callable[[], bool]) -> bool:
         end = time.monotonic() + PATIENCE
