@@ -63,7 +63,7 @@ def metadata() -> bytes:
 
 
 def page(text: str, repository: Optional[str], tag: str) -> str:
-    """The page of the package on an index, where no file lies beside it. Links and pictures lead to this version in the repository that
+    """The page of the package on an index, if no file lies beside it. Links and pictures lead to this version in the repository that
     pyproject.toml names. If it names none, a link is its words, and there are no pictures."""
 
     def absolute(match: "re.Match[str]") -> str:

@@ -37,7 +37,7 @@ def smallest(events: Sequence[Event], report: Report, options: Options, program:
              hints: Collection[int] = ()) -> Optional[Part]:
     """The smallest illegal part that is found with so much effort. The events are those of the whole history, and the report is the
     program's on them, with these options. Hints are indices of events that may be the cause: the tool first tries whether their operations
-    are illegal alone. None where the verdict is not illegal, or the effort did not suffice to take anything out. A ProgramError comes where
+    are illegal alone. None if the verdict is not illegal, or the effort did not suffice to take anything out. A ProgramError comes where
     the program can't be asked."""
     line = next((line for line in report.keys if report.word == "illegal" and line.key == report.key), None)
     if line is None or line.index is None:
@@ -135,7 +135,7 @@ class Search:
         return any(event is not None and event.index in self.hints for event in (operation.invocation, operation.completion))
 
     def is_illegal(self, part: List[Operation]) -> bool:
-        """Whether the program calls it illegal at its last event. No, where there is no effort left for that."""
+        """Whether the program calls it illegal at its last event. No, if there is no effort left for that."""
         events = events_of(part)
         text = text_of(events, self.options.concurrency)
         if not self.effort.may_ask(text, len(events)):

@@ -9,8 +9,8 @@ from ..history.fault_times import quoted, since
 
 
 def before(faults: Sequence[Fault], event: Event) -> str:
-    """How long after which fault the event came: `0.07 s after "n1 is down, by kill -9" began`. Where the history has no times, after which
-    one; nothing where none had begun by then."""
+    """How long after which fault the event came: `0.07 s after "n1 is down, by kill -9" began`. If the history has no times, after which
+    one; nothing if none had begun by then."""
     moment = event.fields.get("time")
     if isinstance(moment, int) and any(fault.begin_time for fault in faults):
         return since(faults, moment)

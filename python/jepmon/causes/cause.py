@@ -1,6 +1,6 @@
 """Why a key is illegal, or unknown, in words.
 
-    cause = explain(events, report, options)    # of what `program.check` said; None where that is no illegal and no unknown
+    cause = explain(events, report, options)    # of what `program.check` said; None if that is no illegal and no unknown
     print("\n".join(lines(cause)))
 
 The verdict is the program's, and so is what is said of another answer: each is asked of it. The walk (objects/configurations.py) finds
@@ -70,8 +70,8 @@ def explain(events: Sequence[Event], report: Report, options: Options, names: Na
             faults: Sequence[Fault] = ()) -> Optional[Cause]:
     """The cause of a verdict: the events are those of the whole history, report is what the program said of them with these options. Most
     of the effort is for the smallest part; `shrink=False` leaves that out, and a part that is known to be illegal at the same event takes
-    its place. It names those `faults` that came before the operations in question. None where the verdict is neither illegal nor unknown. A
-    ProgramError comes where the program can't be asked."""
+    its place. It names those `faults` that came before the operations in question. None if the verdict is neither illegal nor unknown. A
+    ProgramError comes if the program can't be asked."""
     line = next((line for line in report.keys if line.key == report.key), None)
     if line is None or line.index is None or report.word not in ("illegal", "unknown"):
         return None

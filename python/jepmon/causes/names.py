@@ -83,7 +83,7 @@ def last_event(operation: Operation) -> int:
 
 
 def listed(words: Sequence[str], word: str = "or", most: int = MOST) -> str:
-    """Words in one phrase; where they are many, the first few."""
+    """Words in one phrase; the first few if there are many."""
     if len(words) > most + 1:
         return f"{', '.join(words[:most])} {word} {len(words) - most} others"
     return words[0] if len(words) == 1 else f"{', '.join(words[:-1])} {word} {words[-1]}" if words else ""

@@ -81,7 +81,7 @@ def out_of_order(case: Case, real: List[Operation]) -> Found:
 
 def passed_over(case: Case, real: List[Operation]) -> Optional[Operation]:
     """An enqueue of a possible first value. It had returned before each enqueue of the dequeued value began, and no dequeue has answered
-    its value. None where a dequeue without an answer may have taken it."""
+    its value. None if a dequeue without an answer may have taken it."""
     dequeues, fronts = case.others("dequeue", lambda operation: operation.outcome != "fail"), case.findings()
     if any(dequeue.outcome != "ok" for dequeue in dequeues):
         return None

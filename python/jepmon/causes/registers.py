@@ -10,7 +10,7 @@ from .names import capital, client, last_event, span
 
 
 def of_register(case: Case) -> Found:
-    """Explains a read that answered a value, or a cas that found it, where the register can't have held it."""
+    """Explains a read that answered a value, or a cas that found it, if the register can't have held it."""
     value = wanted(case.fatal)
     if value is None:
         return of_strange_answer(case)
@@ -52,7 +52,7 @@ def headline(case: Case, value: int, bringers: List[Operation], was_possible: bo
 
 
 def value_of(event: Event) -> Optional[int]:
-    """The value that an invocation brings into a register."""
+    """The value that an invocation writes to a register."""
     return brought(Operation(event, None, 0))
 
 
@@ -83,7 +83,7 @@ def while_open(case: Case, value: int) -> str:
 
 
 def last_source(bringers: List[Operation]) -> Optional[Operation]:
-    """The last that may well have brought the value in: a write, or a cas that has returned."""
+    """The last operation that may have written the value: a write, or a cas that has returned."""
     likely = [bringer for bringer in bringers
               if bringer.outcome == "ok" or bringer.outcome != "fail" and bringer.invocation.name == "write"]
     return max(likely, key=lambda bringer: bringer.invocation.index) if likely else None

@@ -108,7 +108,7 @@ def may_still_take_place(operation: Operation, index: int) -> bool:
 
 
 def growth_of(over: Over, pending: List[Operation]) -> Optional[Growth]:
-    """None where there are too many to try, or the walk says another event than the program."""
+    """None if there are too many to try, or the walk says another event than the program."""
     walker = Walker(over.model, COUNTED, over.effort.work)
     steps: List[Tuple[int, int]] = []
     most = 1

@@ -34,7 +34,7 @@ ESCAPES = 'a string that begins here has an escape other than \\t \\r \\n \\\\ \
 
 
 class Profile:
-    """Tests tokens. Its expressions are compiled where one is made, since most readers need none."""
+    """Tests tokens. Its expressions are compiled when one is made, since most readers need none."""
 
     def __init__(self) -> None:
         self._token = re.compile(f"{RUN}|{STRING}")
@@ -62,7 +62,7 @@ class Profile:
 
 
 def reason_of(piece: str, place: int) -> Optional[str]:
-    """Why what begins at this place of the piece is outside the profile; None where it is not."""
+    """Why what begins at this place of the piece is outside the profile; None if it is not."""
     if place == len(piece) or re.compile(f"{WHOLE_ATOM}|{STRING}|[{{}}\\[\\]]|#[{{_]").match(piece, place):
         return None
     if piece[place] == '"':  # one that does not end is for the reader to refuse

@@ -1,4 +1,4 @@
-"""Elements of a history as events, also where they are none that jepmon takes."""
+"""Elements of a history as events, also if they are none that jepmon takes."""
 from __future__ import annotations
 
 from typing import Dict, List, NamedTuple, Optional, Sequence

@@ -50,7 +50,7 @@ def parser() -> argparse.ArgumentParser:
 
 
 def work() -> int:
-    """Prints what the check prints, and says what may be said beside it. Gives the status of the check."""
+    """Prints the lines of the check, and explains them. Gives the status of the check."""
     words = parser()
     try:
         given = words.parse_args()

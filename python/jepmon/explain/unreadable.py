@@ -40,7 +40,7 @@ def of_fault(text: str, begin: int, fault: Unreadable) -> Iterator[str]:
 
 
 def begin_of_atom(text: str, place: int) -> int:
-    """Where the atom begins that the place is in the middle of, or else the place."""
+    """The beginning of the atom around the place, or the place itself if no atom is there."""
     delimiter = re.compile(DELIMITER)
     while place < len(text) and place > 0 and not delimiter.search(text, place - 1, place + 1):
         place -= 1

@@ -57,7 +57,7 @@ def of_sources(of_key: Sequence[Event], options: Options, shower: Shower) -> Ite
 
 
 def sources_of(of_key: Sequence[Event], reader: str) -> "Tuple[Dict[int, Tuple[Event, Event]], Counter[int]]":
-    """By value the last operation that brought it and failed, and how many brought it and did not fail."""
+    """For each value: the last operation that put it in and failed, and the number of operations that put it in and did not fail."""
     invoked: Dict[Optional[int], Event] = {}
     failed: Dict[int, Tuple[Event, Event]] = {}
     taken = collections.Counter(value for event in of_key if event.kind == "invoke" for value in brought(event, reader))
@@ -72,7 +72,7 @@ def sources_of(of_key: Sequence[Event], reader: str) -> "Tuple[Dict[int, Tuple[E
 
 
 def brought(event: Event, reader: str) -> List[int]:
-    """The value that an operation brings into its object, where a read or a dequeue may find it."""
+    """The value that an operation puts into its object, if a read or a dequeue may find it."""
     if event.name not in BROUGHT or (event.name == "enqueue") != (reader == "dequeue"):
         return []
     part = event.part

@@ -38,7 +38,7 @@ class Clock:
         self.needs_unit = False  # whether the unit has to be known, as for a duration or a clock error
 
     def time(self, line: int, field: Any, unit: Optional[str]) -> Optional[Time]:
-        """The time that a field says, whose name may say its unit. None where it says none."""
+        """The time that a field says, whose name may say its unit. None if it says none."""
         if type(field) is int or type(field) is float:
             return self._number(line, field, unit)
         if field is None or field == "":
@@ -55,7 +55,7 @@ class Clock:
         raise Refused(f"line {line}: {_shown(field)} is not a time: a number, or a date as 2024-05-01T10:00:00.123Z")
 
     def end(self, line: int, field: Any, unit: Optional[str]) -> Optional[Time]:
-        """The time of a return. None where it never came."""
+        """The time of a return. None if it never came."""
         return None if field in NEVER else self.time(line, field, unit)
 
     def span(self, line: int, field: Any, unit: Optional[str]) -> Time:
@@ -155,7 +155,7 @@ def _date_of(text: str, line: int) -> "tuple[int, bool]":
 
 @functools.lru_cache(maxsize=1 << 12)
 def _seconds(head: str) -> Optional[int]:
-    """The seconds since 1970 of 2024-05-01T10:00:00 in UTC; None where it is none."""
+    """The seconds since 1970 of 2024-05-01T10:00:00 in UTC; None if it is none."""
     if len(head) != 19 or head[4] != "-":
         return None
     try:

@@ -22,7 +22,7 @@ FRONT = 200_000  # characters within which a log's first event is looked for
 
 
 def form_of(text: str) -> str:
-    """The form of a text. Refused where it is none of a history."""
+    """The form of a text. Refused if it is none of a history."""
     comments = rows.COMMENTS.match(text)
     if comments is not None and EDN_BEHIND.match(text, comments.end()) is None:
         text = text[comments.end():]

@@ -30,7 +30,7 @@ def is_one(row: Row) -> bool:
 
 
 def turned(row: Row, writer: Writer) -> Optional[Row]:
-    """The row as one of a register; None where it changes no key."""
+    """The row as one of a register; None if it changes no key."""
     own = named(row.fields)
     asked, came = named(own["input"]), _inner(row, own, "output")
     kind = str(asked["type"]).lower()
@@ -64,7 +64,7 @@ def _refuse(row: Row, what: str) -> NoReturn:
 
 
 def _inner(row: Row, fields: Dict[str, Any], name: str) -> Dict[str, Any]:
-    """The object in a field, an empty one where there is none."""
+    """The object in a field, an empty one if there is none."""
     inner = fields.get(name) or {}
     if not isinstance(inner, dict):
         raise Refused(f"line {row.line}: its {name} is no object")

@@ -240,7 +240,7 @@ def _in_folder(folder: pathlib.Path) -> pathlib.Path:
 
 
 def _histories(folder: pathlib.Path) -> List[pathlib.Path]:
-    """The files within a folder that are called as histories are; where none is, those whose names end as histories' do."""
+    """The files within a folder that have a history's name; if there are none, those whose names end as a history's does."""
     files = list(_files(folder))
     named = [file for file in files if _plain(file.name) in NAMES]
     best = {file.parent: min((other for other in named if other.parent == file.parent), key=_rank) for file in named}
@@ -270,7 +270,7 @@ def _files(folder: pathlib.Path) -> Iterator[pathlib.Path]:
 
 
 def _beside(path: pathlib.Path) -> str:
-    """The history beside a file that is none."""
+    """The history next to a file that is not a history."""
     beside = path.parent / "history.edn"
     return f" (it is there: {beside})" if path.name in BESIDE and beside.is_file() else ""
 

@@ -1,6 +1,6 @@
 """Operations with the times of their calls and returns, made into events in the order of these times.
 
-Where one operation returns at the very time at which another one is called, they are taken as open at once: the invocation comes
+If one operation returns at the very time at which another one is called, they are taken as open at once: the invocation comes
 before the completion. So no order is made up, and a history that is legal stays so, whatever was shorter than the clock shows.
 An operation that never returned stays open, or ends as an :info where its client goes on. Which client did an operation says
 nothing to linearizability, so those that overlap on one client are spread over threads of their own.

@@ -29,7 +29,7 @@ RESULTS = "these are the results of a test, and no history"
 
 
 def named(text: str, as_set: bool) -> Optional[str]:
-    """The reason for which a text of EDN is none of a history that is judged, where that is seen in its first events."""
+    """The reason for which a text of EDN is none of a history that is judged, if that is seen in its first events."""
     try:
         return _named(edn.Reader(text).history(), as_set)
     except edn.Unreadable:  # which is told where the whole of it is read

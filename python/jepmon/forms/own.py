@@ -88,7 +88,7 @@ class Own(NamedTuple):
 
 
 def read(text: str) -> Optional[Own]:
-    """The history, where the text is one in this form, an event a line."""
+    """The history, if the text is one in this form, an event a line."""
     scan = _Scan()
     lines = text.split("\n")
     if not lines[-1]:

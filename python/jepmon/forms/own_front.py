@@ -29,7 +29,7 @@ def is_in_order(front: str, texts: Iterable[str]) -> bool:
 
 
 def is_own(front: str) -> bool:
-    """Whether the first event of a text is one in jepmon's own form; where there is none, it is."""
+    """Whether the first event of a text is one in jepmon's own form; if there is none, it is."""
     from ..shards.doubt import Doubt  # here, since it takes time to load
     from ..shards.lines import HEAD, rows_of
 

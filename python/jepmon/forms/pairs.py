@@ -1,4 +1,4 @@
-"""Rows that are events and do not stand in the order of their times, as where the files of several clients stand one behind the other.
+"""Rows that are events and do not stand in the order of their times, such as the files of several clients, one behind the other.
 
 The events of each client stand in their order. They are paired by client into operations with a call and a return, which go by their times,
 as any other operations (intervals.py). If one returns at the time at which another is called, they count as open at once.

@@ -35,7 +35,7 @@ class Recorded(NamedTuple):
     has_commands: bool = False  # so that its text is not that of the file
 
     def line(self, index: int) -> int:
-        """The line in the file of an event; 0 where it has none."""
+        """The line in the file of an event; 0 if it has none."""
         return self.lines[index]
 
 

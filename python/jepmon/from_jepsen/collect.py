@@ -96,7 +96,7 @@ class Collector:
         self.account.close(lines)
 
     def take_run(self, run: edn.Element, plain: Plain, count: int) -> int:
-        """Takes events by what plain.py finds in them, where there is nothing else to be said of them; gives how many there were by then."""
+        """Takes events by what plain.py finds in them, if there is nothing else to be said of them; gives how many there were by then."""
         if self.is_odd(run, plain):
             for count, element in enumerate(run.each(), count):
                 self.take(element, count)
@@ -262,7 +262,7 @@ class Collector:
             self.history.add(event)
 
     def key_and_part(self, line: int, kind: str, name: str, value: Value) -> Tuple[Value, Value]:
-        """The key and the part of an event's value, which is read once where it comes again and again."""
+        """The key and the part of an event's value, which is read once if it comes again and again."""
         known = self.known.get((kind, name, value))
         if known is None:
             plain = canonical(value)

@@ -133,7 +133,7 @@ class History:
 
 
 def tuple_of(value: Value) -> Optional[Tuple[Value, Value]]:
-    """The key and the part of a tuple of jepsen.independent, also where it was printed as a map with :key and :value."""
+    """The key and the part of a tuple of jepsen.independent, also if it was printed as a map with :key and :value."""
     if is_pair(value):
         return value.members[0], value.members[1]  # type: ignore[union-attr]
     fields = fields_of(value)

@@ -10,7 +10,7 @@ NUMBER = r"[+-]?[0-9]{1,100}(\.[0-9]{0,100})?([eE][+-]?[0-9]{1,3})?[MN]?"
 
 
 class Numbering:
-    """Integers stay as they are where all of them are within the limits; else each thing gets a number at first sight. Collections for
+    """Integers stay as they are if all of them are within the limits; else each thing gets a number at first sight. Collections for
     which `alike` gives one value are one."""
 
     def __init__(self, things: Callable[[], Iterable[Value]], limits: range, alike: Optional[Callable[[Value], Value]] = None) -> None:
@@ -51,7 +51,7 @@ class Numbering:
         return dict(enumerate(map(shown, self._things)))
 
     def told(self, what: str) -> Iterator[str]:
-        """The table, where things were numbered."""
+        """The table, if things were numbered."""
         if self.stays:
             return
         yield f"{what}s are numbered:"

@@ -66,7 +66,7 @@ class Plain(NamedTuple):
 
 
 def plain_of(text: str, has_keys: bool) -> Optional[Plain]:
-    """For a history that begins with this text; None where none of its first lines is an event of a client."""
+    """A reader for a history that begins with this text; None if none of its first lines is an event of a client."""
     fields = {**FIELDS, ":value": WITH_KEY if has_keys else PART}
     for line in LINE.finditer(text, 0, FRONT):
         known = [key for key in KEY.findall(line[2]) if key in fields]

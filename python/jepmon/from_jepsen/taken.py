@@ -35,7 +35,7 @@ def refuse_value_of_read(line: int, name: Value, value: Value) -> None:
 
 
 def refuse_others(elements: Iterator[edn.Element]) -> None:
-    """Refuses what follows where it has operations that no key makes into ones of jepmon."""
+    """Refuses the rest of a history whose operations are none of jepmon's with any key."""
     try:
         for element in itertools.chain.from_iterable(element.each() for element in elements):
             fields = edn.fields_of(element.value) or {}

@@ -34,7 +34,7 @@ class Turned:
 
     @property
     def begun(self) -> int:
-        """How many events come before the history's own: those by which each register begins where nil is what a missing key answers."""
+        """How many events come before the history's own: those by which each register begins if nil is what a missing key answers."""
         return 2 * len(self._writer.registers)
 
     def texts(self) -> Iterator[str]:
@@ -79,7 +79,7 @@ def collected(source: Source, asked: Asked, account: Account) -> History:
 
 
 def written(history: History, nil_is_absent: bool, limits: Limits, initial: Optional[Value] = None) -> Turned:
-    """The history as it is written within these limits, and what each register holds at first, where that is known."""
+    """The history as it is written within these limits, and what each register holds at first, if that is known."""
     if history.nil_fault is not None and not nil_is_absent:
         raise history.nil_fault
     models = models_of_keys(history)

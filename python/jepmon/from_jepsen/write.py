@@ -47,7 +47,7 @@ class Writer:
             raise TooMany(f"it has {len(history.keys)} keys, and jepmon takes {limits.keys.stop}")
 
     def _values(self) -> Iterator[Value]:
-        """The values of all events; none where they are plain, since they stay as they are."""
+        """The values of all events; none if they are plain, since they stay as they are."""
         if self.initial is not None:
             yield self.initial
         if self.history.is_plain and (self.initial is None or integer(self.initial) is not None):
@@ -131,7 +131,7 @@ def fault_line(fault: Tuple[Any, ...]) -> str:
 
 
 def values_of(event: Event, of_set: bool) -> Sequence[Value]:
-    """The values in the part of an event; nil is one where it is written, or is the answer of a read."""
+    """The values in the part of an event; nil is one if it is written, or is the answer of a read."""
     if event.part == "nil" and not has_value(event):
         return ()
     if isinstance(event.part, Many) and (event.name == ":cas" or of_set and event.name == ":read"):

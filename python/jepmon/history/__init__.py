@@ -34,7 +34,7 @@ class Event(NamedTuple):
 
 
 class Operation(NamedTuple):
-    """An invocation, and its completion where there is one."""
+    """An invocation, and its completion if there is one."""
 
     invocation: Event
     completion: Optional[Event]  # None: open at the end
@@ -95,7 +95,7 @@ def event_of(index: int, element: edn.Element) -> Event:
 
 
 def client_event(index: int, element: edn.Element, fields: Dict[str, edn.Value]) -> Optional[Event]:
-    """An event of a client; None where it is none."""
+    """An event of a client; None if it is none."""
     kind, name = edn.keyword(fields.get(":type")), edn.keyword(fields.get(":f"))
     process, value = edn.integer(fields.get(":process")), fields.get(":value")
     if kind not in kinds.EVENT_TYPES or name not in kinds.OPERATIONS or process is None or process not in kinds.PROCESSES:
@@ -113,7 +113,7 @@ def client_event(index: int, element: edn.Element, fields: Dict[str, edn.Value])
 
 
 def part_of(kind: str, name: str, part: edn.Value) -> Value:
-    """The part of an event, where the tables of docs/FORMATS.md have it; else a ValueError."""
+    """The part of an event, if the tables of docs/FORMATS.md have it; else a ValueError."""
     answers = kind == "ok" and name in kinds.ANSWERED
     if part == "nil" and name in kinds.WITHOUT_PART and (name != "dequeue" or not answers):
         return None
@@ -133,7 +133,7 @@ def two(numbers: List[int]) -> Tuple[int, int]:
 
 
 def nemesis_event(index: int, element: edn.Element, fields: Dict[str, edn.Value]) -> Optional[Event]:
-    """An event of the nemesis, which is one of its faults; None where it is none."""
+    """An event of the nemesis, which is one of its faults; None if it is none."""
     name, value = edn.keyword(fields.get(":f")), fields.get(":value")
     if name is None or value is None or not faults.is_fault(fields):
         return None

@@ -45,7 +45,7 @@ def after_fault(fault: Fault, moment: int) -> str:
 
 def until(faults: Sequence[Fault], moment: int) -> str:
     """How long before which fault the moment comes: `0.07 s before "n1 is down, by kill -9" began`; and before the next one that ended a
-    process, if that is another one. Nothing where none began after it."""
+    process, if that is another one. Nothing if none began after it."""
     following = after(faults, moment)
     hard = after(list(filter(ends_a_process, faults)), moment)
     named = [fault for fault in (following, hard if hard is not following else None) if fault is not None]

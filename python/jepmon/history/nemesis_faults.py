@@ -44,5 +44,5 @@ def is_partition(value: Optional[Value]) -> bool:
 
 
 def ended_by(name: str) -> Tuple[str, ...]:
-    """The names of what ends a fault of this name; none where it is a fault of a moment, or not known."""
+    """The names of what ends a fault of this name; none if it is a fault of a moment, or not known."""
     return (STOPS + name[len(STARTS):],) if name.startswith(STARTS) else ENDED_BY.get(name, ())

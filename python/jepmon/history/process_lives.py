@@ -30,7 +30,7 @@ class Lives:
             self._crashed[process] = self._count
 
     def fewest(self) -> Optional[int]:
-        """The fewest threads that fit; None where none do. The greatest process is below their number, or greater by it than one that
+        """The fewest threads that fit; None if none do. The greatest process is below their number, or greater by it than one that
         has crashed."""
         if self._is_broken:
             return None

@@ -119,7 +119,7 @@ def at(event: Event, source: Source) -> Object:
 
 
 def where(event: Optional[Event], source: Source) -> Object:
-    """Where the event stands in the file; null where it stands in none, as the write by which a key begins."""
+    """The place of the event in its file; null if it is in no file, such as the write with which a key begins."""
     if event is None or not event.line:
         return {"file": None, "line": None}
     file, line = source.place(event.line)

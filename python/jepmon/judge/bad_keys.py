@@ -102,7 +102,7 @@ def named(recorded: Recorded, key: int) -> str:
 
 
 def others_told(recorded: Recorded, keys: Sequence[Shown]) -> Iterator[str]:
-    """The keys beside the first one, each with its cause in a line."""
+    """The bad keys after the first one, each with its cause in a line."""
     others = keys[1:]
     if not others:
         return

@@ -49,7 +49,7 @@ def say(line: str) -> None:
 
 
 class Asked(NamedTuple):
-    """A history as it goes to shards: in jepmon's own form, and what it was made from where that was another one."""
+    """A history as it goes to shards: in jepmon's own form, and its source if that has another form."""
 
     history: History
     concurrency: Optional[int]  # None: it is found
@@ -298,7 +298,7 @@ def chosen(tally: Tally, model: Optional[str], made: Optional[Turned] = None) ->
 
 
 def of_bad_key(choice: Choice, report: Report) -> Choice:
-    """The choice with the model of the bad key, where each key has its own."""
+    """The choice with the model of the bad key, if each key has its own."""
     if choice.common is not None or not report.keys:
         return choice
     return choice._replace(models={report.keys[0].key: report.keys[0].model})

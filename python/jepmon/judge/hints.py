@@ -100,7 +100,7 @@ def of_unknown(keys: Sequence[KeyLine], options: Options) -> Iterator[str]:
 
 
 def _of_order(history: Recorded, task: Task, key: int) -> Iterator[str]:
-    """Where a key that is illegal would be legal by a model with the same operations."""
+    """A line that names another model with the same operations, if an illegal key is legal by it."""
     model = task.choice.of(key)
     if model in ALIKE:
         yield from of_order(key, model, of_key(history, key), task.options)

@@ -1,4 +1,4 @@
-"""Has a history judged by the program: by `jepmon check` where all keys are of one kind, else by `jepmon script`."""
+"""Has a history judged by the program: by `jepmon check` if all keys are of one kind, else by `jepmon script`."""
 from __future__ import annotations
 
 import os
@@ -29,7 +29,7 @@ class Task(NamedTuple):
 
     @property
     def commands(self) -> List[str]:
-        """The lines that say what the keys are, where they are not all alike."""
+        """The lines that say what the keys are, if they are not all alike."""
         by_ends = () if self.options.by_ends else self.by_ends
         keys: Iterable[int] = by_ends if self.choice.common else self.choice.models
         return ([f"[:model {key} :{self.options_of(key).kind()}]" for key in keys]

@@ -95,7 +95,7 @@ class Folder:
         put_keys(self.path / name, pages)
 
     def give_up(self) -> None:
-        """Takes away the folders that were made, where nothing came into them."""
+        """Takes away the folders that were made, if nothing came into them."""
         for folder in self._made:
             try:
                 folder.rmdir()

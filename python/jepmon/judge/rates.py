@@ -1,4 +1,4 @@
-"""The page of rates of a recorded history that has times: beside the page of the bad key, or by itself where the history is legal."""
+"""The page of rates of a recorded history that has times: next to the page of the bad key, or by itself if the history is legal."""
 from __future__ import annotations
 
 import pathlib
@@ -53,7 +53,7 @@ def of_one(name: str, found: Recorded, task: Task, report: Report) -> Given:
 
 
 def write(words: Words, folder: Optional[Folder], given: Given) -> None:
-    """Writes the page where --html and --out ask for pages, and the history has times."""
+    """Writes the page if --html or --out asks for pages and the history has times."""
     if not words.html and folder is None:
         return
     timed = read(given)
@@ -74,7 +74,7 @@ def beside(path: str) -> str:
 
 
 def put(path: str, text: str) -> None:
-    """Writes it; where another file has the name, that is said."""
+    """Writes it; if another file has the name, that is said."""
     try:
         Page(path)
         command.write_file(path, text)
@@ -114,7 +114,7 @@ def notes(timed: Timed) -> Iterator[str]:
 
 
 def read(given: Given) -> Optional[Timed]:
-    """The operations and faults by their times, from the first event on; None where no event has a time."""
+    """The operations and faults by their times, from the first event on; None if no event has a time."""
     first = min((now for *_, now in given.told() if now is not None), default=None)
     if first is None:
         return None

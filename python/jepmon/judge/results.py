@@ -69,7 +69,7 @@ def others_without_page(results: Results) -> List[page.Other]:
 
 
 def files(results: Results) -> Dict[str, Optional[str]]:
-    """The files of the folder, without the pages; None where there is none."""
+    """The files of the folder, without the pages; None if there is none."""
     found, task, report = results.found, results.task, results.report
     text = task.text if found.is_own else faults.noted(task.text, found.faults)
     return {

@@ -32,7 +32,7 @@ def leave_verdict(folder: RunFolder, conclusion: Conclusion) -> None:
 
 
 def leave_cause(folder: RunFolder, conclusion: Conclusion) -> None:
-    """Why it is illegal or unknown, in words and as a page. Nothing where the history does not have it, and says so elsewhere."""
+    """The cause of an illegal or unknown verdict, in words and as a page. Nothing if the history does not have it; another line then says so."""
     failure = conclusion.failure
     if failure is None or failure.key is None or failure.index is None or folder.lost is not None:
         return

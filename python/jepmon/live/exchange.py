@@ -29,7 +29,7 @@ class Exchange:
             raise refused(fault) from None
 
     def replies(self, lines: List[str], timeout: Optional[float] = None) -> List[str]:
-        """Sends lines, and waits for the reply to each. Refused where the program has ended, or gives none in time."""
+        """Sends lines, and waits for the reply to each. Refused if the program has ended, or gives none in time."""
         try:
             with self._lock:
                 return self._script.replies(lines, timeout)

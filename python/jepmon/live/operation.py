@@ -20,7 +20,7 @@ class Teller(Protocol):
     missing: Missing
 
     def invoke(self, name: str, key: int, part: str) -> Optional[int]:
-        """The thread of jepmon that it is on; none where it was not told."""
+        """The thread of jepmon that it is on; none if it was not told."""
 
     def complete(self, kind: str, thread: int, name: str, key: int, part: str, invoked: str) -> None:
         """The operation on this thread ends so."""

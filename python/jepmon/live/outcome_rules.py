@@ -30,8 +30,8 @@ def endings(expected: Exceptions, failed: Exceptions) -> Endings:
 def outcome_of(error: BaseException, ends: Endings) -> Optional[str]:
     """The outcome by which an exception ends an operation and goes no further: "fail" or "info"; None for one that goes on.
 
-    Where it is of classes in both, the more special one decides: with failed=(ConnectionRefusedError,) and expected=(OSError,) a
-    refused connection is a "fail". Where no class of failed is below each of expected that it is of, it is an "info", which is
+    If it is of classes in both, the more special one decides: with failed=(ConnectionRefusedError,) and expected=(OSError,) a
+    refused connection is a "fail". If no class of failed is below each of expected that it is of, it is an "info", which is
     the cautious one: an :info makes no false alarm. So is a timeout, or a connection that was cut, where failed has no such class
     itself: with failed=(OSError,) a TimeoutError is an "info", with failed=(TimeoutError,) a "fail"."""
     if isinstance(error, Failed):

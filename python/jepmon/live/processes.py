@@ -16,7 +16,7 @@ class Processes:
         self._current = list(range(concurrency))  # the process of each thread
 
     def settle(self, number: int) -> None:
-        """Gives this thread of Python the thread of jepmon of this number, where it is free."""
+        """Gives this thread of Python the thread of jepmon with this number, if that is free."""
         self._homes[threading.get_ident()] = number
 
     def take(self) -> int:

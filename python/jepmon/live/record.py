@@ -17,7 +17,7 @@ class Record:
 
     @property
     def name(self) -> str:
-        """The folder, where there is one."""
+        """The folder, if there is one."""
         return self.folder.name if self.folder is not None else ""
 
     def write(self, line: str, kept: str) -> None:

@@ -4,7 +4,7 @@
                              judge-again   a script with the command that judges it again
                              verdict.txt   the verdict
                              counts.txt    how many operations ended how, which keys were dropped, what else ended the test
-                             names.txt     what the numbers of Monitor.number stand for, where there are any
+                             names.txt     what the numbers of Monitor.number stand for, if there are any
                              cause.txt     why it is illegal or unknown, in words
                              page.html     and as a picture
                              run.html      rates, latencies and faults over time, and all keys (docs/guide/PAGE.md); made at the end

@@ -26,7 +26,7 @@ BROKEN_OFF = "the exchange with jepmon was broken off"
 
 
 def test_unknown(unknown: str) -> None:
-    """Tests what a monitor is to do where it does not know."""
+    """Tests the setting for keys over their budget."""
     if unknown not in ("raise", "drop"):
         raise ValueError(f"unknown is 'raise' or 'drop', not {unknown!r}")
 
@@ -72,7 +72,7 @@ class Telling:
             self._processes.settle(number)
 
     def invoke(self, name: str, key: int, part: str) -> Optional[int]:
-        """Tells an invocation, and gives the thread of jepmon that it is on; none where the key was dropped."""
+        """Tells an invocation, and gives the thread of jepmon that it is on; none if the key was dropped."""
         with self.lock:
             self._test_running()
             if key not in self.dropped and self.is_register(key):
@@ -242,7 +242,7 @@ class Telling:
             raise
 
     def _ask(self, line: Line) -> None:
-        """Has the line sent, with all that is queued, and waits for its reply. Raises what is not legal, also where it was found
+        """Has the line sent, with all that is queued, and waits for its reply. Raises what is not legal, also if it was found
         before."""
         self._queue.ask(line, self._answer)
         if self.failure is not None:
@@ -258,7 +258,7 @@ class Telling:
             lines = self._not_legal(lines[legal:], replies[legal:]) if legal < len(replies) else []
 
     def _replies(self, lines: List[Line], timeout: Optional[float] = None) -> List[str]:
-        """The replies, for which it waits without the lock; none where the exchange fails."""
+        """The replies, for which it waits without the lock; none if the exchange fails."""
         failure: Optional[NotLegal] = None
         self.lock.release()
         try:
@@ -317,7 +317,7 @@ class Telling:
 
     def _illegal_behind(self, lines: List[Line], replies: List[str]) -> Tuple[List[Line], List[str]]:
         """The first reply that is `illegal`, also among the replies to lines that were written down behind these and not sent yet: it is
-        the verdict on everything that was written down. Nothing, where there is none."""
+        the verdict on everything that was written down. Nothing, if there is none."""
         rest = list(self._queue.lines)
         lines, replies = lines + rest, replies + (self._replies(rest) if rest else [])
         place = next((place for place, reply in enumerate(replies) if reply.startswith("illegal")), len(lines))

@@ -1,4 +1,4 @@
-"""Where a value that a key answers may come from: which operations of it brought which values in, and which of them failed."""
+"""The possible sources of a value that a key answers: its operations that put values in, and which of them failed."""
 from __future__ import annotations
 
 import collections

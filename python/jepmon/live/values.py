@@ -9,7 +9,7 @@ Value = Union[None, int, Iterable[int]]
 
 
 def key_of(key: Any) -> int:
-    """The key, where it is one."""
+    """The key, if it is one."""
     if isinstance(key, bool) or not isinstance(key, int) or not KEYS.start <= key < KEYS.stop:
         raise ValueError(f"a key is an integer from 0 to {KEYS.stop - 1}, not {key!r}; Monitor.number gives one")
     return key

@@ -1,7 +1,7 @@
 """The folder of a run of a test without an end: a folder for each part, and what joins them.
 
     runs/20261127T193005.123/part-0001/   as the folder of a run of Monitor: its history, judge-again, the verdict, its objects' names
-                             part-0002/   (names.txt), and the cause and the page where it is illegal or unknown
+                             part-0002/   (names.txt), and the cause and the page if it is illegal or unknown
                              parts.txt    a line for each part that is closed
                              judge-again  a script that judges each part again, and joins the verdicts
                              verdict.txt  the verdict of all, and what was not judged
@@ -77,7 +77,7 @@ class LongFolder:
         self._legal: Deque[pathlib.Path] = collections.deque()  # parts that are kept so far
 
     def part(self, name: str, options: Options, program: str) -> Optional[RunFolder]:
-        """The folder of a new part; none where it can't be written."""
+        """The folder of a new part; none if it can't be written."""
         if self.path is None:
             with new_folder(self._out, self._begun) as path:
                 write_whole(path / AGAIN, SCRIPT.format(begun=self._begun.isoformat()), executable=True)
@@ -95,7 +95,7 @@ class LongFolder:
             return None
 
     def _here(self, name: str) -> pathlib.Path:
-        """As it is shown where that is right still: the test may have gone to another folder."""
+        """As it is shown if that is right still: the test may have gone to another folder."""
         assert self.path is not None
         return self._shown / name if self._shown.absolute() == self.path else self.path / name
 

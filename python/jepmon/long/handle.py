@@ -13,7 +13,7 @@ if TYPE_CHECKING:
 class Handle(Operations):
     """LongMonitor.fresh makes it. Each block is an operation on one of its objects, whose name is op.name. A change goes to an object that
     is not replaced yet. One of two reads goes to a replaced one, until it was read eight times since, because reads alone see lost data. A
-    dequeue goes to a replaced one until it was found empty twice. Where each object has its operations open already, a new one comes beside
+    dequeue goes to a replaced one until it was found empty twice. If each object has its operations open already, a new one comes beside
     them."""
 
     def __init__(self, parts: Parts, model: str, changes: Optional[int]) -> None:
@@ -57,7 +57,7 @@ class Handle(Operations):
             self._replaced = [one for one in self._replaced if not (one.is_over or one.is_read_enough)]
 
     def _drawn(self, objects: List[LongObject]) -> Optional[LongObject]:
-        """One that has room, from a place that is drawn; None where none has."""
+        """One that has room, from a place that is drawn; None if none has."""
         place = self._parts.draws.randrange(len(objects)) if objects else 0
         return next((one for one in objects[place:] + objects[:place] if one.has_room), None)
 

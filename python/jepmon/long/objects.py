@@ -36,7 +36,7 @@ class Operations:
         return self._operation("write", self._part(value))
 
     def cas(self, old: Optional[int], new: Optional[int]) -> LongOperation:
-        """Sets it to new where it is old. Where the store says that it was not: op.fail()."""
+        """Sets it to new if it is old. If the store says that it was not: op.fail()."""
         return self._operation("cas", f"[{self._part(old)} {self._part(new)}]")
 
     def add(self, value: int) -> LongOperation:
@@ -50,7 +50,7 @@ class Operations:
         return self._operation("dequeue")
 
     def acquire(self) -> LongOperation:
-        """Takes a lock. Where somebody else holds it: op.fail(). Release it by op.object.release()."""
+        """Takes a lock. If somebody else holds it: op.fail(). Release it by op.object.release()."""
         return self._operation("acquire")
 
 

@@ -60,7 +60,7 @@ class Parts:
     # --- Operations ---
 
     def begin(self, chooser: Union[Handle, LongObject], name: str) -> Tuple[LongObject, Optional[Telling]]:
-        """The object on which an operation begins, and whom to tell of it: nobody where its part is shut."""
+        """The object on which an operation begins, and whom to tell of it: nobody if its part is shut."""
         with self.lock:
             self._test_running()
             one = chooser.choose(name)
@@ -75,7 +75,7 @@ class Parts:
             return one, one.part.telling
 
     def end(self, one: LongObject, name: str, outcome: Optional[str], told: bool, is_answered: bool) -> None:
-        """It has ended so there; None where it could not begin."""
+        """It has ended so there; None if it could not begin."""
         with self.lock:
             one.open -= 1
             one.part.open -= 1
@@ -113,7 +113,7 @@ class Parts:
         return copy.copy(self.failure)
 
     def _fail(self, part: Part, failure: NotLegal) -> None:
-        """The first part that is not legal has the verdict, with the name of its object, also where the clients were broken off before."""
+        """The first part that is not legal has the verdict, with the name of its object, also if the clients were broken off before."""
         if self.failure is not None and self.failed_part:
             if failure.status == 1 and part.name != self.failed_part:
                 self.tally.also_illegal[part.name] = failure.reply
@@ -214,7 +214,7 @@ class Parts:
                 self._forget(name)
 
     def _close_one(self, part: Part, ended_by: Optional[BaseException]) -> List[str]:
-        """Gives the names of its objects, where nobody has to look at them any more."""
+        """Gives the names of its objects, once you need not look at them any more."""
         telling, names = part.telling, [one.name for one in part.objects]
         assert telling is not None
         try:

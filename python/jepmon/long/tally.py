@@ -36,7 +36,7 @@ class Tally:
             self.first_dropped.append(f"{unknown.reply} of {part.name}: {part.objects[key].name}")
 
     def verdict(self, failure: Optional[NotLegal], of: str) -> str:
-        """The line of the verdict, by itself where all was judged; else what was not, a line each."""
+        """The line of the verdict, by itself if all was judged; else also the things that were not judged, a line each."""
         first = self.first_dropped[0].partition(":")[0] if self.first_dropped else "legal"
         lines = [first if failure is None else failure.reply + (f" of {of}" if of else "")]
         lines += [f"also {reply} of {part}" for part, reply in self.also_illegal.items()]

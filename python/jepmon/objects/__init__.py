@@ -106,5 +106,5 @@ def nowhere(_state: State, _part: Part) -> List[Outcome]:
 
 
 def rule(model: str, name: str) -> Rule:
-    """The outcomes of the operation of this name: each is the state after it and its answer. Where there is none, it can't take place."""
+    """The outcomes of the operation of this name: each is the state after it and its answer. If there is none, it can't take place."""
     return RULES.get((model, name), nowhere)

@@ -1,16 +1,16 @@
 """Walks through the events of one key, and keeps what can be after each: its ends.
 
 An end is the result of one possible order of the operations. It has the state, the open operations that have taken place in it, each with
-its answer, and the timed-out ones that have (but not reads, which decide nothing). The words are those of docs/guide/BUDGETS.md. Where no
-end goes on the key is dead; where an ok meets more ends than the budget it is over. The proved program says both, and this walk must say
+its answer, and the timed-out ones that have (but not reads, which decide nothing). The words are those of docs/guide/BUDGETS.md. If no
+end goes on the key is dead; if an ok meets more ends than the budget it is over. The proved program says both, and this walk must say
 the same: it is there to show what the program only counts. The program counts something else for wide kinds, so there `follow` gives up
-instead. It is tested against the program, and not proved. Where it would take too long it gives up, and then
+instead. It is tested against the program, and not proved. If it would take too long it gives up, and then
 nothing that it has found may be shown.
 
     walked = walk(of_key(events, 7), "register", 4096)
     walked.status            # "alive", "dead", "over", or "gave up"
     walked.index             # of the event where it is dead or over, as `jepmon check` says
-    walked.steps[-1].ends    # how many ends there were just before the last event, where that is an ok
+    walked.steps[-1].ends    # how many ends there were just before the last event, if that is an ok
     walked.ends()            # where it is dead those just before the fatal event, none of which goes on; else those at its end
     walked.ends()[0].order   # one order that leads to this end
 
@@ -48,7 +48,7 @@ class TooMany(Exception):
 
 
 class Step(NamedTuple):
-    """An event, and how many ends there were just before it, where it is an ok: this is what the budget bounds."""
+    """An event, and how many ends there were just before it, if it is an ok: this is what the budget bounds."""
 
     event: Event
     ends: Optional[int]
@@ -84,7 +84,7 @@ class Live(NamedTuple):
 
 
 class Walker:
-    """The walk, event by event. Where an event kills the key, the ends just before it are kept, and the walk goes no further. A
+    """The walk, event by event. If an event kills the key, the ends just before it are kept, and the walk goes no further. A
     probe is an invocation that is taken for an operation that changes nothing and finds the state. It gives up when too much was
     tried."""
 
@@ -100,14 +100,14 @@ class Walker:
         self._seated = 0
 
     def copy(self, budget: int, work: int = WORK, probe: Optional[int] = None) -> Walker:
-        """A walker that stands where this one does."""
+        """A copy of this walker, at the same event."""
         other = Walker(self.model, budget, work)
         other.dead, other.live, other._open, other._ends = self.dead, dict(self.live), dict(self._open), dict(self._ends)
         other._fresh, other._seats, other._seated, other._probe = list(self._fresh), list(self._seats), self._seated, probe
         return other
 
     def take(self, event: Event) -> Optional[int]:
-        """Goes on by an event of the key: the number of ends just before it, where it is an ok. TooMany where these are more than
+        """Goes on by an event of the key: the number of ends just before it, if it is an ok. TooMany if these are more than
         the budget."""
         if event.kind == "invoke":
             self._invoke(event)
@@ -163,7 +163,7 @@ class Walker:
         return self._ends
 
     def complete(self, most: int = UNBOUNDED) -> Dict[Place, Link]:
-        """All ends at this point, including those by invocations since the last ok. TooMany where they are more than most."""
+        """All ends at this point, including those by invocations since the last ok. TooMany if they are more than most."""
         if self._fresh:
             new = self._reach(self._fresh, list(self._ends), {}, most)
             everything, moves = list(self.live.values()), {}  # type: Tuple[List[Live], Dict[State, List[Move]]]
@@ -175,7 +175,7 @@ class Walker:
         return self._ends
 
     def after_ok(self, operation: Live, answer: Part) -> Dict[Place, Link]:
-        """The ends that go on where the operation completes with this answer. The ends are complete before. A nil agrees with any value of
+        """The ends that remain if the operation completes with this answer. The ends are complete before. A nil agrees with any value of
         a register; an operation without an answer agrees with every answer."""
         seat = operation.seat
         if not operation.answers:
@@ -285,13 +285,13 @@ class Walk:
         return self.steps[-1].event if self.status == "dead" else None
 
     def ends(self) -> List[End]:
-        """The ends at its end: where it is dead those just before the fatal event. None where it is over or gave up. GaveUp is raised if
+        """The ends at its end: where it is dead those just before the fatal event. None if it is over or gave up. GaveUp is raised if
         there are too many; the budget does not bound them if the last event is not an ok."""
         return self.walker.ends() if self.status in ("alive", "dead") else []
 
     def while_open(self, invocation: int, work: int = WORK) -> Optional[Set[State]]:
         """The values that the object may have held while the operation of the fatal event was open, in any order that is possible just
-        before that event. None where there would be too much to try."""
+        before that event. None if there would be too much to try."""
         begun = next(place for place, step in enumerate(self.steps) if step.event.index == invocation)
         stop = next(stop for stop in reversed(self.stops) if stop.steps <= begun)
         walker = stop.walker.copy(UNBOUNDED, work, invocation)

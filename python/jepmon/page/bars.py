@@ -35,7 +35,7 @@ class Drawn(NamedTuple):
 
 
 def bars(given: PageInput, width: int = WIDTH, lines: int = LINES, plain: bool = False) -> str:
-    """The bars of the smallest illegal part, where there is one and it has room, else of the last events up to the fatal one.
+    """The bars of the smallest illegal part, if there is one and it has room, else of the last events up to the fatal one.
     Plain: in ASCII."""
     labels = Labels(given.names)
     fatal = fatal_of(given.verdict)

@@ -31,7 +31,7 @@ def counted(value: int, of: str) -> str:
 
 
 def agreement(given: PageInput) -> Tuple[bool, str]:
-    """Whether what the walk found may be shown; else why not, where there was a walk."""
+    """Whether what the walk found may be shown; else why not, if there was a walk."""
     walked = given.walked
     if walked is None:
         return False, ""

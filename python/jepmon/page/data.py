@@ -87,7 +87,7 @@ def field_names(events: Sequence[Event]) -> List[str]:
 
 
 def event_row(event: Event, names: Sequence[str], most: int) -> List[Any]:
-    """Index, line, text (0 where it is the one that the script puts together by itself), and the further fields, nulls at the
+    """Index, line, text (0 if it is the one that the script puts together by itself), and the further fields, nulls at the
     end left out."""
     fields = [field_text(event.fields[name]) if name in event.fields else None for name in names]
     while fields and fields[-1] is None:

@@ -99,7 +99,7 @@ def linked(text: str, page: Page) -> str:
 
 
 def switch(page: Page) -> str:
-    """The switch to the smallest illegal part, where there is one that is smaller."""
+    """The switch to the smallest illegal part, if there is one that is smaller."""
     every = page.choice.every
     if not 0 < len(page.part) < every:
         return ""

@@ -18,7 +18,7 @@ WIDE = 80  # characters in a cell
 
 
 def ends_table(page: Page, walked: Walked) -> str:
-    """The section of the page; empty where there is no end to show."""
+    """The section of the page; empty if there is no end to show."""
     if not walked.ends:
         return ""
     of_index = {each.invocation.index: (place, each) for place, each in enumerate(page.choice.operations)}

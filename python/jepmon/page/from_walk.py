@@ -52,7 +52,7 @@ def found_words(taken: Mapping[int, Found], live: Mapping[int, walk.Live], label
 
 
 def held(given: walk.Walk, labels: Labels) -> List[Tuple[int, str]]:
-    """For each ok what the object could hold just before it. Nothing, where that would take too long."""
+    """For each ok, the values that the object could hold just before it. Nothing, if that would take too long."""
     walker = walk.Walker(given.model, 1 << 62, WORK)
     said: List[Tuple[int, str]] = []
     try:

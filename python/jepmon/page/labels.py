@@ -35,7 +35,7 @@ def cut(text: str, most: int) -> str:
 
 
 class Labels:
-    """Values and operations in words, where some values stand for others: `names` says for which."""
+    """Values and operations in words, if some values stand for others: `names` says for which."""
 
     def __init__(self, names: Mapping[int, str]) -> None:
         self.names = names
@@ -61,7 +61,7 @@ class Labels:
         return "ABSENT" if value == ABSENT else str(value)
 
     def operation(self, operation: Operation) -> str:
-        """The operation with its value; of one that answers, its answer where there is one."""
+        """The operation with its value; of one that answers, its answer if there is one."""
         asked, ended = operation.invocation, operation.completion
         if asked.name in ANSWERED:
             answered = ended is not None and ended.kind == "ok"
@@ -69,7 +69,7 @@ class Labels:
         return asked.name + ("" if asked.value is None else " " + self.value(asked.value))
 
     def stands_for(self, *events: Optional[Event]) -> str:
-        """Which numbers of these events stand for which values: "3 stands for blue"; empty where none does."""
+        """Which numbers of these events stand for which values: "3 stands for blue"; empty if none does."""
         found = {number for event in events if event is not None for number in numbers(event.value) if number in self.names}
         return "; ".join(f"{number} stands for {printable(self.names[number])}" for number in sorted(found)[:12])
 

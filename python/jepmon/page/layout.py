@@ -1,4 +1,4 @@
-"""Where the bars of operations stand: the row of each, and the gaps between events that leave room for the labels.
+"""If the bars of operations stand: the row of each, and the gaps between events that leave room for the labels.
 
 A place is the number of an event among those that are shown, from 0; gap i is from event i to event i + 1. The page (in pixels), the
 picture of the README (in pixels) and the terminal (in characters) have the same layout.
@@ -64,7 +64,7 @@ def lane(thread: int, operations: Sequence[Operation], places: Dict[int, int], l
 
 
 def row_for(late: List[int], bars: List[Bar], begin: int) -> int:
-    """A row below the first for one more bar; the oldest bar there is cut where no further row is to be had."""
+    """A row below the first for one more bar; the oldest bar there is cut if there is no further row."""
     if len(late) < LATE_ROWS:
         late.append(-1)
         return len(late)

@@ -8,7 +8,7 @@ from .labels import printable
 
 
 def others_table(given: PageInput) -> str:
-    """The section as HTML; nothing where there is no other key."""
+    """The section as HTML; nothing if there is no other key."""
     if given.back:
         return f'<section class="others"><p><a href="{html.escape(given.back)}">The first key that is not legal</a></p></section>'
     if not given.others:

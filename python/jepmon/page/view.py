@@ -23,7 +23,7 @@ BAND_LABEL = 170  # a fault's text gets no more
 
 
 class View(NamedTuple):
-    """Events by their indices, where each stands, how wide all is, the lanes, and the bands of faults."""
+    """Events by their indices, if each stands, how wide all is, the lanes, and the bands of faults."""
 
     columns: List[int]
     places: List[int]

@@ -74,8 +74,8 @@ def check(history: History, options: Options = Options(), program: Optional[str]
 
 def run_check(words: List[str], raw: Optional[bytes] = None, program: Optional[str] = None, timeout: Optional[float] = None,
               stderr: Optional[int] = None) -> Tuple[str, str, int]:
-    """Runs `jepmon check` with these words: its standard output, its standard error where that is taken, and its status. Its last
-    line is a verdict or a refusal, as its status says; where it printed nothing, it has refused an option."""
+    """Runs `jepmon check` with these words: its standard output, its standard error if it is taken, and its status. Its last
+    line is a verdict or a refusal, as its status says; if it printed nothing, it has refused an option."""
     name = find_program(program)
     try:
         ran = subprocess.run([name, "check"] + words, input=raw, stdin=None if raw is not None else subprocess.DEVNULL,

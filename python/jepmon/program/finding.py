@@ -1,4 +1,4 @@
-"""Where the program `jepmon` is, and which wide kinds it has."""
+"""If the program `jepmon` is, and which wide kinds it has."""
 from __future__ import annotations
 
 import functools

@@ -49,7 +49,7 @@ class Script:
             raise
 
     def reply(self, line: str, timeout: Optional[float] = None) -> str:
-        """Sends a line, and waits for the reply to it. A ProgramError where it has ended, or gives none in time."""
+        """Sends a line, and waits for the reply to it. A ProgramError if it has ended, or gives none in time."""
         return self.replies([line], timeout)[0]
 
     def replies(self, lines: List[str], timeout: Optional[float] = None) -> List[str]:
@@ -111,7 +111,7 @@ class Script:
         self._errors.close()
 
     def _kill(self) -> None:
-        """Kills it where it still runs, and what it has started."""
+        """Kills it if it still runs, and what it has started."""
         if self._child.poll() is None:
             os.killpg(self._child.pid, signal.SIGKILL)
             self._child.wait()

@@ -51,7 +51,7 @@ class Chart:
     # --- Faults ---
 
     def strip(self) -> str:
-        """The faults; nothing where there are none."""
+        """The faults; nothing if there are none."""
         laid = rows(self.faults, self.end, FIELD)
         if not laid:
             return ""

@@ -8,7 +8,7 @@ from .history import Fault, Key
 
 
 class KeyRow(NamedTuple):
-    """A key, or the object that it stands for. `link` leads to its own page, where it has one."""
+    """A key, or the object that it stands for. `link` leads to its own page, if it has one."""
 
     name: str
     part: str

@@ -12,7 +12,7 @@ SLACK = 1_000_000  # nanoseconds between the notes of one fault in two parts
 
 
 class Fault(NamedTuple):
-    """A fault by its time, in nanoseconds from the begin of the run. One of a moment ends where it began."""
+    """A fault by its time, in nanoseconds from the begin of the run. One of a moment ends if it began."""
 
     text: str
     begin: int

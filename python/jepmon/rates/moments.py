@@ -29,7 +29,7 @@ class Moments:
         self.slot *= 2
 
     def after(self, moment: int) -> "int | None":
-        """The first one from this moment on, to the slot; None where there is none."""
+        """The first one from this moment on, to the slot; None if there is none."""
         place = self._marks.find(MARK, max(0, moment) // self.slot)
         return None if place < 0 else place * self.slot
 

@@ -69,8 +69,8 @@ def parts_of(folder: pathlib.Path) -> List[pathlib.Path]:
 
 
 def verdict_of(folder: pathlib.Path) -> str:
-    """The first line of its verdict. Where the test was killed it has none."""
-    return text_of(folder / VERDICT).split("\n")[0] or f"{NO_VERDICT}: the test was killed, or runs still"
+    """The first line of its verdict. If the test was killed it has none."""
+    return text_of(folder / VERDICT).split("\n")[0] or f"{NO_VERDICT}: the test was killed, or is still running"
 
 
 def facts_of(folder: pathlib.Path) -> Dict[str, str]:

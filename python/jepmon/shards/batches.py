@@ -25,7 +25,7 @@ NOWHERE = (1 << 64) - 1  # the place of an event that stands in no history
 
 
 class KeyMap(NamedTuple):
-    """A key of a batch: its own number, how many events it has in the history, and how many in the batch. Where the batch has not all
+    """A key of a batch: its own number, how many events it has in the history, and how many in the batch. If the batch has not all
     of them, cut says why, and cut_place is the index in the history of the first that it has not."""
 
     key: int
@@ -147,7 +147,7 @@ class BatchText:
             self._threads.crash(thread)
 
     def _add_by_operation(self, rows: Sequence[Row], events: Events) -> None:
-        """Each operation has a thread that is free. Where none is, the key is cut."""
+        """Each operation has a thread that is free. If none is, the key is cut."""
         free = list(self._threads.all)
         invoked: Dict[int, Tuple[int, int]] = {}  # of a process: the thread, and the place of the invocation
         for place, (process, heads, spelling, crashes) in enumerate(rows):

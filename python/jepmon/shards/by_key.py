@@ -31,7 +31,7 @@ class KeysEvents(Dict[bytes, Callable[[Tuple[bytes, int, int]], None]]):
 
 
 class Rest:
-    """Tests the events of one key that the program does not see, as the program would; a Doubt where one is refused."""
+    """Tests the events of one key that the program does not see, as the program would; a Doubt if one is refused."""
 
     def __init__(self) -> None:
         self.count = 0
@@ -52,7 +52,7 @@ class Rest:
 
 @functools.lru_cache(maxsize=KNOWN)
 def event_of(kind: bytes, process: int, name: bytes, part: bytes) -> Event:
-    """An event of any key; a Doubt where its part is none."""
+    """An event of any key; a Doubt if its part is none."""
     try:
         elements = list(Reader(part).elements())
         if len(elements) != 1:

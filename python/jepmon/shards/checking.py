@@ -26,12 +26,12 @@ def check(history: History, options: Options = Options(), jobs: Optional[int] = 
 
     options    as of `jepmon check`; but the concurrency has no upper limit, nor has the number of keys or events
     jobs       how many processes work side by side; by default as many as there are processors
-    program    the program, where it is not the one that `find_program` finds
+    program    the program, if it is not the one that `find_program` finds
     temporary  the folder for temporary files, which take about half the room of the history
     out        where the report is written, as it is made. Then it is not held, and the Report has no text and no keys
 
     A key with more events than a check takes, or more operations open at once, is judged up to there. Its line has the status `full I` or
-    `wide I`, and the verdict is never `legal` then. ProgramError and ShardsError where no verdict can be given."""
+    `wide I`, and the verdict is never `legal` then. ProgramError and ShardsError if no verdict can be given."""
     refusal = refusal_of(options)
     if refusal is not None:
         return report_of("", refusal + "\n", 3)
@@ -51,7 +51,7 @@ def check(history: History, options: Options = Options(), jobs: Optional[int] = 
 def opened(history: History, options: Options, jobs: Optional[int] = None, *, program: Optional[str] = None,
            temporary: Optional[str] = None, progress: Optional[Progress] = None, sizes: Sizes = Sizes(),
            finds_threads: bool = False) -> Iterator[Session]:
-    """The session of a check, whose temporary files and processes are gone at its end. Refused where it ends by that."""
+    """The session of a check, whose temporary files and processes are gone at its end. Refused if it ends by that."""
     with temporary_folder(temporary) as folder, Team(jobs_of(jobs)) as team:
         tools = Tools(find_program(program), folder, team, sizes, progress or Progress())
         try:

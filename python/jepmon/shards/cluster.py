@@ -1,6 +1,6 @@
 """Judges shards on a Dask cluster (https://distributed.dask.org). Its workers need the program `jepmon`, and nothing of this package.
 
-A task has the text of its shard with it, so that another worker can do it where one dies. A report that does not come is none: if a task
+A task has the text of its shard with it, so that another worker can do it if one dies. A report that does not come is none: if a task
 fails again and again, the scheduler is lost, or all workers are gone, there is no verdict.
 """
 from __future__ import annotations
@@ -95,7 +95,7 @@ class Tasks:
         self._running[future] = shard
 
     def _threads(self, left: int) -> int:
-        """How many threads the workers have; a ShardsError where there was no worker for long."""
+        """How many threads the workers have; a ShardsError if there was no worker for long."""
         try:
             workers: Dict[str, Any] = self._client.scheduler_info()["workers"]
         except Exception as fault:  # of whatever kind: without its scheduler the cluster says nothing more

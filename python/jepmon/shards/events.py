@@ -52,14 +52,14 @@ class Event(NamedTuple):
 
 
 def plain_event(match: "re.Match[bytes]") -> Event:
-    """The event that PLAIN has matched; Refusal 5 where it is none."""
+    """The event that PLAIN has matched; Refusal 5 if it is none."""
     stated, kind, process, name, key, _, number, old, new = match.groups()
     part = int(number) if number else (("vector", (int(old), int(new))) if old else None)
     return tested(None if stated is None else int(stated), kind, int(process), name, int(key), part)
 
 
 def event_of(element: Element) -> Event:
-    """The event that an element is; Refusal 5 where it is none."""
+    """The event that an element is; Refusal 5 if it is none."""
     if not is_tagged(element, "map"):
         raise Refusal(5)
     fields: Dict[bytes, Element] = {key[1]: value for key, value in element[1] if is_tagged(key, "keyword")}
@@ -82,7 +82,7 @@ def event_of(element: Element) -> Event:
 
 
 def tested(stated: Optional[int], kind: bytes, process: int, name: bytes, key: int, part: Element) -> Event:
-    """The event of a client; Refusal 5 where something is outside the tables."""
+    """The event of a client; Refusal 5 if something is outside the tables."""
     if stated is not None and stated not in kinds.INDICES:
         raise Refusal(5)
     if process not in kinds.PROCESSES or name not in NAMES or key not in KEYS or not is_part(kind, name, part):
@@ -145,7 +145,7 @@ class Rule:
         self.open: Dict[int, Event] = {}  # by process
 
     def take(self, event: Event) -> None:
-        """Takes the next event; a Refusal where it may not come."""
+        """Takes the next event; a Refusal if it may not come."""
         if event.stated is not None and event.stated != self.length:
             raise Refusal(6)
         if event.process is not None:

@@ -106,7 +106,7 @@ def write_report(path: str, checksum: str, report: str) -> None:
 
 
 def read_report(path: str, checksum: str) -> Optional[str]:
-    """The report on the shard with this checksum; None where there is none."""
+    """The report on the shard with this checksum; None if there is none."""
     try:
         with open(path, encoding="utf-8", errors="replace") as file:
             first, report = file.readline(), file.read()

@@ -42,7 +42,7 @@ def rows_of(block: bytes) -> Tuple[List[Row], int]:
 
 
 def odd_rows(line: bytes) -> Iterator[Row]:
-    """The events of a line that is spelled otherwise, where it is a text by itself."""
+    """The events of a line that is spelled otherwise, if it is a text by itself."""
     try:
         for element in Reader(line).elements():
             event = events.event_of(element)

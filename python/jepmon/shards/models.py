@@ -1,4 +1,4 @@
-"""The model of each key of a shard, where the keys of a history are of several kinds."""
+"""The model of each key of a shard, if the keys of a history are of several kinds."""
 from __future__ import annotations
 
 from typing import Dict, Iterator, Tuple
@@ -12,7 +12,7 @@ EACH = "each"  # in the place of a model: each key is what its own operations an
 
 
 def by_model(keys: Dict[bytes, Events], model: str) -> Iterator[Tuple[str, Dict[bytes, Events]]]:
-    """The keys by their models; all of them are of one, but where it is each key's own."""
+    """The keys by their models: all have one model, unless each key has its own."""
     if model != EACH:
         yield model, keys
         return

@@ -41,7 +41,7 @@ def entries_of(reader: Reader, account: Account) -> Iterator[Entry]:
 
 
 def first_refusal(path: str, concurrency: int, plainly: Optional[BinaryIO] = None, account: Optional[Account] = None) -> Optional[str]:
-    """The line of the first refusal of a file, as `jepmon check` prints it; None where nothing is refused, and then all lines are in the
+    """The line of the first refusal of a file, as `jepmon check` prints it; None if nothing is refused, and then all lines are in the
     account. Each event before it is written plainly, one a line, to the other file."""
     with open(path, "rb") as file:
         if file.seek(0, 2) == 0:

@@ -68,7 +68,7 @@ class Session:
             self._find_threads(FRONT)
 
     def read(self) -> None:
-        """The first pass; Refused where an event is, as far as that is seen without the program."""
+        """The first pass. Refused if an event is refused and the pass finds it without the program."""
         while not self._has_read:
             file, tools = self.file, self.tools
             try:

@@ -41,7 +41,7 @@ class Divided(NamedTuple):
 
 def shards_of(path: str, length: int, options: Options, folder: str, team: Team, sizes: Sizes,
               progress: Progress) -> Tuple[List[Shard], Tally]:
-    """The shards of a history, whose events are written to this folder, and what its events are. A Doubt where something is refused."""
+    """The shards of a history, whose events are written to this folder, and what its events are. A Doubt if something is refused."""
     if length == 0:
         return [], Tally()
     step, count = sizes.piece_length(length), sizes.shard_count(length)

@@ -65,7 +65,7 @@ def split(session: Session, options: Options, folder: str) -> List[Written]:
 
 @contextlib.contextmanager
 def new_folder(folder: str) -> Iterator[None]:
-    """A folder that is new, empty, or of a split that was cut off; empty again where something goes wrong."""
+    """A folder that is new, empty, or of a split that was cut off; empty again if something goes wrong."""
     made = not os.path.isdir(folder)
     try:
         os.makedirs(folder, exist_ok=True)
@@ -118,7 +118,7 @@ def finish(session: Session, options: Options, folder: str, shards: List[Written
 
 
 def judge(path: str, program: str) -> bool:
-    """Has a shard judged, and writes the report beside it. False where that stands there already."""
+    """Has a shard judged, and writes the report beside it. False if that stands there already."""
     text, options = read_shard(path)
     checksum, out = checksum_of(text), path[:-len(TEXT)] + OUT if path.endswith(TEXT) else path + OUT
     if read_report(out, checksum) is not None:
@@ -129,7 +129,7 @@ def judge(path: str, program: str) -> bool:
 
 
 def tested_report(report: str) -> str:
-    """The report, where it says something of what stands in the shard."""
+    """The report, if it is about the present content of the shard."""
     last = report.splitlines()[-1] if report else "nothing"
     if last == "nothing" or last.startswith("refused ") and not REFUSED.fullmatch(last):
         raise ShardsError(f"jepmon can't judge a shard: it says {last}")
@@ -140,7 +140,7 @@ def tested_report(report: str) -> str:
 
 
 def join(folder: str, scratch: str, out: BinaryIO, sizes: Sizes = Sizes()) -> Verdict:
-    """Writes the report on the history whose shards are in a folder, and gives the verdict. Refused where an event is."""
+    """Writes the report on the history whose shards are in a folder, and gives the verdict. Refused if an event is."""
     manifest = read_manifest(folder)
     reports = reports_of(folder, manifest)
     try:
@@ -153,7 +153,7 @@ def join(folder: str, scratch: str, out: BinaryIO, sizes: Sizes = Sizes()) -> Ve
 
 
 def reports_of(folder: str, manifest: Manifest) -> Dict[str, str]:
-    """The files of the reports on all shards; a ShardsError where one lacks."""
+    """The files of the reports on all shards; a ShardsError if one lacks."""
     paths = {shard.name: os.path.join(folder, shard.name + OUT) for shard in manifest.shards}
     lacking = [shard.name for shard in manifest.shards if read_report(paths[shard.name], shard.checksum) is None]
     if lacking:

@@ -31,7 +31,7 @@ def tell(lives: Lives, rows: Iterable[Row]) -> None:
 
 
 def fewest_threads(path: str, length: int, sizes: Sizes = Sizes()) -> Optional[int]:
-    """The fewest threads that fit the events that begin within so much of a file; None where none do, or the lines can't be read here."""
+    """The fewest threads that fit the events that begin within so much of a file; None if none do, or the lines can't be read here."""
     lives = Lives()
     try:
         for block in blocks_of(PieceTask(path, 0, length, 1, 1, "", sizes)):

@@ -10,7 +10,7 @@ from .units import begin, end
 
 
 def kept(model: str, operations: Sequence[Operation], fatal: int) -> List[int]:
-    """The places of the fatal operation, and of those that must be seen beside it."""
+    """The places of the fatal operation, and of the operations that the part must show with it."""
     return [fatal] + (KEPT[model](operations, fatal) if operations[fatal].outcome == "ok" else [])
 
 
@@ -57,7 +57,7 @@ def of_set(operations: Sequence[Operation], fatal: int) -> List[int]:
 
 
 def last_of(operations: Sequence[Operation], places: Iterable[int]) -> List[int]:
-    """The last of these to end, of those that did not fail where there are such; none of none."""
+    """The last operation to end: of those that did not fail, if there are any, else of all. None if the list is empty."""
     ranked = sorted(places, key=lambda place: (operations[place].outcome != "fail", end(operations[place]), begin(operations[place])))
     return ranked[-1:]
 

@@ -17,7 +17,7 @@ def units(operations: Sequence[Operation], places: Sequence[int]) -> List[Unit]:
 
 
 def brought(operation: Operation) -> Optional[int]:
-    """The value that it brings into a register."""
+    """The value that an operation writes to a register: of a write its value, of a cas its second."""
     value = operation.invocation.value
     if operation.invocation.name == "write" and isinstance(value, int):
         return value

@@ -9,7 +9,7 @@ NEVER = 1 << 62  # the end of what has not ended
 
 
 class Unit(NamedTuple):
-    """Operations that are removed together. Where it drags other units, these go with it. Any number of the units of one history may be
+    """Operations that are removed together. If it drags other units, these go with it. Any number of the units of one history may be
     removed at once. Operations are meant by their places in the list that the units were made of, units by theirs."""
 
     operations: Tuple[int, ...]

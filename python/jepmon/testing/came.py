@@ -6,7 +6,7 @@ from typing import Set
 
 
 class Came:
-    """To any client. A dequeue takes place where a message comes for the first time."""
+    """To any client. A dequeue takes place if a message comes for the first time."""
 
     def __init__(self) -> None:
         self._lock = threading.Lock()

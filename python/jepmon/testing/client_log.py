@@ -11,7 +11,7 @@ from ..live.run_folder import CLIENTS_LOG
 
 @contextlib.contextmanager
 def kept_in(folder: pathlib.Path) -> Iterator[None]:
-    """For the block; there is no file where nothing was said."""
+    """For the block; there is no file if nothing was said."""
     handler = logging.FileHandler(folder / CLIENTS_LOG, encoding="utf-8", delay=True)
     handler.setFormatter(logging.Formatter("%(asctime)s %(name)s %(levelname)s: %(message)s"))
     logging.getLogger().addHandler(handler)

@@ -79,7 +79,7 @@ class Clock:
             file.write(struct.pack("d", seconds))
 
     def test_reached(self, node: Node) -> None:
-        """Raises where no process of the node has the library: it would be struck in vain."""
+        """Raises if no process of the node has the library: it would be struck in vain."""
         pids = [] if node.pid is None else family(node.pid)
         if pids and not any(self._library in maps(pid) for pid in pids):
             raise ServerError(f"the clock of {node.name} can't be set: its program takes no preloaded library, as where it is linked statically")
@@ -110,7 +110,7 @@ def compiler() -> Optional[str]:
 
 
 def why_not() -> Optional[str]:
-    """Why no clock can be set here; None where it can."""
+    """The reason for which no clock can be set here; None if one can."""
     if os.uname().sysname != "Linux":
         return "clocks of nodes are set on Linux alone"
     return None if compiler() else f"it takes a compiler of C, of {', '.join(COMPILERS)}: on Debian, apt-get install gcc libc6-dev"

@@ -119,7 +119,7 @@ class Cluster:
         return True
 
     def leader(self) -> Optional[Node]:
-        """The node that the server says leads now; None where it names none."""
+        """The node that the server says leads now; None if it names none."""
         try:
             return self.server.leader()
         except Exception:  # nodes that are struck do not answer
@@ -127,7 +127,7 @@ class Cluster:
 
     @property
     def running(self) -> List[Node]:
-        """The nodes, and the one more where it was started."""
+        """The nodes, and the additional one if it was started."""
         return self.nodes + [node for node in self.spares if node.pid is not None]
 
     # --- What strikes do ---
@@ -142,7 +142,7 @@ class Cluster:
         self._start(node)
 
     def test_alive(self) -> None:
-        """Raises a Died where a node has ended by itself, or its log says that it has crashed."""
+        """Raises a Died if a node has ended by itself, or its log says that it has crashed."""
         for node in self._every:
             node.test_alive()
         self._logs.look()

@@ -58,7 +58,7 @@ class LogWatch:
 
 
 def finding(died: Died) -> Optional[str]:
-    """The verdict on a crash; None where it says nothing of the server: the machine lacked something, or somebody else has killed it."""
+    """The verdict on a crash; None if it says nothing of the server: the machine lacked something, or somebody else has killed it."""
     if died.how.startswith(SAYS):
         return f"crashed {died.node}: it {died.how}"
     lines = last_lines(died.log)

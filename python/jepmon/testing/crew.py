@@ -33,7 +33,7 @@ class Crew:
             self._crashed.add(number)
 
     def step(self, number: int, is_asking: bool) -> None:
-        """The client waits while it is paused. Raises where it has crashed, unless it is still to ask: then nothing is known to it yet."""
+        """The client waits while it is paused. Raises if it has crashed, unless it is still to ask: then nothing is known to it yet."""
         with self._changed:
             while self._paused[number] > 0:
                 self._changed.wait()

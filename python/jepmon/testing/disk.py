@@ -82,7 +82,7 @@ class Disk:
         }
 
     def handle(self, request: bytes) -> Optional[bytes]:
-        """The answer to a request, where it has one."""
+        """The answer to a request, if it has one."""
         _, code, number, node, self._user, self._group, _, _ = HEADER.unpack_from(request)
         body = request[HEADER.size:]
         if code in (2, 42):

@@ -61,6 +61,6 @@ class Disk:
 
 
 def why_not() -> Optional[str]:
-    """Why there can be no such disk here; None where there can."""
+    """Why there can be no such disk here; None if there can."""
     reason = mounts.why_not()
     return f"it takes a file system by FUSE, as root on Linux: {reason}" if reason else None

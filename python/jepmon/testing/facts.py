@@ -33,7 +33,7 @@ def facts_of(given: Given, network: str, kinds: Sequence[str]) -> Dict[str, str]
 
 
 def version_of(words: Sequence[str]) -> str:
-    """The first line that these words print; nothing where they can't be run."""
+    """The first line that these words print; nothing if they can't be run."""
     if not words:
         return ""
     try:

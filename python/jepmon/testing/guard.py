@@ -1,6 +1,6 @@
 """Leaves no server behind, however the test ends: a process of its own, which kills what is still there when the test has gone.
 
-It reads lines, `+ PID`, `- PID` and `folder PATH`, and acts when its standard input ends: also where the test was killed by SIGKILL.
+It reads lines, `+ PID`, `- PID` and `folder PATH`, and acts when its standard input ends: also if the test was killed by SIGKILL.
 """
 from __future__ import annotations
 
@@ -72,8 +72,8 @@ def main() -> None:
 
 
 def remove(folder: str) -> None:
-    """Removes what is mounted in it too, as where who serves it was killed. A process that is about to end may still write there: then it
-    tries again."""
+    """Removes a folder, and the mounts in it too, since the process that serves a mount may have been
+    killed. A process that is about to end may still write there: then it tries again."""
     end = time.monotonic() + PATIENCE
     while os.path.lexists(folder):
         unmount_below(folder)

@@ -25,7 +25,7 @@ NET, CLIENTS_HOST = "10.0.0.", 200
 
 
 def network(asked: str, needs_links: bool, needs_addresses: bool = False) -> str:
-    """How others reach the nodes: DIRECT where nothing strikes their links, else by namespaces where this machine lets us. Nodes that need
+    """How others reach the nodes: DIRECT if nothing strikes their links, else by namespaces if this machine allows them. Nodes that need
     addresses of their own take namespaces in any case."""
     if needs_addresses and asked == PROXY:
         raise ServerError(f"--network {PROXY}: the nodes of this server find one another by their addresses: several take {NAMESPACES}")

@@ -58,7 +58,7 @@ def known_from(events: Sequence[Event], index: int, value: object) -> int:
 
 
 def brought_by(event: Event) -> Optional[int]:
-    """The value that an operation brings into its object."""
+    """The value that an operation puts into its object."""
     if event.name == "cas" and isinstance(event.value, tuple):
         return event.value[1]
     return event.value if event.name in ("write", "add", "enqueue") and isinstance(event.value, int) else None
@@ -122,7 +122,7 @@ def acknowledgements(folder: pathlib.Path, missing: Sequence[Missing]) -> "Itera
 
 
 def for_terminal(folder: pathlib.Path) -> List[str]:
-    """The first lines of the list; none where nothing is lost."""
+    """The first lines of the list; none if nothing is lost."""
     try:
         found = (folder / LOST).read_text("utf-8").splitlines()
     except OSError:

@@ -30,7 +30,7 @@ def unmount(point: str) -> None:
 
 
 def unmount_below(folder: str) -> None:
-    """Whatever is mounted in the folder; nothing where there is nothing."""
+    """Whatever is mounted in the folder; nothing if there is nothing."""
     for point in reversed(points_below(folder)):
         try:
             unmount(point)
@@ -57,7 +57,7 @@ def flush(point: str) -> None:
 
 
 def why_not() -> Optional[str]:
-    """Why nothing can be mounted here; None where it can."""
+    """Why nothing can be mounted here; None if it can."""
     with tempfile.TemporaryDirectory(prefix="jepmon-mount-") as point:
         try:
             requests = mounted(point, "jepmon")

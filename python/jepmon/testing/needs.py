@@ -39,7 +39,7 @@ def planned(given: Given) -> Plan:
 
 
 def packets(network: str) -> Optional[str]:
-    """Why packets can't be struck; None where they can."""
+    """Why packets can't be struck; None if they can."""
     if network == PROXY:
         return "the proxy carries bytes, not packets: it takes --network namespaces"
     reason = places.why_not()

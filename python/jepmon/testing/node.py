@@ -60,7 +60,7 @@ class Node:
 
     @property
     def listens_at(self) -> At:
-        """Where it listens to clients itself, which only who is in its place can reach whatever is done to the links."""
+        """The address at which it listens to clients. Only a process in its namespace reaches it whatever is done to the links."""
         return self.address, self.ports["client"]
 
     def inside(self) -> "contextlib.AbstractContextManager[None]":
@@ -115,7 +115,7 @@ class Node:
                 continue_family(self._process.pid)
 
     def test_alive(self) -> None:
-        """Raises where it has ended without being told to."""
+        """Raises if the process has ended by itself."""
         with self._lock:
             status = self._process.poll() if self._process is not None else None
         if status is not None:
@@ -124,7 +124,7 @@ class Node:
     # --- Waiting ---
 
     def wait_until(self, ready: Callable[[], object], seconds: float, what: str, stopped: Optional[threading.Event] = None) -> None:
-        """Tries until it does not raise. Raises where the time is up, or the node has died."""
+        """Tries until it does not raise. Raises if the time is up, or the node has died."""
         begun = time.monotonic()
         while True:
             self.test_alive()
@@ -141,14 +141,14 @@ class Node:
             time.sleep(GLANCE)
 
     def _test_address(self) -> None:
-        """Raises where it listens to clients at the loopback of its network namespace alone, where none reaches it. At other ports it may
+        """Raises if it listens to clients at the loopback of its network namespace alone, where none reaches it. At other ports it may
         speak to itself."""
         if "client" in self.ports and listens((ADDRESS, self.ports["client"])) and not listens(self.listens_at):
             raise ServerError(f"{self.name} listens at {ADDRESS}, port {self.ports['client']}, where nobody else reaches it in its network "
                               f"namespace: let it listen at node.address, which is {self.address}, or take --network proxy")
 
     def accepts(self, name: str = "client") -> None:
-        """Raises an OSError where it does not listen at this port."""
+        """Raises an OSError if it does not listen at this port."""
         socket.create_connection((self.address, self.ports[name]), 1.0).close()
 
     def write_log(self, text: str) -> None:
@@ -166,7 +166,7 @@ class Node:
 
 
 def as_user(user: Optional[str], words: Sequence[str]) -> List[str]:
-    """The words that run a program as this user, where it is root who starts it."""
+    """The words that run a program as this user, if it is root who starts it."""
     given_up = [] if user is None or os.geteuid() != 0 else ["setpriv", f"--reuid={user}", f"--regid={user}", "--clear-groups", "--"]
     return [*given_up, *words]
 

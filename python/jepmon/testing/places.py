@@ -55,7 +55,7 @@ class Place:
 
 
 def why_not() -> Optional[str]:
-    """Why no namespaces can be had here; None where they can."""
+    """Why no namespaces can be had here; None if they can."""
     try:
         place = Place("10.0.0.1")
     except (OSError, AttributeError) as fault:

@@ -57,7 +57,7 @@ class Connection:
         self._source = ""
 
     async def carry(self, source: asyncio.StreamReader, target: asyncio.StreamWriter, is_answer: bool) -> None:
-        """Runs until the source ends, and then ends the target's side too. An OSError where one of both has gone."""
+        """Runs until the source ends, and then ends the target's side too. An OSError if one of both has gone."""
         while True:
             data = await source.read(CHUNK)
             await self._pass(is_answer)
@@ -68,7 +68,7 @@ class Connection:
             await target.drain()
 
     async def _pass(self, is_answer: bool) -> None:
-        """Waits as long as this way is cut, and where it is slow."""
+        """Waits as long as this way is cut, and also if it is slow."""
         while self._proxy.is_struck:
             self._source = self._source or source_of(self._port, self._link[0], self._proxy.pids)
             ends = self._source, self._link[2]

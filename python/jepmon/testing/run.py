@@ -104,7 +104,7 @@ class Test:
         self.broken_off: Optional[Outcome] = None  # what there was, where Ctrl-C or a signal ended the test
 
     def run(self) -> Outcome:
-        """Ctrl-C goes through, once all is ended. Raises a Refused of jepmon, as where there is no program, and an OSError where
+        """Ctrl-C goes through, once all is ended. Raises a Refused of jepmon, such as that of a missing program, and an OSError if
         nothing can be written."""
         from ..long import LongMonitor
 
@@ -227,7 +227,7 @@ class Test:
             work.finish(ask)
 
     def _outcome(self, monitor: LongMonitor, work: Work, reason: str) -> Outcome:
-        """The verdict, where enough was ok to have one."""
+        """The verdict, if enough operations were ok to have one."""
         assert monitor.folder is not None
         verdict, *not_judged = monitor.close().split("\n")
         counts, status = monitor.counts, 0
@@ -255,7 +255,7 @@ class Test:
 
 
 def leave(folder: pathlib.Path, verdict: str, reason: str) -> None:
-    """The folder must not say legal where the test does not."""
+    """The folder must not say legal if the test does not."""
     if reason or verdict.split(" ")[0] in COUNTED:
         try:
             said = f"no verdict: {reason}" if not verdict else f"{verdict}; {reason}" if reason else verdict

@@ -79,7 +79,7 @@ class Registers(Work):
         return op
 
     def saw(self, number: int, at: Union[Handle, LongObject], op: LongOperation, value: Any) -> None:
-        """A client has got to know a value, where the operation was ok."""
+        """A client has got to know a value, if the operation was ok."""
 
     def finish(self, ask: Asked) -> None:
         for one in self.each_left():
@@ -235,7 +235,7 @@ class Queues(Work):
 
     @staticmethod
     def _wait(for_what: Callable[[], bool]) -> None:
-        """A little, where it is not so; then all the same."""
+        """A little, if it is not so; then all the same."""
         for _ in range(10):
             if for_what():
                 return

@@ -63,12 +63,12 @@ def tool(name: str) -> str:
 
 
 def say(name: str, line: str) -> None:
-    """Says a line on standard error, where there is one, as the tool of this name."""
+    """Says a line on standard error, if there is one, as the tool of this name."""
     write_error(f"{name}: {line}")
 
 
 def write_error(line: str) -> None:
-    """Writes a line to standard error, where there is one."""
+    """Writes a line to standard error, if there is one."""
     try:
         if sys.stderr is not None:
             print(printable(line), file=sys.stderr)
@@ -77,12 +77,12 @@ def write_error(line: str) -> None:
 
 
 def standard_error() -> TextIO:
-    """Standard error, or where it is closed what goes nowhere."""
+    """Standard error, or a writer that drops everything if it is closed."""
     return sys.stderr if sys.stderr is not None else open(os.devnull, "w")
 
 
 def standard_input() -> BinaryIO:
-    """Standard input; an OSError where it is closed."""
+    """Standard input; an OSError if it is closed."""
     if sys.stdin is None:
         raise OSError(0, "standard input is closed: name a file, or give the history there")
     return sys.stdin.buffer
@@ -102,7 +102,7 @@ def write_output(texts: Iterable[str]) -> None:
 
 
 def _write_whole(stream: TextIO, text: str) -> None:
-    """Writes the text to its end. Where PYTHONUNBUFFERED has left out the buffer, a full disk or an ended reader takes a part of it, and
+    """Writes the text to its end. If PYTHONUNBUFFERED has left out the buffer, a full disk or an ended reader takes a part of it, and
     nothing says so."""
     raw = getattr(stream, "buffer", None)
     if not isinstance(raw, io.RawIOBase):
@@ -122,7 +122,7 @@ def abandon(stream: TextIO) -> None:
 
 
 def write_file(path: Union[str, "os.PathLike[str]"], data: Union[str, bytes]) -> None:
-    """Writes a file. It has its name only once it is whole; where that fails, what had the name before is as it was."""
+    """Writes a file. It has its name only once it is whole. If writing fails, an earlier file of the name is unchanged."""
     whole = data.encode() if isinstance(data, str) else data
     _write_to(path, lambda file: file.write(whole))
 

@@ -1,4 +1,4 @@
-"""Whether an order is one of a history, by `jepmon confirm`; by a stand-in in Python (ordered.py) where the program has no such command.
+"""Whether an order is one of a history, by `jepmon confirm`; by a stand-in in Python (ordered.py) if the program has no such command.
 The one place that knows who says so."""
 from __future__ import annotations
 

@@ -40,7 +40,7 @@ class BySearch(Search):
 
 def part_of(operations: Sequence[Operation], options: Options, fatal: int, hints: Sequence[int], clock: Clock,
             program: Optional[str] = None) -> Optional[Part]:
-    """A part of the front that ends with the fatal event, and that the program calls illegal there; None where none is found."""
+    """A part of the front that ends with the fatal event, and that the program calls illegal there; None if none is found."""
     cut = cut_before(operations, fatal + 1)
     search = BySearch(options, fatal, frozenset(hints), clock)
     few = without_other_reads(cut, options.model, {fatal, *hints})

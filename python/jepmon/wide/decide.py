@@ -43,7 +43,7 @@ def decide(operations: Sequence[Operation], options: Options, clock: Clock, prog
 
 
 class Dead(NamedTuple):
-    """Where a key is dead, as the search found."""
+    """The event from which a key is dead, as the search found."""
 
     event: int
     before: Order  # of what comes before

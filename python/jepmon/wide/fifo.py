@@ -3,7 +3,7 @@ can be the first if no other element of the queue was certainly enqueued before 
 and whose enqueue returns first, since it holds up others the longest. So a search has few choices: whether a timed-out dequeue takes what
 holds up others, and where a value stands in the queue twice, which of the two goes first.
 
-Where each value is enqueued once there is no choice."""
+If each value is enqueued once, there is no choice."""
 from __future__ import annotations
 
 import collections

@@ -1,6 +1,6 @@
-"""Locks: an operation takes place only when one returns, and then as few as may be; where one of several must, the one that returns first.
-Both can do no harm: a delayed operation may still take place until it returns, and of two that are open the other may take its place
-later."""
+"""Locks. The search lets operations take place only when one returns, and then as few as possible; if one of several must take place, it
+takes the one that returns first. Both rules lose no order: a delayed operation may still take place until it returns, and the other one of
+two open operations may take its place later."""
 from __future__ import annotations
 
 import heapq

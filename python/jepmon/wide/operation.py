@@ -36,7 +36,7 @@ class Order(NamedTuple):
 
 
 class Conflict(NamedTuple):
-    """A front is not linearizable, as the search found. Nobody has to believe it: these operations are looked at first, where a part
+    """A front is not linearizable, as the search found. Nobody has to believe it: these operations are looked at first, if a part
     is sought that the program calls illegal."""
 
     ids: List[int]
@@ -58,7 +58,7 @@ class Clock:
         self._steps = 0
 
     def step(self) -> None:
-        """Is called at each step of a search; OutOfTime where the time is up."""
+        """Is called at each step of a search; OutOfTime if the time is up."""
         self._steps += 1
         if self._steps % BETWEEN == 0:
             self.look()

@@ -1,7 +1,7 @@
 """Sets: the answers of reads show the order in which they took place, and between which of them each value was added first. So each
 operation has a level: reads of the answer k in ascending order the level 2k + 1, and what brings in a member that is new in answer k at
 least 2k. Levels never fall from one operation to another that begins after it. The least levels that keep to this are found in one pass,
-and where these do not do, none do."""
+and if these do not fit, no levels do."""
 from __future__ import annotations
 
 from typing import Dict, FrozenSet, List, Optional, Sequence, Tuple, cast
@@ -24,7 +24,7 @@ class Levels:
         self.of_value: Dict[int, int] = {}  # in which answer a member is new
 
     def find(self, clock: Clock) -> Optional[Conflict]:
-        """Finds the members that are new in each; a Conflict where two answers are such that none has all members of the other."""
+        """Finds the members that are new in each; a Conflict if two answers are such that none has all members of the other."""
         before: Answered = frozenset()
         for number, answer in enumerate(self.answers):
             clock.step()

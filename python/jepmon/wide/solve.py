@@ -28,7 +28,7 @@ SOLVERS: Dict[str, Solver] = {
 
 
 def solve(model: str, ops: Sequence[Op], clock: Clock) -> Answer:
-    """OutOfTime comes where the search has had its time."""
+    """OutOfTime comes if the search has had its time."""
     strange = [op.id for op in ops if op.is_done and not fits(op, model)]
     if strange:
         return Conflict(strange[:1])

@@ -1,6 +1,6 @@
 """Registers whose values are unique: one operation writes each. A value's operations stand together in an order, and a cas joins those of
 two values to one group, which has an order of its own. Two moments of a group matter: when the first of its operations returns, and when
-the last is invoked. Where the first comes first, the group fills the time between (it is wide); else all of it may take place at any moment
+the last is invoked. If the first comes first, the group fills the time between (it is wide); else all of it may take place at any moment
 between (it is narrow). No two wide groups may overlap, nor may a narrow one be within a wide one: then all of them can be put in an order,
 and else not (Gibbons and Korach, 1997). The cost is that of a sort."""
 from __future__ import annotations
@@ -33,7 +33,7 @@ class Group(NamedTuple):
 
 
 def brings(op: Op) -> Optional[int]:
-    """The value that it brings into a register."""
+    """The value that an operation writes to a register."""
     if op.name == "write":
         return cast(int, op.part)
     old, new = cast(Tuple[int, int], op.part) if op.name == "cas" else (0, 0)
@@ -114,7 +114,7 @@ def layers_of(write: Op, readers: Dict[int, List[Op]], following: Dict[int, Op])
 
 
 def group_of(layers: Layers) -> Union[Group, Conflict]:
-    """A Conflict where one returns before another was invoked that comes before it."""
+    """A Conflict if one returns before another was invoked that comes before it."""
     returns = invokes = layers[0][0]
     for layer in layers:
         for op in layer:

@@ -73,7 +73,7 @@ class Queue(Client):
         return answer[1], int(data)
 
     def opened(self) -> bool:
-        """Opens the connection where there is none, and says so."""
+        """Opens the connection if there is none, and says so."""
         if self.stream.is_open:
             return False
         self.used = self.watched = None

@@ -56,7 +56,7 @@ class EtcdClient(Client):
         return decoded(found[0]["value"]) if found else None
 
     def transaction(self, compare: Dict[str, Any], success: Dict[str, Any]) -> bool:
-        """Does it where what is compared holds. Gives whether it did."""
+        """Carries the changes out if all comparisons hold. Gives whether they did."""
         return bool(self.call("kv/txn", compare=[compare], success=[success]).get("succeeded", False))
 
     def close(self) -> None:
@@ -82,7 +82,7 @@ class SerializableRegister(Register):
 
 
 class Lock(EtcdClient):
-    """A key that its holder makes where there is none, with a lease, so that it goes away where the holder does. A release never is a
+    """A key that its holder makes if there is none, with a lease, so that it is removed if the holder ends. A release never is a
     :fail, since an unreleased key goes away by its lease at a later moment. If it has gone before, another's acquire may have been wrong,
     and not this."""
 
@@ -173,7 +173,7 @@ class Etcd(Server):
         return url(node, node.reach["peer"])
 
     def ask(self, node: Node, path: str, timeout: float, **body: Any) -> Any:
-        """Its own answer, of who is where it is."""
+        """The answer of the member at this address about itself."""
         client = EtcdClient(node.listens_at)
         try:
             return client.call(path, timeout, **body)

@@ -92,7 +92,7 @@ class UnlockedQueue(Queue):
 
 
 class Lock(SqlClient):
-    """An advisory lock, which is its session's. A release is done, or an :info: where the session is gone the server gives the lock
+    """An advisory lock, which is its session's. A release is done, or an :info: if the session is gone the server gives the lock
     back once it sees that."""
 
     def acquire(self, key: int) -> bool:

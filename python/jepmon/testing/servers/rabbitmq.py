@@ -47,7 +47,7 @@ class Names:
         self._numbers: Dict[int, int] = {}  # by key
 
     def of(self, key: int) -> Tuple[str, Optional[str]]:
-        """The queue of the key, and where it is new the one that is to be declared for a later key."""
+        """The queue of the key; for a new key also the queue to declare for a later key."""
         with self._lock:
             is_new = key not in self._numbers
             number = self._numbers.setdefault(key, len(self._numbers))

@@ -54,7 +54,7 @@ class Set(RedisClient):
 
 
 class Lock(RedisClient):
-    """SET NX PX. A release never is a :fail: an unreleased lock goes away as the lease runs out, at a later moment. Where it has run out
+    """SET NX PX. A release never is a :fail: an unreleased lock goes away as the lease runs out, at a later moment. If it has run out
     before, the lock is given back all the same: if somebody has taken it meanwhile, that acquire was wrong, and not this."""
 
     certain: Exceptions = ()
@@ -123,7 +123,7 @@ class Redis(Server):
         return words + (["--replicaof", *map(str, self.nodes[0].at)] if node.number else [])
 
     def ready(self, node: Node) -> None:
-        """Once it answers, and where it is a replica has what its primary has."""
+        """Once it answers, and as a replica has the data of its primary."""
         connection = Connection(node.listens_at)
         try:
             wanted = b"master_link_status:up" if node.number else b"role:master"

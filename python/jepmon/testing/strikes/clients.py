@@ -28,7 +28,7 @@ def crashed(cluster: Cluster, node: Node, values: Values) -> Iterator[None]:
 
 
 def chosen(cluster: Cluster, node: Node, which: float) -> int:
-    """The number of a client of the node; of any node, where it has none."""
+    """The number of a client of the node; of any node, if it has none."""
     every = range(cluster.crew.size)
     numbers = [number for number in every if cluster.server.node_of(number) is node] or list(every)
     return numbers[min(int(which * len(numbers)), len(numbers) - 1)]

@@ -107,7 +107,7 @@ class Nemesis:
 
     @contextlib.contextmanager
     def _node(self, planned: Planned) -> Iterator[Optional[Node]]:
-        """The node that is struck: the one that was planned, or else the next one that no other strike of this lane holds. None where the
+        """The node that is struck: the one that was planned, or else the next one that no other strike of this lane holds. None if the
         time is up before there is one."""
         kind = self._strikes[planned.name]
         single = [(SINGLE, "")] if kind.is_single else []
@@ -134,7 +134,7 @@ class Nemesis:
         return None
 
     def _settled(self, planned: Planned, node: Node) -> bool:
-        """Waits until the node is ready again, where its process was struck, so that a server that starts slowly does some work between
+        """Waits until the node is ready again, if its process was struck, so that a server that starts slowly does some work between
         two strikes. Gives whether the run goes on."""
         if self._strikes[planned.name].lane != PROCESS:
             return True

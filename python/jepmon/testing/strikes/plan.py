@@ -181,7 +181,7 @@ class Plan:
         return found
 
     def _at_once(self) -> Iterator[Tuple[Sequence[str], int]]:
-        """Lanes, and how many strikes of them go on at once: two, where that leaves a majority most of the time. One node is either down or
+        """Lanes, and how many strikes of them go on at once: two, if that leaves a majority most of the time. One node is either down or
         cut off: both are the same to its clients, which are to do something between."""
         at_once = 2 if self.nodes > 3 else 1
         if self.nodes == 1:

@@ -54,7 +54,7 @@ class Amqp:
             raise
 
     def get(self, queue: str, durable: bool = True) -> Optional[Message]:
-        """The first message, which is to be acknowledged; None where there is none."""
+        """The first message, which is to be acknowledged; None if there is none."""
         self.declare(queue, durable)
         try:
             self._send(METHOD, method(GET, struct.pack("!H", 0), short(queue), bytes([WAIT])))

@@ -31,7 +31,7 @@ class Postgres:
         self.stream, self.user, self.connected = Stream(at, timeout), user, 0
 
     def query(self, text: str) -> Answer:
-        """The answer of the last of these statements. All of them are one transaction, where the text begins none itself."""
+        """The answer of the last of these statements. All of them are one transaction, if the text begins none itself."""
         with self.stream.request(self._connect):
             self._send(b"Q", text.encode() + b"\0")
             return self._answer()

@@ -39,7 +39,7 @@ class ZooKeeper:
         self._count = 0
 
     def get(self, path: str) -> Optional[Found]:
-        """None where there is no such node."""
+        """None if there is no such node."""
         try:
             answer = self._asked(GET, text(path) + b"\0")
         except ZooKeeperError as fault:
@@ -58,7 +58,7 @@ class ZooKeeper:
         self._asked(CREATE, text(path) + buffer(data) + ANYBODY + struct.pack(">i", 0))
 
     def put(self, path: str, data: bytes) -> None:
-        """Sets it, or creates it where it is not there. An error that is the last one's answer says that it did not take place."""
+        """Sets it, or creates it if it is not there. An error that is the last one's answer says that it did not take place."""
         for is_new in (False, True, False):
             try:
                 if is_new:
