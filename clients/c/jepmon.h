@@ -331,7 +331,7 @@ static const char *jepmon_wide_(const char *model)
     return NULL;
 }
 
-/* Asks the program, by a word and an input: its status, and what it prints, up to a line feed or for ten seconds. */
+/* Asks the program, by a word and an input: its status, and what it prints, up to a line feed or for a minute at most. */
 static int jepmon_ask_(struct jepmon *m, char *word, const char *input, char *line, size_t room)
 {
     char *words[] = { m->program, word, NULL };
@@ -343,7 +343,7 @@ static int jepmon_ask_(struct jepmon *m, char *word, const char *input, char *li
     if (pid < 0) return -1;
     if (*input) send(in, input, strlen(input), MSG_NOSIGNAL);
     shutdown(in, SHUT_WR);
-    while (length + 1 < room && !strchr(line, '\n') && time(NULL) - since <= (m->options.timeout < 10 ? m->options.timeout : 10)) {
+    while (length + 1 < room && !strchr(line, '\n') && time(NULL) - since <= (m->options.timeout < 60 ? m->options.timeout : 60)) {
         struct pollfd file = { out, POLLIN, 0 };
         if (poll(&file, 1, 100) <= 0) continue;
         ssize_t n = read(out, line + length, room - 1 - length);

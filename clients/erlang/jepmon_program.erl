@@ -44,7 +44,7 @@ kind(#{model := Model, by_ends := ByEnds}, #{kinds := Kinds}) ->
 %% {ok, About} or {error, Text}: what a program says of itself, or what is wrong with it. It answers [:hello], or it is older than 1.6, and says
 %% its version alone. About has the names of its kinds, and its limits: operations that are open at once, and keys.
 hello(Program, Timeout) ->
-    Longest = min(Timeout, 10000),
+    Longest = min(Timeout, 60000),
     Question = "printf '[:hello]\\n' | exec \"$0\" script 2>/dev/null",
     case run("/bin/sh", ["-c", Question, Program], [], Longest) of
         {_, <<"{:jepmon \"", Rest/binary>> = Line} ->

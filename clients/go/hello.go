@@ -15,7 +15,7 @@ import (
 
 const needsMajor, needsMinor = 1, 4 // of the oldest program that this package works with
 
-const patience = 10 * time.Second // for what takes milliseconds
+const patience = time.Minute // for what takes milliseconds, if no machine is busy
 
 // about has the names of the kinds, with a space on each side, and the limits: operations that are open at once, and keys.
 type about struct {

@@ -8,7 +8,7 @@ use std::time::Duration;
 
 const MAJOR: u32 = 1; // of the oldest program that this crate works with
 const MINOR: u32 = 4;
-const PATIENCE: Duration = Duration::from_secs(10); // for what takes milliseconds
+const PATIENCE: Duration = Duration::from_secs(60); // for what takes milliseconds, if no machine is busy
 
 /// The names of its kinds, and its limits.
 #[derive(Clone)]

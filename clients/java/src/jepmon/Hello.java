@@ -16,7 +16,7 @@ import java.util.regex.Pattern;
  */
 record Hello(Set<String> kinds, int clients, int keys) {
     private static final int MAJOR = 1, MINOR = 4; // of the oldest program that this package works with
-    private static final Duration PATIENCE = Duration.ofSeconds(10); // for what takes milliseconds
+    private static final Duration PATIENCE = Duration.ofMinutes(1); // for what takes milliseconds, if no machine is busy
     private static final Pattern HELLO = Pattern.compile("\\{:jepmon \"([^\"]*)\" .*\\}\n");
     private static final Pattern KINDS = Pattern.compile(":kinds \\[([^\\]]*)\\]");
     private static final Pattern VERSION = Pattern.compile("jepmon (\\S+)\n[\\s\\S]*");
