@@ -232,6 +232,25 @@ static int says(const struct scenario *s, const char *text)
     return 0;
 }
 
+/* The minor version of the program that the scenario needs, or 0. */
+static long since(const struct scenario *s)
+{
+    for (int n = 0; n < s->count; n++) if (!strcmp(s->lines[n].words[0], "since")) return number(&s->lines[n], 1);
+    return 0;
+}
+
+/* The minor version of the program that is tested; -1: it says none. */
+static int minor_version(void)
+{
+    char command[PATH_MAX + 64];
+    int minor = -1;
+    snprintf(command, sizeof command, "\"${JEPMON:-%s/../../dist/jepmon}\" --version", table);
+    FILE *told = popen(command, "r");
+    if (told && fscanf(told, "jepmon %*d.%d", &minor) != 1) minor = -1;
+    if (told) pclose(told);
+    return minor;
+}
+
 int main(int count, char **words)
 {
     static struct scenario s;
@@ -242,11 +261,13 @@ int main(int count, char **words)
     snprintf(path, sizeof path, "%s/scenarios.txt", table);
     FILE *file = fopen(path, "r");
     if (!file) { perror(path); return 1; }
+    int minor = minor_version();
+    if (minor < 0) { fprintf(stderr, "the program says no version\n"); return 1; }
     while (more) {
         more = fgets(line, sizeof line, file) != NULL;
         if (more && (line[0] == '#' || line[0] == '\n')) continue;
         if (!more || !strncmp(line, "scenario ", 9)) {
-            for (int wait = 0; s.count && wait < (says(&s, "waiting no") ? 1 : 2); wait++) {
+            for (int wait = 0; s.count && since(&s) <= minor && wait < (says(&s, "waiting no") ? 1 : 2); wait++) {
                 run(&s, wait, fault, sizeof fault);
                 printf("conformance %s%s: %s%s\n", s.name, wait ? "_waiting" : "", *fault ? "FAILED: " : "ok", fault);
                 fflush(stdout);

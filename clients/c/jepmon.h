@@ -38,7 +38,6 @@
 #define JEPMON_MISTAKE 4        /* the test made a mistake: a key that is none, too many open operations */
 #define JEPMON_MAJOR 1          /* of the oldest program that this header works with */
 #define JEPMON_MINOR 4
-#define JEPMON_WIDE_MINOR 5     /* of the first one that has wide kinds */
 
 enum jepmon_outcome { JEPMON_OK, JEPMON_FAIL, JEPMON_INFO }; /* it took place; it did not; it may have, or may yet */
 
@@ -47,7 +46,7 @@ struct jepmon_options {
     const char *model;      /* register, cas-register, mutex, fifo-queue, unordered-queue, set; register if none is named */
     int concurrency;        /* operations that may be open at once, 1 to 64; 64 if it is 0 */
     int budget;             /* outcomes of a key that are followed; the program's if it is 0 */
-    int by_ends;            /* registers and sets are judged by all their outcomes, as `jepmon check --model register` does */
+    int by_ends;            /* keys are judged by all their outcomes: no model is judged as its wide kind */
     int wait;               /* each event waits for its reply */
     int go_on;              /* a key over its budget does not end the test; jepmon_close gives 2 then */
     const int64_t *initial; /* what each register holds at first; none: it is missing */
@@ -66,6 +65,15 @@ struct jepmon_bytes {
     size_t length, room;
 };
 
+/* Messages of fifo queues. The kind wide-fifo-queue is over as soon as two enqueues of one value have not failed. Such a queue is judged by its
+ * ends instead, from its second enqueue of the value on. */
+struct jepmon_message {
+    int64_t value;
+    int key;
+    signed char state; /* 0: no message; 1: it was sent, and has not failed; -1: it has failed */
+};
+
+#define JEPMON_KINDS 5
 #define JEPMON_NAMES 8
 static const char *const jepmon_names[JEPMON_NAMES] = { "read", "write", "cas", "add", "enqueue", "dequeue", "acquire", "release" };
 static const char *const jepmon_outcomes[4] = { "ok", "fail", "info", "open" };
@@ -74,6 +82,11 @@ struct jepmon {
     struct jepmon_options options;
     char program[PATH_MAX];
     const char *kind; /* by which the program judges all keys: the wide one of the model, if there is one */
+    int clients, keys; /* the limits of the program: operations that are open at once, and keys */
+    unsigned char by_ends[65536 / 8]; /* fifo queues of equal values */
+    int by_ends_count;
+    struct jepmon_message *messages; /* a table, at most half full */
+    size_t message_room, message_count;
     char concurrency[16], budget[16];
     pid_t pid;
     int input, output;
@@ -307,36 +320,88 @@ static pid_t jepmon_spawn_(char *const words[], int *input, int *output, FILE *e
     return pid;
 }
 
-/* Models of which the program has a second kind: the same object, of which fewer outcomes count against the budget. */
-static const char *const jepmon_kinds[2][2] = { { "register", "wide-register" }, { "set", "wide-set" } };
+/* Models of which the program may have a second kind: the same object, of which fewer outcomes count against the budget. */
+static const char *const jepmon_kinds[JEPMON_KINDS][2] = { { "register", "wide-register" }, { "cas-register", "wide-cas-register" },
+    { "fifo-queue", "wide-fifo-queue" }, { "unordered-queue", "wide-unordered-queue" }, { "set", "wide-set" } };
 
 /* The wide kind of a model; none: NULL. */
 static const char *jepmon_wide_(const char *model)
 {
-    for (int n = 0; n < 2; n++) if (!strcmp(jepmon_kinds[n][0], model)) return jepmon_kinds[n][1];
+    for (int n = 0; n < JEPMON_KINDS; n++) if (!strcmp(jepmon_kinds[n][0], model)) return jepmon_kinds[n][1];
     return NULL;
 }
 
-/* Whether the program has a version that this header works with; else the verdict says so. It also chooses the kind. */
-static int jepmon_version_(struct jepmon *m)
+/* Asks the program, by a word and an input: its status, and what it prints, up to a line feed or for a minute at most. */
+static int jepmon_ask_(struct jepmon *m, char *word, const char *input, char *line, size_t room)
 {
-    char *words[] = { m->program, "--version", NULL }, line[128] = "";
-    int input, output, major, minor, patch, status = 0;
-    pid_t pid = jepmon_spawn_(words, &input, &output, NULL);
-    if (pid < 0) { jepmon_fail_(m, 3, "refused: %s", strerror(errno)); return 0; }
-    FILE *told = fdopen(output, "r");
-    if (fgets(line, sizeof line, told)) line[strcspn(line, "\n")] = 0;
-    fclose(told);
-    close(input);
-    waitpid(pid, &status, 0);
-    if (WIFEXITED(status) && WEXITSTATUS(status) == 127)
-        jepmon_fail_(m, 3, "refused: there is no %s: JEPMON names the program, or it is on the PATH", m->program);
-    else if (sscanf(line, "jepmon %d.%d.%d", &major, &minor, &patch) != 3)
-        jepmon_fail_(m, 3, "refused: %s is no jepmon: its --version prints '%s'", m->program, line);
-    else if (major != JEPMON_MAJOR || minor < JEPMON_MINOR)
-        jepmon_fail_(m, 3, "refused: %s is %s: this header needs jepmon %d.%d or a later %d", m->program, line, JEPMON_MAJOR, JEPMON_MINOR, JEPMON_MAJOR);
-    else if (minor >= JEPMON_WIDE_MINOR && !m->options.by_ends && jepmon_wide_(m->options.model))
-        m->kind = jepmon_wide_(m->options.model);
+    char *words[] = { m->program, word, NULL };
+    int in, out, status = 0;
+    size_t length = 0;
+    time_t since = time(NULL);
+    pid_t pid = jepmon_spawn_(words, &in, &out, NULL), gone = 0;
+    line[0] = 0;
+    if (pid < 0) return -1;
+    if (*input) send(in, input, strlen(input), MSG_NOSIGNAL);
+    shutdown(in, SHUT_WR);
+    while (length + 1 < room && !strchr(line, '\n') && time(NULL) - since <= (m->options.timeout < 60 ? m->options.timeout : 60)) {
+        struct pollfd file = { out, POLLIN, 0 };
+        if (poll(&file, 1, 100) <= 0) continue;
+        ssize_t n = read(out, line + length, room - 1 - length);
+        if (n <= 0) break;
+        line[length += (size_t)n] = 0;
+    }
+    close(in);
+    close(out);
+    for (int n = 0; n < 100 && (gone = waitpid(pid, &status, WNOHANG)) == 0; n++) nanosleep(&(struct timespec){ 0, 10000000 }, NULL);
+    if (!gone) {
+        kill(-pid, SIGKILL);
+        waitpid(pid, &status, 0);
+    }
+    return WIFEXITED(status) ? WEXITSTATUS(status) : -1;
+}
+
+/* The minor version, if this header works with the version; else -1, and the verdict says so. */
+static int jepmon_minor_(struct jepmon *m, const char *version)
+{
+    int major, minor, patch, length = 0;
+    if (sscanf(version, "%d.%d.%d%n", &major, &minor, &patch, &length) == 3 && !version[length] && major == JEPMON_MAJOR && minor >= JEPMON_MINOR)
+        return minor;
+    jepmon_fail_(m, 3, "refused: %s is jepmon %s: this header needs jepmon %d.%d or a later %d", m->program, version, JEPMON_MAJOR, JEPMON_MINOR, JEPMON_MAJOR);
+    return -1;
+}
+
+/* The number of this name in the answer to [:hello], but at most as many as this header has room for. */
+static int jepmon_limit_(const char *line, const char *name, int most)
+{
+    const char *at = strstr(line, name);
+    int number = at ? atoi(at + strlen(name)) : most;
+    return number < most ? number : most;
+}
+
+/* Asks the program for its version, its kinds and its limits, and chooses the kind. Else the verdict says what is wrong with it. A program
+ * answers [:hello], or it is older than 1.6, and says its version alone. */
+static int jepmon_hello_(struct jepmon *m)
+{
+    char line[4096], version[64], kind[64];
+    const char *wide = m->options.by_ends ? NULL : jepmon_wide_(m->options.model);
+    m->clients = 64;
+    m->keys = 65536;
+    jepmon_ask_(m, "script", "[:hello]\n", line, sizeof line);
+    size_t length = strlen(line);
+    if (length > 2 && !strcmp(line + length - 2, "}\n") && sscanf(line, "{:jepmon \"%63[^\"]\"", version) == 1) {
+        if (jepmon_minor_(m, version) < 0) return 0;
+        m->clients = jepmon_limit_(line, ":max-clients ", m->clients);
+        m->keys = jepmon_limit_(line, ":max-keys ", m->keys);
+        for (char *c = line; *c; c++) if (*c == '[' || *c == ']') *c = ' ';
+        snprintf(kind, sizeof kind, " :%s ", wide ? wide : "");
+        if (wide && strstr(line, kind)) m->kind = wide;
+        return 1;
+    }
+    int status = jepmon_ask_(m, "--version", "", line, sizeof line);
+    line[strcspn(line, "\n")] = 0;
+    if (status == 127) jepmon_fail_(m, 3, "refused: there is no %s: JEPMON names the program, or it is on the PATH", m->program);
+    else if (sscanf(line, "jepmon %63s", version) != 1) jepmon_fail_(m, 3, "refused: %s is no jepmon: its --version prints '%.80s'", m->program, line);
+    else if (jepmon_minor_(m, version) >= 5 && wide && (!strcmp(wide, "wide-register") || !strcmp(wide, "wide-set"))) m->kind = wide;
     return !m->status;
 }
 
@@ -347,21 +412,21 @@ static struct jepmon *jepmon_start(const struct jepmon_options *options)
     if (!m) abort();
     if (options) m->options = *options;
     if (!m->options.model) m->options.model = "register";
-    for (int n = 0; n < 2; n++) if (!strcmp(jepmon_kinds[n][1], m->options.model)) m->options.model = jepmon_kinds[n][0];
+    for (int n = 0; n < JEPMON_KINDS; n++) if (!strcmp(jepmon_kinds[n][1], m->options.model)) m->options.model = jepmon_kinds[n][0];
     m->kind = m->options.model;
-    if (!m->options.concurrency) m->options.concurrency = 64;
     if (!m->options.timeout) m->options.timeout = 60;
     m->key = m->index = -1;
     pthread_mutex_init(&m->lock, NULL);
-    for (int t = 0; t < 64 && t < m->options.concurrency; t++) {
-        m->processes[t] = t;
-        m->free[m->free_count++] = (m->options.concurrency < 64 ? m->options.concurrency : 64) - 1 - t;
-    }
     m->errors = tmpfile();
     m->input = m->output = -1;
     m->is_over = 1;
     jepmon_find_(m);
-    if (!jepmon_version_(m)) return m;
+    if (!jepmon_hello_(m)) return m;
+    if (!m->options.concurrency) m->options.concurrency = m->clients;
+    for (int t = 0; t < 64 && t < m->options.concurrency; t++) {
+        m->processes[t] = t;
+        m->free[m->free_count++] = (m->options.concurrency < 64 ? m->options.concurrency : 64) - 1 - t;
+    }
     snprintf(m->concurrency, sizeof m->concurrency, "%d", m->options.concurrency);
     snprintf(m->budget, sizeof m->budget, "%d", m->options.budget);
     char *words[] = { m->program, "script", "--strict", "--concurrency", m->concurrency, "--model", (char *)m->kind,
@@ -392,6 +457,72 @@ static int jepmon_has_(const char *model, const char *name)
     return 1; /* the program refuses the model */
 }
 
+static int jepmon_is_by_ends_(struct jepmon *m, long key) { return key >= 0 && (m->by_ends[key / 8] >> key % 8 & 1); }
+
+/* Has a key judged as this kind. */
+static void jepmon_judge_as_(struct jepmon *m, int key, const char *kind)
+{
+    char line[64];
+    jepmon_line_(m, line, (size_t)snprintf(line, sizeof line, "[:model %d :%s]\n", key, kind));
+}
+
+/* The place of a message in the table, or the place where it would be. */
+static struct jepmon_message *jepmon_message_(struct jepmon *m, int key, int64_t value)
+{
+    uint64_t hash = ((uint64_t)value * 65537u + (uint64_t)key) * UINT64_C(0x9E3779B97F4A7C15);
+    for (size_t at = (size_t)(hash >> 32) & (m->message_room - 1); ; at = (at + 1) & (m->message_room - 1)) {
+        struct jepmon_message *found = &m->messages[at];
+        if (!found->state || (found->key == key && found->value == value)) return found;
+    }
+}
+
+/* Makes room for one message more. */
+static void jepmon_message_room_(struct jepmon *m)
+{
+    struct jepmon_message *old = m->messages;
+    size_t room = m->message_room;
+    if (2 * (m->message_count + 1) <= room) return;
+    m->message_room = room ? 2 * room : 1024;
+    m->messages = calloc(m->message_room, sizeof *m->messages);
+    if (!m->messages) abort();
+    for (size_t n = 0; n < room; n++) if (old[n].state) *jepmon_message_(m, old[n].key, old[n].value) = old[n];
+    free(old);
+}
+
+/* Takes note of the message, if an enqueue begins. */
+static void jepmon_sends_(struct jepmon *m, const char *name, int key, const char *part)
+{
+    if (strcmp(name, "enqueue") || strcmp(m->kind, "wide-fifo-queue") || jepmon_is_by_ends_(m, key)) return;
+    jepmon_message_room_(m);
+    struct jepmon_message *message = jepmon_message_(m, key, strtoll(part, NULL, 10));
+    if (message->state == 1) {
+        m->by_ends[key / 8] |= (unsigned char)(1 << key % 8);
+        m->by_ends_count++;
+        jepmon_judge_as_(m, key, m->options.model);
+        return;
+    }
+    if (!message->state) m->message_count++;
+    *message = (struct jepmon_message){ strtoll(part, NULL, 10), key, 1 };
+}
+
+/* Forgets the message, if an enqueue has failed. */
+static void jepmon_has_failed_(struct jepmon *m, const char *name, int key, const char *part)
+{
+    if (strcmp(name, "enqueue") || !m->message_room) return;
+    struct jepmon_message *message = jepmon_message_(m, key, strtoll(part, NULL, 10));
+    if (message->state) message->state = -1;
+}
+
+/* Begins a new history, after the old one has been forgotten: no key is judged by its ends. */
+static inline void jepmon_forget_messages_(struct jepmon *m)
+{
+    for (int key = 0; m->by_ends_count && key < 65536; key++) if (jepmon_is_by_ends_(m, key)) jepmon_judge_as_(m, key, m->kind);
+    memset(m->by_ends, 0, sizeof m->by_ends);
+    m->by_ends_count = 0;
+    if (m->message_count) memset(m->messages, 0, m->message_room * sizeof *m->messages);
+    m->message_count = 0;
+}
+
 static void jepmon_begin_key_(struct jepmon *m, int key, int64_t value)
 {
     char part[32];
@@ -408,7 +539,7 @@ static int jepmon_is_begun_(struct jepmon *m, int key) { return m->begun[key / 8
 static int jepmon_begin_(struct jepmon *m, struct jepmon_operation *o, const char *name, int key, const char *part)
 {
     o->is_open = 0;
-    if (key < 0 || key > 65535 || !jepmon_has_(m->options.model, name)) return JEPMON_MISTAKE;
+    if (key < 0 || key >= m->keys || !jepmon_has_(m->options.model, name)) return JEPMON_MISTAKE;
     pthread_mutex_lock(&m->lock);
     int status = m->status ? m->status : m->is_closed || m->free_count == 0 ? JEPMON_MISTAKE : 0;
     if (!status) {
@@ -420,6 +551,7 @@ static int jepmon_begin_(struct jepmon *m, struct jepmon_operation *o, const cha
         o->is_open = 1;
         snprintf(o->part, sizeof o->part, "%s", part);
         m->counts[jepmon_name_(name)][3]++;
+        jepmon_sends_(m, name, key, part);
         jepmon_event_(m, "invoke", m->processes[o->thread], name, key, part);
         status = jepmon_settle_(m);
     }
@@ -436,6 +568,7 @@ static int jepmon_complete_(struct jepmon *m, struct jepmon_operation *o, enum j
         m->counts[jepmon_name_(o->name)][3]--;
         m->counts[jepmon_name_(o->name)][outcome]++;
         jepmon_event_(m, jepmon_outcomes[outcome], m->processes[o->thread], o->name, o->key, part);
+        if (outcome == JEPMON_FAIL) jepmon_has_failed_(m, o->name, o->key, o->part);
         if (outcome == JEPMON_INFO) m->processes[o->thread] += m->options.concurrency;
         m->free[m->free_count++] = o->thread;
         status = jepmon_settle_(m);
@@ -514,7 +647,7 @@ static inline int jepmon_values(struct jepmon *m, struct jepmon_operation *o, co
 /* Says what a register holds before its first operation. */
 static inline int jepmon_begin(struct jepmon *m, int key, int64_t value)
 {
-    if (key < 0 || key > 65535 || !jepmon_has_(m->options.model, "write")) return JEPMON_MISTAKE;
+    if (key < 0 || key >= m->keys || !jepmon_has_(m->options.model, "write")) return JEPMON_MISTAKE;
     pthread_mutex_lock(&m->lock);
     int status = m->status ? m->status : m->is_closed || m->free_count == 0 || jepmon_is_begun_(m, key) ? JEPMON_MISTAKE : 0;
     if (!status) {
@@ -552,6 +685,7 @@ static inline int jepmon_reset(struct jepmon *m)
             if (m->unknown) jepmon_report_unknown_(m);
             m->lines.length = m->sent = 0;
             memset(m->begun, 0, sizeof m->begun);
+            jepmon_forget_messages_(m);
             for (int t = 0; t < 64; t++) m->processes[t] = t;
         }
         status = m->status;
@@ -573,8 +707,8 @@ static inline void jepmon_tail_(struct jepmon *m, struct jepmon_bytes *text)
     for (int turn = 0; turn < 2; turn++) {
         skip = count - 12;
         count = index = 0;
-        for (char *line = m->lines.text, *end; line && index <= m->index && (end = strchr(line, '\n')); line = end + 1, index++) {
-            if (!memmem(line, (size_t)(end - line), of, strlen(of))) continue;
+        for (char *line = m->lines.text, *end; line && index <= m->index && (end = strchr(line, '\n')); index += *line != '[', line = end + 1) {
+            if (*line == '[' || !memmem(line, (size_t)(end - line), of, strlen(of))) continue;
             if (turn == 1 && count >= skip) {
                 jepmon_add(text, number, (size_t)snprintf(number, sizeof number, "\n  %ld ", index));
                 jepmon_add(text, line, (size_t)(end - line));
@@ -592,25 +726,29 @@ static inline void jepmon_hint_(struct jepmon *m, struct jepmon_bytes *text)
     snprintf(line, sizeof line, "\n  key %ld has more outcomes than its budget: raise .budget, let fewer clients use one key, or write to a new key "
              "after timeouts", m->key);
     jepmon_text_(text, line);
+    if (jepmon_is_by_ends_(m, m->key))
+        jepmon_text_(text, ". Two enqueues of one value have not failed, so the queue is judged by its ends: give each message a value of its own");
     if (!wide || !strcmp(wide, m->kind)) return;
     if (m->options.by_ends) snprintf(line, sizeof line, ". Without .by_ends the kind %s may decide it", wide);
     else snprintf(line, sizeof line, ". %s does not have the kind %s: a newer jepmon may decide it", m->program, wide);
     jepmon_text_(text, line);
 }
 
-/* Adds the keys over their budget other than the verdict's, by `jepmon check`. `script` names the first one alone. */
-static inline void jepmon_over_(struct jepmon *m, const char *file, struct jepmon_bytes *text)
+/* Adds the keys over their budget other than the verdict's, of those that are judged as this kind, by `jepmon check`. `script` names the
+ * first one alone. */
+static inline void jepmon_over_(struct jepmon *m, const char *file, const char *kind, struct jepmon_bytes *text)
 {
     char line[256];
     long key, index;
     int input, output;
-    char *words[] = { m->program, "check", (char *)file, "--concurrency", m->concurrency, "--model", (char *)m->kind,
+    char *words[] = { m->program, "check", (char *)file, "--concurrency", m->concurrency, "--model", (char *)kind,
                       m->options.budget ? "--budget" : NULL, m->budget, NULL };
     pid_t pid = jepmon_spawn_(words, &input, &output, NULL);
     if (pid < 0) return;
     FILE *told = fdopen(output, "r");
     while (told && fgets(line, sizeof line, told)) {
         if (sscanf(line, "key %ld model %*s budget %*d events %*d status over %ld", &key, &index) != 2 || key == m->key) continue;
+        if (jepmon_is_by_ends_(m, key) == !strcmp(kind, m->kind)) continue;
         snprintf(line, sizeof line, "\n  also unknown key %ld index %ld", key, index);
         jepmon_text_(text, line);
     }
@@ -670,10 +808,12 @@ static inline void jepmon_report_(struct jepmon *m, int status, struct jepmon_by
     int made = m->lines.length ? mkstemps(file, 4) : -1;
     FILE *history = made < 0 ? NULL : fdopen(made, "w");
     if (!history) return;
-    fwrite(m->lines.text, 1, m->lines.length, history);
+    for (char *line = m->lines.text, *end; line && (end = strchr(line, '\n')); line = end + 1)
+        if (*line != '[') fwrite(line, 1, (size_t)(end + 1 - line), history); /* commands are no events */
     fclose(history);
     if (status == 1) jepmon_cause_(m, file, all);
-    if (status == 2 && m->options.go_on) jepmon_over_(m, file, all);
+    if (status == 2 && m->options.go_on) jepmon_over_(m, file, m->kind, all);
+    if (status == 2 && m->options.go_on && m->by_ends_count) jepmon_over_(m, file, m->options.model, all);
     jepmon_text_(all, "\n  history: ");
     jepmon_text_(all, file);
 }
@@ -716,6 +856,7 @@ static int jepmon_close(struct jepmon *m, char *text, size_t room)
     free(m->unknown_text.text);
     free(m->lines.text);
     free(m->unread.text);
+    free(m->messages);
     pthread_mutex_unlock(&m->lock);
     pthread_mutex_destroy(&m->lock);
     free(m);

@@ -6,7 +6,9 @@ main([Table]) ->
     process_flag(trap_exit, true),
     {ok, Text} = file:read_file(filename:join(Table, "scenarios.txt")),
     Lines = [string:lexemes(Line, " ") || Line <- string:lexemes(binary_to_list(Text), "\n"), hd(Line) =/= $#],
-    Results = [result(Table, Scenario, Wait) || Scenario <- scenarios(Lines, []), Wait <- [false, true],
+    Program = os:getenv("JEPMON", filename:join(Table, "../../dist/jepmon")),
+    {match, [Minor]} = re:run(os:cmd("'" ++ Program ++ "' --version"), "^jepmon \\d+\\.(\\d+)", [{capture, all_but_first, list}]),
+    Results = [result(Table, Scenario, Wait) || Scenario <- scenarios(Lines, []), since(Scenario) =< list_to_integer(Minor), Wait <- [false, true],
         not (Wait andalso lists:member(["waiting", "no"], Scenario))],
     Failed = length([R || R <- Results, R =/= ok]),
     io:format("~b passed, ~b failed~n", [length(Results) - Failed, Failed]),
@@ -15,6 +17,9 @@ main([Table]) ->
 scenarios([], All) -> lists:reverse([lists:reverse(Scenario) || Scenario <- All]);
 scenarios([["scenario" | _] = Line | More], All) -> scenarios(More, [[Line] | All]);
 scenarios([Line | More], [Last | All]) -> scenarios(More, [[Line | Last] | All]).
+
+%% The minor version of the program that the scenario needs, or 0.
+since(Scenario) -> lists:sum([list_to_integer(Minor) || ["since", Minor] <- Scenario]).
 
 result(Table, [["scenario", Name] | _] = Scenario, Wait) ->
     Result = try run(Table, Scenario, Wait) catch C:E:S -> {C, E, S} end,

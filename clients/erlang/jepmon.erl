@@ -9,9 +9,9 @@
 %% The mailbox of the server is the order of the history. An invocation is a call, since it has to stand before the request; a completion
 %% is a cast, since a late one makes an operation look longer, which never makes a false alarm. With `wait` each event waits for its reply.
 %%
-%% Options: program, model, concurrency, budget, by_ends, wait, initial, go_on, timeout (seconds), out. Registers and sets are judged as
-%% wide-register and wide-set, of which fewer outcomes count against the budget; by_ends turns that off. An operation is {read, Key}, {write, Key, Value},
-%% {cas, Key, Old, New}, {add, Key, Member}, {enqueue, Key, Message}, {dequeue, Key}, {acquire, Key} or {release, Key}. It ends by ok,
+%% Options: program, model, concurrency, budget, by_ends, wait, initial, go_on, timeout (seconds), out. Each model but mutex is judged as its wide
+%% kind, as wide-register, if the program has it: fewer outcomes count against the budget. by_ends turns that off. A fifo queue is judged by its
+%% ends from its second enqueue of one value on, unless the first one has failed. An operation is {read, Key}, {write, Key, Value}, {cas, Key, Old, New}, {add, Key, Member}, {enqueue, Key, Message}, {dequeue, Key}, {acquire, Key} or {release, Key}. It ends by ok,
 %% {value, V}, missing, {values, List}, fail or info.
 -module(jepmon).
 -behaviour(gen_server).
@@ -20,7 +20,7 @@
 
 -define(ABSENT, -(1 bsl 63)).    % the value of a missing key
 -define(MOST, 1 bsl 20).         % bytes that wait for the program: if there are more, invocations wait
--record(s, {options, program, kind, port, writer, folder, buffer = [], size = 0, writing = true, kept = [], lines = 0, replies = 0,
+-record(s, {options, program, about, kind, by_ends = #{}, sent = #{}, port, writer, folder, buffer = [], size = 0, writing = true, kept = [], lines = 0, replies = 0,
     free, processes, open = #{}, begun = #{}, counts = #{}, last = <<"legal">>, bad = none, unknown = none, refusal = none,
     closer = none, resetter = none, waiting = [], delayed = [], progress = 0, partial = <<>>}).
 
@@ -94,23 +94,24 @@ text(#{reply := Reply} = Verdict) ->
 
 init(Given) ->
     process_flag(trap_exit, true),
-    Merged = maps:merge(#{model => register, concurrency => 64, budget => 0, by_ends => false, wait => false, initial => ?ABSENT, go_on => false,
+    Merged = maps:merge(#{model => register, budget => 0, by_ends => false, wait => false, initial => ?ABSENT, go_on => false,
         timeout => 60}, Given),
-    Options = maps:update_with(model, fun jepmon_program:model/1, Merged),
-    Processes = processes(Options),
-    {ok, #s{options = Options, free = lists:sort(maps:keys(Processes)), processes = Processes}, {continue, start}}.
+    {ok, #s{options = maps:update_with(model, fun jepmon_program:model/1, Merged), free = [], processes = #{}}, {continue, start}}.
 
 %% The process of each thread in a history without events.
 processes(#{concurrency := N}) -> maps:from_list([{T, T} || T <- lists:seq(0, N - 1)]).
 
 handle_continue(start, S) ->
     Program = jepmon_program:find(S#s.options),
-    case jepmon_program:version(Program) of
-        {ok, Minor} ->
-            Kind = jepmon_program:kind(S#s.options, Minor),
-            {Port, Writer, Folder} = jepmon_program:start(Program, Kind, S#s.options),
+    case jepmon_program:hello(Program, timeout(S)) of
+        {ok, About} ->
+            Options = maps:merge(#{concurrency => min(64, maps:get(clients, About))}, S#s.options),
+            Processes = processes(Options),
+            Kind = jepmon_program:kind(Options, About),
+            {Port, Writer, Folder} = jepmon_program:start(Program, Kind, Options),
             erlang:send_after(timeout(S) div 10, self(), look),
-            {noreply, command(S#s{program = Program, kind = Kind, port = Port, writer = Writer, folder = Folder}, <<"[:verdict]\n">>)};
+            {noreply, command(S#s{options = Options, free = lists:sort(maps:keys(Processes)), processes = Processes, program = Program, about = About,
+                kind = Kind, port = Port, writer = Writer, folder = Folder}, <<"[:verdict]\n">>)};
         {error, Why} -> {noreply, fail(S#s{program = Program}, refused(Why))}
     end.
 
@@ -140,14 +141,16 @@ handle_call({begin_key, Key, Value}, From, S) ->
 handle_call({invoke, What}, From, S) ->
     [F, Key | Values] = tuple_to_list(What),
     case {mistake(S, F, Key), S#s.free} of
-        {none, []} -> {reply, {mistake, "too many operations are open at once: raise concurrency, 64 at most"}, S};
+        {none, []} ->
+            Most = maps:get(clients, S#s.about),
+            {reply, {mistake, io_lib:format("too many operations are open at once: raise concurrency, ~b at most", [Most])}, S};
         {none, [Thread | Free]} ->
             S1 = case is_register(S) andalso not is_map_key(Key, S#s.begun) of
                 true -> begun(S, Key, maps:get(initial, S#s.options));
                 false -> S
             end,
             Operation = {Thread, make_ref(), {F, Key, part(Values)}, maps:get(wait, S#s.options)},
-            S2 = event(S1#s{free = Free, open = (S1#s.open)#{Operation => F}}, invoke, Thread, F, Key, part(Values)),
+            S2 = event((sending(S1, F, Key, Values))#s{free = Free, open = (S1#s.open)#{Operation => F}}, invoke, Thread, F, Key, part(Values)),
             {noreply, settle(S2, From, {ok, Operation})};
         {Text, _} -> {reply, {mistake, Text}, S}
     end;
@@ -210,6 +213,19 @@ event(S, Kind, Thread, F, Key, Part) ->
     command(S, [<<"{:type :">>, atom_to_binary(Kind), <<" :process ">>, integer_to_binary(map_get(Thread, S#s.processes)), <<" :f :">>,
         atom_to_binary(F), <<" :value [">>, integer_to_binary(Key), $\s, Part, <<"]}\n">>]).
 
+%% Takes note of a message. The kind wide-fifo-queue is over as soon as two enqueues of one value have not failed, so such a queue is judged by
+%% its ends from its second enqueue of the value on.
+sending(S = #s{kind = 'wide-fifo-queue', by_ends = ByEnds}, enqueue, Key, [Value]) when not is_map_key(Key, ByEnds) ->
+    case S#s.sent of
+        #{{Key, Value} := true} -> command(S#s{by_ends = ByEnds#{Key => true}}, [io_lib:format("[:model ~b :fifo-queue]\n", [Key])]);
+        Sent -> S#s{sent = Sent#{{Key, Value} => true}}
+    end;
+sending(S, _, _, _) -> S.
+
+%% Forgets a message whose enqueue has failed.
+not_sent(S = #s{kind = 'wide-fifo-queue'}, {enqueue, Key, Part}) -> S#s{sent = maps:remove({Key, binary_to_integer(Part)}, S#s.sent)};
+not_sent(S, _) -> S.
+
 part([]) -> <<"nil">>;
 part([Value]) -> integer_to_binary(Value);
 part([Old, New]) -> [$[, integer_to_binary(Old), $\s, integer_to_binary(New), $]].
@@ -230,7 +246,8 @@ completed(S, {Thread, _, {F, Key, Part}, _} = Operation, End) ->
         {values, Members} -> {ok, ["#{", lists:join($\s, [integer_to_binary(V) || V <- lists:usort(Members)]), $}]};
         _ -> {ok, Part}
     end,
-    S1 = event(S#s{open = maps:remove(Operation, S#s.open), counts = add({F, Outcome}, S#s.counts)}, Outcome, Thread, F, Key, Answer),
+    Noted = case Outcome of fail -> not_sent(S, {F, Key, Part}); _ -> S end,
+    S1 = event(Noted#s{open = maps:remove(Operation, S#s.open), counts = add({F, Outcome}, S#s.counts)}, Outcome, Thread, F, Key, Answer),
     Processes = case Outcome of
         info -> maps:update_with(Thread, fun(P) -> P + maps:get(concurrency, S#s.options) end, S1#s.processes);
         _ -> S1#s.processes
@@ -252,8 +269,11 @@ mistake(S, F, Key) ->
     end,
     case lists:member(F, Known) of
         false -> io_lib:format("a ~s has no operation ~s: it has ~p", [Model, F, Known]);
-        true when not is_integer(Key); Key < 0; Key > 65535 -> io_lib:format("key ~p is none: keys are 0 to 65535", [Key]);
-        true -> none
+        true ->
+            case maps:get(keys, S#s.about) of
+                Keys when is_integer(Key), Key >= 0, Key < Keys -> none;
+                Keys -> io_lib:format("key ~p is none: keys are 0 to ~b", [Key, Keys - 1])
+            end
     end.
 
 %% Answers a call: at once, or with `wait` once all lines so far have their replies. The start waits for one reply in any case.
@@ -301,7 +321,8 @@ replied(S0, Line) ->
 
 reset_done(S = #s{resetter = From, replies = N, lines = N}) when From =/= none ->
     gen_server:reply(From, ok),
-    S#s{resetter = none, unknown = reported(S, S#s.unknown), kept = [], begun = #{}, processes = processes(S#s.options)};
+    S1 = S#s{resetter = none, unknown = reported(S, S#s.unknown), kept = [], begun = #{}, processes = processes(S#s.options), by_ends = #{}, sent = #{}},
+    lists:foldl(fun(Key, S2) -> command(S2, [io_lib:format("[:model ~b :~s]\n", [Key, S#s.kind])]) end, S1, maps:keys(S#s.by_ends));
 reset_done(S) -> S.
 
 verdict(<<"legal">>) -> legal;
@@ -325,16 +346,21 @@ fail(S, _) -> S.
 
 %% The verdict with the last events of its key, and with what helps if the key is over its budget.
 described(S, Verdict) ->
-    jepmon_program:hinted(Verdict#{tail => jepmon_program:tail(history(S), Verdict)}, S#s.options, S#s.program, S#s.kind).
+    jepmon_program:hinted(Verdict#{tail => jepmon_program:tail(history(S), Verdict)}, S#s.options, S#s.program, S#s.kind, S#s.by_ends).
 
 %% What is known of a verdict at the end of its history, once.
 reported(_, none) -> none;
 reported(_, #{history := _} = Verdict) -> Verdict;
-reported(S, Verdict) -> jepmon_program:report(Verdict, S#s.options, S#s.program, S#s.kind, history(S)).
+reported(S, Verdict) -> jepmon_program:report(Verdict, S#s.options, S#s.program, S#s.kind, S#s.by_ends, history(S)).
 
-history(S) ->
-    All = iolist_to_binary([lists:reverse(S#s.kept), S#s.buffer]),
-    case All of <<"[:verdict]\n", Events/binary>> -> Events; _ -> All end.
+%% The events since the last reset: the lines without commands, each of which begins with [: as no event does.
+history(S) -> iolist_to_binary([events(Piece) || Piece <- lists:reverse(S#s.kept, [iolist_to_binary(S#s.buffer)])]).
+
+events(Piece) ->
+    case binary:match(Piece, <<"[:">>) of
+        nomatch -> Piece;
+        _ -> re:replace(Piece, "^\\[:.*\\n", "", [global, multiline, {return, binary}])
+    end.
 
 exited(S, Status) ->
     Why = case jepmon_program:errors(S#s.folder) of "" -> ""; Text -> ": " ++ Text end,

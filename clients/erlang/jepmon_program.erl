@@ -1,10 +1,11 @@
-%% The program of jepmon.erl: where it is, its version, its pipes, and what is said of a verdict.
+%% The program of jepmon.erl: where it is, what it says of itself, its pipes, and what is said of a verdict.
 -module(jepmon_program).
--export([find/1, version/1, model/1, kind/2, start/3, kill/1, errors/1, remove/2, tail/2, hinted/4, report/5, cause_of/1]).
+-export([find/1, hello/2, model/1, kind/2, start/3, kill/1, errors/1, remove/2, tail/2, hinted/5, report/6, cause_of/1]).
 -define(MAJOR, 1).               % of the oldest program that this library works with
 -define(MINOR, 4).
--define(WIDE_MINOR, 5).          % of the first one that has wide kinds
--define(WIDE, #{register => 'wide-register', set => 'wide-set'}).
+-define(WIDE, #{                 % the second kinds of models: the same objects, of which fewer outcomes count against the budget
+    register => 'wide-register', 'cas-register' => 'wide-cas-register', 'fifo-queue' => 'wide-fifo-queue',
+    'unordered-queue' => 'wide-unordered-queue', set => 'wide-set'}).
 
 %% The path that is named, or that JEPMON names; else the program in a folder above this library; else jepmon on the PATH.
 find(#{program := Path}) -> Path;
@@ -35,46 +36,76 @@ is_machine_code(Path) ->
 %% The model of this name, or of its wide kind.
 model(Name) -> maps:get(Name, maps:from_list([{Kind, Model} || {Model, Kind} <- maps:to_list(?WIDE)]), Name).
 
-%% The kind by which a program of this minor version judges the model.
-kind(#{model := Model, by_ends := false}, Minor) when Minor >= ?WIDE_MINOR -> maps:get(Model, ?WIDE, Model);
-kind(#{model := Model}, _) -> Model.
+%% The kind by which a program that has these kinds judges the model.
+kind(#{model := Model, by_ends := ByEnds}, #{kinds := Kinds}) ->
+    Kind = maps:get(Model, ?WIDE, Model),
+    case not ByEnds andalso lists:member(atom_to_list(Kind), Kinds) of true -> Kind; false -> Model end.
 
-%% {ok, Minor}, or {error, Text}: what is wrong with the program or its version.
-version(Program) ->
-    Line = case run(Program, ["--version"], []) of
+%% {ok, About} or {error, Text}: what a program says of itself, or what is wrong with it. It answers [:hello], or it is older than 1.6, and says
+%% its version alone. About has the names of its kinds, and its limits: operations that are open at once, and keys.
+hello(Program, Timeout) ->
+    Longest = min(Timeout, 60000),
+    Question = "printf '[:hello]\\n' | exec \"$0\" script 2>/dev/null",
+    case run("/bin/sh", ["-c", Question, Program], [], Longest) of
+        {_, <<"{:jepmon \"", Rest/binary>> = Line} ->
+            case binary:last(Line) =:= $\n andalso re:run(Rest, "^([^\"]*)\" .*}$", [{capture, all_but_first, list}]) of
+                {match, [Version]} -> about(Program, Version, fun(_) -> of_hello(Line) end);
+                _ -> by_version(Program, Longest)
+            end;
+        _ -> by_version(Program, Longest)
+    end.
+
+of_hello(Line) ->
+    Kinds = case re:run(Line, ":kinds \\[([^\\]]*)\\]", [{capture, all_but_first, list}]) of
+        {match, [Names]} -> [string:trim(Name, leading, ":") || Name <- string:lexemes(Names, " ")];
+        nomatch -> []
+    end,
+    #{kinds => Kinds, clients => limit(Line, "max-clients", 64), keys => limit(Line, "max-keys", 65536)}.
+
+%% The number of this name, if the answer has it.
+limit(Line, Name, Otherwise) ->
+    case re:run(Line, ":" ++ Name ++ " (\\d+)[ }]", [{capture, all_but_first, list}]) of
+        {match, [Number]} -> list_to_integer(Number);
+        nomatch -> Otherwise
+    end.
+
+by_version(Program, Longest) ->
+    Line = case run(Program, ["--version"], [], Longest) of
         {0, Text} -> hd(binary:split(Text, <<"\n">>));
         {Status, _} -> {Status}
     end,
     case Line of
         {enoent} -> {error, io_lib:format("there is no ~s: JEPMON names the program, or it is on the PATH", [Program])};
         {Other} -> {error, io_lib:format("~s can't be used: ~p", [Program, Other])};
-        _ ->
-            case re:run(Line, "^jepmon (\\d+)\\.(\\d+)\\.\\d+$", [{capture, all_but_first, list}]) of
-                {match, [Major, Minor]} ->
-                    case list_to_integer(Major) =:= ?MAJOR andalso list_to_integer(Minor) >= ?MINOR of
-                        true -> {ok, list_to_integer(Minor)};
-                        false -> {error, io_lib:format("~s is ~s: this library needs jepmon ~b.~b or a later ~b",
-                            [Program, Line, ?MAJOR, ?MINOR, ?MAJOR])}
-                    end;
-                nomatch -> {error, io_lib:format("~s is no jepmon: its --version prints ~p", [Program, Line])}
-            end
+        <<"jepmon ", Version/binary>> ->
+            about(Program, binary_to_list(Version), fun(Minor) ->
+                #{kinds => [Kind || Minor >= 5, Kind <- ["wide-register", "wide-set"]], clients => 64, keys => 65536}
+            end);
+        _ -> {error, io_lib:format("~s is no jepmon: its --version prints ~p", [Program, Line])}
+    end.
+
+%% What is said of a program of this version, if this library works with it.
+about(Program, Version, Said) ->
+    case [string:to_integer(Number) || Number <- string:split(Version, ".", all)] of
+        [{?MAJOR, ""}, {Minor, ""}, {_, ""}] when Minor >= ?MINOR -> {ok, Said(Minor)};
+        _ -> {error, io_lib:format("~s is jepmon ~s: this library needs jepmon ~b.~b or a later ~b", [Program, Version, ?MAJOR, ?MINOR, ?MAJOR])}
     end.
 
 %% Runs a program without input, and without its standard error.
-quietly(Words, Env) -> run("/bin/sh", ["-c", "exec \"$0\" \"$@\" </dev/null 2>/dev/null" | Words], Env).
+quietly(Words, Env) -> run("/bin/sh", ["-c", "exec \"$0\" \"$@\" </dev/null 2>/dev/null" | Words], Env, 60000).
 
 %% Runs a program to its end: its status and what it printed.
-run(Program, Words, Env) ->
+run(Program, Words, Env, Longest) ->
     try open_port({spawn_executable, Program}, [{args, Words}, {env, Env}, binary, exit_status, use_stdio, in]) of
-        Port -> collected(Port, <<>>)
+        Port -> collected(Port, <<>>, Longest)
     catch error:Reason -> {Reason, <<>>}
     end.
 
-collected(Port, Text) ->
+collected(Port, Text, Longest) ->
     receive
-        {Port, {data, More}} -> collected(Port, <<Text/binary, More/binary>>);
+        {Port, {data, More}} -> collected(Port, <<Text/binary, More/binary>>, Longest);
         {Port, {exit_status, Status}} -> {Status, Text}
-    after 60000 -> kill(Port), {timeout, Text}
+    after Longest -> kill(Port), catch port_close(Port), {timeout, Text}
     end.
 
 %% The program reads from a named pipe, so that its input can end while its output is read. A process of its own writes: a write waits
@@ -138,36 +169,42 @@ tail(History, #{key := Key, index := Index}) ->
     [iolist_to_binary(io_lib:format("~b ~s", [N, Line])) || {N, Line} <- lists:nthtail(max(0, length(All) - 12), All)].
 
 %% The verdict with what helps if the key is over its budget.
-hinted(#{status := unknown, key := Key} = Verdict, #{model := Model} = Options, Program, Kind) ->
+hinted(#{status := unknown, key := Key} = Verdict, #{model := Model} = Options, Program, Kind, ByEnds) ->
     Way = case {maps:get(Model, ?WIDE, Kind), Options} of
+        _ when is_map_key(Key, ByEnds) ->
+            ". Two enqueues of one value have not failed, so the queue is judged by its ends: give each message a value of its own";
         {Kind, _} -> "";
         {Wide, #{by_ends := true}} -> io_lib:format(". Without by_ends the kind ~s may decide it", [Wide]);
         {Wide, _} -> io_lib:format(". ~s does not have the kind ~s: a newer jepmon may decide it", [Program, Wide])
     end,
     Verdict#{hint => unicode:characters_to_binary(io_lib:format(
         "key ~b has more outcomes than its budget: raise budget, let fewer clients use one key, or write to a new key after timeouts~s", [Key, Way]))};
-hinted(Verdict, _, _, _) -> Verdict.
+hinted(Verdict, _, _, _, _) -> Verdict.
 
 %% The verdict with the file of the history. It has the other keys over their budget, if a test went on, and the cause in words, if
 %% jepmon-judge is there.
-report(Verdict, Options, Program, Kind, History) ->
+report(Verdict, Options, Program, Kind, ByEnds, History) ->
     Folder = maps:get(out, Options, os:getenv("JEPMON_OUT", "/tmp")),
     File = filename:join(Folder, io_lib:format("jepmon-~s-~b.edn", [os:getpid(), erlang:unique_integer([positive])])),
     case file:write_file(File, History) of
         ok ->
             Cause = case Verdict of #{status := illegal} -> cause(File, Options, Program); _ -> [] end,
             Also = case {Verdict, Options} of
-                {#{status := unknown, key := Key}, #{go_on := true}} -> over(Key, quietly([Program, "check", File | words(Kind, Options)], []));
+                {#{status := unknown, key := Key}, #{go_on := true, model := Model}} ->
+                    Others = fun(By) -> over(quietly([Program, "check", File | words(By, Options)], [])) end,
+                    Wide = [Over || {K, _} = Over <- Others(Kind), K =/= Key, not is_map_key(K, ByEnds)],
+                    Plain = [Over || map_size(ByEnds) > 0, {K, _} = Over <- Others(Model), K =/= Key, is_map_key(K, ByEnds)],
+                    [iolist_to_binary(io_lib:format("unknown key ~b index ~s", [K, I])) || {K, I} <- Wide ++ Plain];
                 _ -> []
             end,
             Verdict#{history => unicode:characters_to_binary(File), cause => Cause, also => Also};
         {error, _} -> Verdict
     end.
 
-%% The keys over their budget other than this one, by the report of `jepmon check`. `script` names the first one alone.
-over(Key, {_, Report}) ->
+%% The keys over their budget and their events, by the report of `jepmon check`. `script` names the first one alone.
+over({_, Report}) ->
     case re:run(Report, "^key (\\d+) .* status over (\\d+)$", [global, multiline, {capture, all_but_first, list}]) of
-        {match, All} -> [iolist_to_binary(["unknown key ", K, " index ", I]) || [K, I] <- All, K =/= integer_to_list(Key)];
+        {match, All} -> [{list_to_integer(K), I} || [K, I] <- All];
         nomatch -> []
     end.
 

@@ -42,27 +42,31 @@ type moment struct {
 	completes bool
 }
 
-// CheckOperations judges recorded operations by `jepmon check`. It gives nil or a *Verdict. Operations that touch in time are taken
+// CheckOperations judges recorded operations by `jepmon check`, or by `jepmon script` if a fifo queue has equal values. It gives nil or a *Verdict. Operations that touch in time are taken
 // as open at once. With options.Initial nil each register begins as missing.
 func CheckOperations(ctx context.Context, options Options, operations []RecordedOperation) error {
 	options = withDefaults(options)
-	options.Concurrency = 64
-	text, err := recorded(options, operations)
+	options.Concurrency = 0
+	p, err := chooseProgram(options)
 	if err != nil {
 		return err
 	}
-	path, kind, err := chooseProgram(options)
-	if err != nil {
+	m := newMonitor(options, p)
+	if err = m.record(operations); err != nil {
 		return err
 	}
-	command := exec.CommandContext(ctx, path, append([]string{"check", "-"}, options.words(kind)...)...)
-	command.Stdin = bytes.NewReader(text)
+	words := []string{"check", "-"}
+	if len(p.byEnds) > 0 {
+		words = []string{"script", "--strict"}
+	}
+	command := exec.CommandContext(ctx, p.path, append(words, m.options.words(p.kind)...)...)
+	command.Stdin = bytes.NewReader(m.buffer)
 	said, err := command.Output()
-	return verdictOfCheck(said, err, options, &program{path: path, kind: kind}, text)
+	return verdictOfCheck(said, err, m.options, p, m.history())
 }
 
 // verdictOfCheck takes the last line of a report, whose word has to agree with the status of the program.
-func verdictOfCheck(said []byte, err error, options Options, p *program, text []byte) error {
+func verdictOfCheck(said []byte, err error, options Options, p *program, events [][]byte) error {
 	var exit *exec.ExitError
 	if err != nil && !errors.As(err, &exit) {
 		return refused(err.Error())
@@ -74,48 +78,48 @@ func verdictOfCheck(said []byte, err error, options Options, p *program, text []
 	case err == nil && last == "legal":
 		return nil
 	case is && exit != nil && exit.ExitCode() == map[string]int{"illegal": 1, "unknown": 2}[verdict.Status]:
-		verdict.Tail, verdict.Hint = tail([][]byte{text}, verdict), hint(verdict, options, p)
-		return withCause(*verdict, options, p, [][]byte{text})
+		verdict.Tail, verdict.Hint = tail(events, verdict), hint(verdict, options, p)
+		return withCause(*verdict, options, p, events)
 	case exit != nil:
 		return refused(fmt.Sprintf("%s: %v %s", last, err, strings.TrimSpace(string(exit.Stderr))))
 	}
 	return refused(fmt.Sprintf("the last line of the report is %.80q, and the status is 0", last))
 }
 
-// recorded gives the lines of a history: calls and returns in the order of their times.
-func recorded(options Options, operations []RecordedOperation) ([]byte, error) {
-	m := newMonitor(options)
+// record appends the lines of a history: calls and returns in the order of their times.
+func (m *Monitor) record(operations []RecordedOperation) error {
 	threads := make([]int, len(operations))
 	for _, moment := range moments(operations) {
 		operation := operations[moment.is]
 		input, ok := operation.Input.(Input)
 		if !ok {
-			return nil, fmt.Errorf("jepmon: the Input of operation %d is no jepmon.Input", moment.is)
+			return fmt.Errorf("jepmon: the Input of operation %d is no jepmon.Input", moment.is)
 		}
 		if err := m.argumentError(input.Name, input.Key); err != nil {
-			return nil, err
+			return err
 		}
 		if !moment.completes {
 			if len(m.free) == 0 {
-				return nil, fmt.Errorf("jepmon: more than %d operations are open at once, the last of them operation %d", options.Concurrency, moment.is)
+				return fmt.Errorf("jepmon: more than %d operations are open at once, the last of them operation %d", m.options.Concurrency, moment.is)
 			}
-			if isRegister(options.Model) && !m.begun[input.Key] {
+			if isRegister(m.options.Model) && !m.begun[input.Key] {
 				m.beginKey(input.Key, m.initial())
 			}
 			threads[moment.is] = m.free[len(m.free)-1]
 			m.free = m.free[:len(m.free)-1]
 		}
 		if err := m.moment(operation, input, moment, threads[moment.is]); err != nil {
-			return nil, err
+			return err
 		}
 	}
-	return m.buffer, nil
+	return nil
 }
 
 // moment appends the call or the return of an operation. One of unknown outcome ends at its call, and its thread goes on.
 func (m *Monitor) moment(operation RecordedOperation, input Input, at moment, thread int) error {
 	part := input.part()
 	if !at.completes {
+		m.begins(input.Name, input.Key, part)
 		m.event("invoke", m.processes[thread], input.Name, input.Key, part)
 		if _, unknown := operation.Output.(Unknown); unknown {
 			m.event("info", m.processes[thread], input.Name, input.Key, part)
@@ -129,6 +133,7 @@ func (m *Monitor) moment(operation RecordedOperation, input Input, at moment, th
 	case nil:
 	case Failed:
 		outcome = "fail"
+		m.fails(input.Name, input.Key, part)
 	case Missing:
 		if part = number(Absent); input.Name == "dequeue" {
 			outcome, part = "fail", null

@@ -3,6 +3,8 @@ package jepmon_test
 import (
 	"context"
 	"errors"
+	"os"
+	"strings"
 	"testing"
 	"time"
 
@@ -117,4 +119,22 @@ func TestManyOperations(t *testing.T) {
 		t.Errorf("it is %s", got)
 	}
 	t.Log(len(operations), "operations in", time.Since(begun))
+}
+
+func TestQueueOfEqualValues(t *testing.T) {
+	enqueue, dequeue := jepmon.Input{Name: "enqueue", Key: 7, Value: 5}, jepmon.Input{Name: "dequeue", Key: 7}
+	operations := []jepmon.RecordedOperation{{0, enqueue, 0, nil, 1}, {0, enqueue, 2, nil, 3}, {1, dequeue, 4, 5, 5}, {1, dequeue, 6, 5, 7}}
+	if got := check(t, jepmon.FIFOQueue, operations); got != "legal" {
+		t.Errorf("it is %s", got)
+	}
+	operations[3].Output = 6
+	err := jepmon.CheckOperations(context.Background(), jepmon.Options{Model: jepmon.FIFOQueue, Out: t.TempDir()}, operations)
+	var verdict *jepmon.Verdict
+	if !errors.As(err, &verdict) || verdict.Reply != "illegal key 7 index 7" || len(verdict.Tail) != 8 {
+		t.Fatalf("it is %v", err)
+	}
+	text, err := os.ReadFile(verdict.History)
+	if err != nil || strings.Count(string(text), "\n") != 8 || strings.Contains(string(text), ":model") {
+		t.Errorf("the history is %s: %v", text, err)
+	}
 }

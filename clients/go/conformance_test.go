@@ -6,6 +6,7 @@ import (
 	"errors"
 	"fmt"
 	"os"
+	"os/exec"
 	"path/filepath"
 	"strconv"
 	"strings"
@@ -45,10 +46,25 @@ func scenarios(t *testing.T) []scenario {
 	return all
 }
 
+// minorVersion gives the minor version of the program that is tested.
+func minorVersion(t *testing.T) int64 {
+	program := os.Getenv("JEPMON")
+	if program == "" {
+		program = "../../dist/jepmon"
+	}
+	said, err := exec.Command(program, "--version").Output()
+	numbers := strings.Split(string(said), ".")
+	if err != nil || len(numbers) < 3 {
+		t.Fatalf("%s: %v, and its --version prints %q", program, err, said)
+	}
+	return integer(numbers[1])
+}
+
 func TestConformance(t *testing.T) {
+	minor := minorVersion(t)
 	for _, scenario := range scenarios(t) {
 		for _, wait := range []bool{false, true} {
-			if wait && scenario.says("waiting", "no") {
+			if wait && scenario.says("waiting", "no") || scenario.since() > minor {
 				continue
 			}
 			name := scenario.name + map[bool]string{false: "", true: "_waiting"}[wait]
@@ -60,6 +76,16 @@ func TestConformance(t *testing.T) {
 			}
 		}
 	}
+}
+
+// since gives the minor version of the program that the scenario needs, or 0.
+func (s scenario) since() int64 {
+	for _, line := range s.lines {
+		if line[0] == "since" {
+			return integer(line[1])
+		}
+	}
+	return 0
 }
 
 func (s scenario) says(words ...string) bool {
@@ -104,7 +130,7 @@ func integer(word string) int64 {
 
 func (r *runner) step(words []string) error {
 	switch words[0] {
-	case "waiting":
+	case "waiting", "since":
 	case "model":
 		r.options.Model = jepmon.Model(words[1])
 	case "concurrency":

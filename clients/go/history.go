@@ -25,14 +25,17 @@ func verdictOf(reply string) (*Verdict, bool) {
 	return &Verdict{Status: words[0], Key: key, Index: index, Reply: reply}, err == nil && err2 == nil
 }
 
-// events gives the pieces without the first lines.
-func events(pieces [][]byte, skip int) [][]byte {
-	for len(pieces) > 0 && skip > 0 {
-		at := bytes.IndexByte(pieces[0], '\n') + 1
-		pieces = append([][]byte{pieces[0][at:]}, pieces[1:]...)
-		skip--
+// events gives the pieces without commands, each of which is a line that begins with `[:`.
+func events(pieces ...[]byte) [][]byte {
+	var all [][]byte
+	for _, piece := range pieces {
+		for at := bytes.Index(piece, []byte("[:")); at >= 0; at = bytes.Index(piece, []byte("[:")) {
+			all = append(all, piece[:at])
+			piece = piece[at+bytes.IndexByte(piece[at:], '\n')+1:]
+		}
+		all = append(all, piece)
 	}
-	return pieces
+	return all
 }
 
 // tail gives the last events of the verdict's key, each after its index.
@@ -63,6 +66,8 @@ func hint(verdict *Verdict, o Options, p *program) string {
 	}
 	text := fmt.Sprintf("key %d has more outcomes than its budget: raise Budget, let fewer clients use one key, or write to a new key after timeouts", verdict.Key)
 	switch kind := wide[o.Model]; {
+	case p.byEnds[verdict.Key]:
+		text += equalValues
 	case kind == "" || kind == p.kind:
 	case o.ByEnds:
 		text += ". Without ByEnds the kind " + string(kind) + " may decide it"
@@ -101,11 +106,21 @@ var overLine = regexp.MustCompile(`(?m)^key (\d+) .* status over (\d+)$`)
 
 // over gives the keys over their budget other than the verdict's. `script` names the first one alone.
 func over(verdict Verdict, o Options, p *program) []string {
-	said, _ := exec.Command(p.path, append([]string{"check", verdict.History}, o.words(p.kind)...)...).Output()
+	others := p.over(verdict, o, p.kind)
+	if len(p.byEnds) > 0 {
+		others = append(others, p.over(verdict, o, o.Model)...)
+	}
+	return others
+}
+
+// over gives those of the keys that are judged by this kind.
+func (p *program) over(verdict Verdict, o Options, kind Model) []string {
+	said, _ := exec.Command(p.path, append([]string{"check", verdict.History}, o.words(kind)...)...).Output()
 	var others []string
 	for _, line := range overLine.FindAllSubmatch(said, -1) {
-		if string(line[1]) != strconv.Itoa(verdict.Key) {
-			others = append(others, fmt.Sprintf("unknown key %s index %s", line[1], line[2]))
+		key, _ := strconv.Atoi(string(line[1]))
+		if key != verdict.Key && p.byEnds[key] == (kind != p.kind) {
+			others = append(others, fmt.Sprintf("unknown key %d index %s", key, line[2]))
 		}
 	}
 	return others

@@ -27,16 +27,25 @@ import (
 type Model string
 
 const (
-	Register       Model = "register" // also "wide-register"
+	Register       Model = "register"
 	CASRegister    Model = "cas-register"
 	Mutex          Model = "mutex"
 	FIFOQueue      Model = "fifo-queue"
 	UnorderedQueue Model = "unordered-queue"
-	Set            Model = "set" // also "wide-set"
+	Set            Model = "set"
 )
 
-// wide has the models of which the program has a second kind. It is the same object, and fewer outcomes count against the budget.
-var wide = map[Model]Model{Register: "wide-register", Set: "wide-set"}
+const wideQueue Model = "wide-fifo-queue"
+
+// wide has the models of which the program may have a second kind. It is the same object, and fewer outcomes count against the budget.
+// The name of the kind also names its model.
+var wide = map[Model]Model{
+	Register:       "wide-register",
+	CASRegister:    "wide-cas-register",
+	FIFOQueue:      wideQueue,
+	UnorderedQueue: "wide-unordered-queue",
+	Set:            "wide-set",
+}
 
 // modelOf is the model by one of its names.
 func modelOf(name Model) Model {
@@ -63,9 +72,9 @@ const most = 1 << 20 // bytes that wait for the program: if there are more, oper
 type Options struct {
 	Program     string           // default: JEPMON, else the program beside the package, else jepmon on the PATH
 	Model       Model            // default: Register
-	Concurrency int              // operations that may be open at once, 1 to 64; default 64
+	Concurrency int              // operations that may be open at once, 1 to 64; default: 64
 	Budget      int              // outcomes of a key that are followed; default: the program's
-	ByEnds      bool             // registers and sets are judged by all their outcomes, as `jepmon check --model register` does
+	ByEnds      bool             // keys are judged by all their outcomes: no model is judged as its wide kind
 	Wait        bool             // each event waits for its reply: no request is sent after a bad event
 	Initial     *int64           // what each register holds at first; default: it is missing
 	Failed      func(error) bool // whether an error means that the operation did not take place; default: ErrFailed and refused connections
@@ -124,8 +133,8 @@ type Monitor struct {
 	free      []int      // threads without an operation
 	processes []int      // the process of each thread
 	begun     map[int]bool
-	kept      [][]byte // the lines since the last reset
-	skip      int      // of these lines, those before the first event
+	sent      map[message]bool // of a wide fifo queue: enqueued, and has not failed
+	kept      [][]byte         // the lines since the last reset
 	counts    map[count]int
 	open      map[*Operation]bool
 	last      string // the last reply
@@ -139,9 +148,13 @@ type Monitor struct {
 
 // Start starts the program. A *Verdict says why it can't be used. No operation begins once ctx is done.
 func Start(ctx context.Context, options Options) (*Monitor, error) {
-	m := newMonitor(withDefaults(options))
-	var err error
-	if m.program, err = startProgram(m.options); err != nil {
+	options = withDefaults(options)
+	program, err := chooseProgram(options)
+	if err != nil {
+		return nil, err
+	}
+	m := newMonitor(options, program)
+	if err = program.start(m.options); err != nil {
 		return nil, err
 	}
 	m.context, m.cancel = context.WithCancel(ctx)
@@ -150,7 +163,6 @@ func Start(ctx context.Context, options Options) (*Monitor, error) {
 	go m.watch()
 	m.mutex.Lock()
 	m.append("[:verdict]\n") // it answers legal, or it is no jepmon
-	m.skip = 1
 	for m.replies == 0 && m.bad == nil {
 		m.changed.Wait()
 	}
@@ -163,9 +175,16 @@ func Start(ctx context.Context, options Options) (*Monitor, error) {
 	return m, nil
 }
 
-// newMonitor gives a monitor without a program.
-func newMonitor(options Options) *Monitor {
-	m := &Monitor{options: options, begun: map[int]bool{}, counts: map[count]int{}, open: map[*Operation]bool{}, ended: make(chan struct{})}
+// newMonitor gives a monitor whose program has not started.
+func newMonitor(options Options, program *program) *Monitor {
+	if options.Concurrency == 0 {
+		options.Concurrency = 64
+		if program.about.clients < 64 {
+			options.Concurrency = program.about.clients
+		}
+	}
+	m := &Monitor{options: options, program: program, begun: map[int]bool{}, sent: map[message]bool{}, counts: map[count]int{},
+		open: map[*Operation]bool{}, ended: make(chan struct{})}
 	m.changed, m.filled = sync.NewCond(&m.mutex), sync.NewCond(&m.mutex)
 	for thread := 0; thread < options.Concurrency; thread++ {
 		m.free = append(m.free, options.Concurrency-1-thread)
@@ -175,9 +194,6 @@ func newMonitor(options Options) *Monitor {
 }
 
 func withDefaults(o Options) Options {
-	if o.Concurrency == 0 {
-		o.Concurrency = 64
-	}
 	if o.Model = modelOf(o.Model); o.Model == "" {
 		o.Model = Register
 	}
@@ -207,9 +223,9 @@ func (m *Monitor) fail(verdict *Verdict) {
 	m.filled.Broadcast()
 }
 
-// history gives all lines since the last reset, in pieces. The caller has the lock.
+// history gives all events since the last reset, in pieces. The caller has the lock.
 func (m *Monitor) history() [][]byte {
-	return events(append(m.kept[:len(m.kept):len(m.kept)], m.buffer), m.skip)
+	return events(append(m.kept[:len(m.kept):len(m.kept)], m.buffer)...)
 }
 
 // append adds text of one line. The caller has the lock.
@@ -308,7 +324,8 @@ func (m *Monitor) Reset() error {
 		return m.bad
 	}
 	m.describe()
-	m.kept, m.skip, m.begun = nil, 0, map[int]bool{}
+	m.kept, m.begun = nil, map[int]bool{}
+	m.forgetMessages()
 	for thread := range m.processes {
 		m.processes[thread] = thread
 	}

@@ -65,7 +65,7 @@ func (m *Monitor) begin(name string, key int, part []byte) *Operation {
 		o.err = m.argumentError(name, key)
 	}
 	if o.err == nil && len(m.free) == 0 {
-		o.err = fmt.Errorf("jepmon: more than %d operations are open at once: raise Concurrency, 64 at most", m.options.Concurrency)
+		o.err = fmt.Errorf("jepmon: more than %d operations are open at once: raise Concurrency, %d at most", m.options.Concurrency, m.program.about.clients)
 	}
 	if o.err != nil {
 		return o
@@ -77,6 +77,7 @@ func (m *Monitor) begin(name string, key int, part []byte) *Operation {
 	o.thread = m.free[len(m.free)-1]
 	m.free = m.free[:len(m.free)-1]
 	m.open[o] = true
+	m.begins(name, key, part)
 	m.event("invoke", m.processes[o.thread], name, key, part)
 	o.err = m.settled()
 	return o
@@ -96,12 +97,8 @@ func (m *Monitor) argumentError(name string, key int) error {
 	if known := operations[m.options.Model]; !strings.Contains(" "+known+" ", " "+name+" ") {
 		return fmt.Errorf("jepmon: a %s has no operation %s: it has %s", m.options.Model, name, known)
 	}
-	return keyError(key)
-}
-
-func keyError(key int) error {
-	if key < 0 || key > 65535 {
-		return fmt.Errorf("jepmon: key %d is none: keys are 0 to 65535", key)
+	if most := m.program.about.keys - 1; key < 0 || key > most {
+		return fmt.Errorf("jepmon: key %d is none: keys are 0 to %d", key, most)
 	}
 	return nil
 }
@@ -158,6 +155,9 @@ func (o *Operation) end(outcome string, part []byte) error {
 	delete(m.open, o)
 	m.event(outcome, m.processes[o.thread], o.name, o.key, part)
 	m.counts[count{o.name, outcome}]++
+	if outcome == "fail" {
+		m.fails(o.name, o.key, o.part)
+	}
 	if outcome == "info" {
 		m.processes[o.thread] += m.options.Concurrency
 	}

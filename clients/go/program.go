@@ -3,14 +3,12 @@ package jepmon
 import (
 	"bufio"
 	"bytes"
-	"context"
 	"errors"
 	"fmt"
 	"io"
 	"os"
 	"os/exec"
 	"path/filepath"
-	"regexp"
 	"runtime"
 	"strconv"
 	"strings"
@@ -19,15 +17,12 @@ import (
 	"time"
 )
 
-// The oldest program that this package works with, and the first one that has wide kinds.
-const needsMajor, needsMinor, wideMinor = 1, 4, 5
-
-const patience = 10 * time.Second // for what takes milliseconds
-
-// program is a running `jepmon script`.
+// program is a running `jepmon script`, or one that has not started.
 type program struct {
 	path    string
-	kind    Model // by which it judges all keys
+	about   about
+	kind    Model        // by which it judges all keys but these:
+	byEnds  map[int]bool // fifo queues of equal values, which it judges by their ends
 	command *exec.Cmd
 	input   io.WriteCloser
 	output  *bufio.Reader
@@ -41,42 +36,39 @@ func refused(reply string) *Verdict {
 	return &Verdict{Status: "refused", Key: -1, Index: -1, Reply: reply}
 }
 
-func startProgram(o Options) (*program, error) {
-	path, kind, err := chooseProgram(o)
-	if err != nil {
-		return nil, err
-	}
-	p := &program{path: path, kind: kind, command: exec.Command(path, append([]string{"script", "--strict"}, o.words(kind)...)...)}
+func (p *program) start(o Options) (err error) {
+	p.command = exec.Command(p.path, append([]string{"script", "--strict"}, o.words(p.kind)...)...)
 	p.command.SysProcAttr = &syscall.SysProcAttr{Setpgid: true} // Ctrl-C in a terminal is for the test
 	p.command.Stderr = &p.errors
 	if p.input, err = p.command.StdinPipe(); err != nil {
-		return nil, err
+		return err
 	}
 	output, err := p.command.StdoutPipe()
 	if err != nil {
-		return nil, err
+		return err
 	}
 	p.output = bufio.NewReaderSize(output, 1<<16)
 	if err = p.command.Start(); err != nil {
-		return nil, refused(err.Error())
+		return refused(err.Error())
 	}
-	return p, nil
+	return nil
 }
 
 // chooseProgram finds the program, and the kind by which it judges. A *Verdict says why it can't be used.
-func chooseProgram(o Options) (string, Model, error) {
+func chooseProgram(o Options) (*program, error) {
 	path, err := findProgram(o.Program)
 	if err != nil {
-		return "", "", refused(err.Error())
+		return nil, refused(err.Error())
 	}
-	minor, err := version(path)
+	about, err := ask(path, o.Timeout)
 	if err != nil {
-		return "", "", refused(err.Error())
+		return nil, refused(err.Error())
 	}
-	if kind := wide[o.Model]; kind != "" && !o.ByEnds && minor >= wideMinor {
-		return path, kind, nil
+	kind := o.Model
+	if wide := wide[o.Model]; wide != "" && !o.ByEnds && about.has(wide) {
+		kind = wide
 	}
-	return path, o.Model, nil
+	return &program{path: path, about: about, kind: kind, byEnds: map[int]bool{}}, nil
 }
 
 // words are those options that `jepmon script` and `jepmon check` have.
@@ -132,28 +124,6 @@ func isProgram(path string) bool {
 	first := make([]byte, 4)
 	_, err = io.ReadFull(file, first)
 	return err == nil && string(first) == "\x7fELF"
-}
-
-var versionLine = regexp.MustCompile(`^jepmon (\d+)\.(\d+)\.\d+\n`)
-
-// version gives the minor version of the program, or says what is wrong with it.
-func version(path string) (int, error) {
-	ctx, cancel := context.WithTimeout(context.Background(), patience)
-	defer cancel()
-	said, err := exec.CommandContext(ctx, path, "--version").Output()
-	if err != nil {
-		return 0, fmt.Errorf("%s can't be used: %v", path, err)
-	}
-	found := versionLine.FindSubmatch(said)
-	if found == nil {
-		return 0, fmt.Errorf("%s is no jepmon: its --version prints %.80q", path, said)
-	}
-	major, _ := strconv.Atoi(string(found[1]))
-	minor, _ := strconv.Atoi(string(found[2]))
-	if major != needsMajor || minor < needsMinor {
-		return 0, fmt.Errorf("%s is %s: this package needs jepmon %d.%d or a later %d", path, bytes.SplitN(said, []byte("\n"), 2)[0], needsMajor, needsMinor, needsMajor)
-	}
-	return minor, nil
 }
 
 // legalReplies takes the replies `legal` that have come already, and says how many they are.

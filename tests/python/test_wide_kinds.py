@@ -24,6 +24,7 @@ from .monitored import Monitored
 
 STALE = str(TOP / "examples" / "stale-read.edn")
 HELP = "echo '--model <NAME> The object that every key is: register, cas-register, mutex, fifo-queue, set, unordered-queue{}'"
+HELLO = "echo '{{:jepmon \"1.6.0\" :kinds [{}] :max-clients 64}}'"
 
 
 class Names(unittest.TestCase):
@@ -67,7 +68,20 @@ class Programs(unittest.TestCase):
             for _ in range(3):
                 for model in models:
                     self.assertEqual(Options(model=model).words(made)[3], f"wide-{model}" if model in has else model)
-            self.assertEqual((self.room / f"{name}.asked").read_text(), "check --help\n")
+            self.assertEqual((self.room / f"{name}.asked").read_text(), "script\ncheck --help\n")
+
+    def test_hello_is_enough(self) -> None:
+        for name, has in (("two", ("register", "wide-set")), ("none", ("register",)), ("all", tuple(finding.WIDE.values()))):
+            made = self.program(name, HELLO.format(" ".join(f":{kind}" for kind in has)))
+            self.assertEqual(program.wide_kinds(made), {kind for kind in has if kind.startswith("wide-")})
+            self.assertEqual((self.room / f"{name}.asked").read_text(), "script\n")
+
+    def test_what_is_no_hello(self) -> None:
+        for name, said in (("refuses", "refused 5 BadValue"), ("legal", "legal"), ("map", "'{:kinds [:wide-register]}'")):
+            made = self.program(name, f"[ $1 = script ] && exec echo {said}\n" + HELP.format(", wide-set"))
+            self.assertEqual(program.wide_kinds(made), {"wide-set"})
+        with mock.patch.object(finding, "PROMPT", 0.2):
+            self.assertEqual(program.wide_kinds(self.program("silent", "exec sleep 20")), frozenset())
 
     def test_it_is_not_asked_where_that_says_nothing(self) -> None:
         new = self.program("new", HELP.format(", wide-register, wide-set"))

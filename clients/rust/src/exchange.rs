@@ -102,7 +102,7 @@ fn replied(shared: &Shared, reply: &str, count: u64) -> Option<String> {
         return None;
     }
     verdict.tail = history::tail(state.history(), &verdict);
-    verdict.hint = history::hint(&verdict, &shared.options, &shared.program);
+    verdict.hint = history::hint(&verdict, &shared.options, &shared.program, &state.messages.by_ends);
     if goes_on {
         state.unknown = Some(verdict);
     } else {

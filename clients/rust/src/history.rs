@@ -1,6 +1,8 @@
 //! The lines of a history, for what is said of a verdict.
+use crate::messages::EQUAL;
 use crate::program::{is_executable, on_path, Chosen};
 use crate::{Options, Status, Verdict};
+use std::collections::BTreeSet;
 use std::io::Write;
 use std::path::{Path, PathBuf};
 use std::process::{Command, Stdio};
@@ -19,11 +21,12 @@ pub(crate) fn tail<'a>(pieces: impl Iterator<Item = &'a str>, verdict: &Verdict)
 }
 
 /// What helps if a key is over its budget.
-pub(crate) fn hint(verdict: &Verdict, options: &Options, program: &Chosen) -> Option<String> {
+pub(crate) fn hint(verdict: &Verdict, options: &Options, program: &Chosen, by_ends: &BTreeSet<u32>) -> Option<String> {
     if verdict.status != Status::Unknown {
         return None;
     }
     let way = match options.model.wide().filter(|kind| *kind != program.kind) {
+        _ if by_ends.contains(&verdict.key) => EQUAL.to_string(),
         None => String::new(),
         Some(kind) if options.by_ends => format!(". Without by_ends the kind {kind} may decide it"),
         Some(kind) => format!(". {} does not have the kind {kind}: a newer jepmon may decide it", program.path.display()),
@@ -36,7 +39,13 @@ pub(crate) fn hint(verdict: &Verdict, options: &Options, program: &Chosen) -> Op
 
 /// Writes the history to a file. It asks the program for the other keys over their budget, and jepmon-judge for the cause in words, if
 /// it is there.
-pub(crate) fn report<'a>(verdict: &mut Verdict, options: &Options, program: &Chosen, pieces: impl Iterator<Item = &'a str>) {
+pub(crate) fn report<'a>(
+    verdict: &mut Verdict,
+    options: &Options,
+    program: &Chosen,
+    by_ends: &BTreeSet<u32>,
+    pieces: impl Iterator<Item = &'a str>,
+) {
     let folder = options.out.clone().or_else(|| std::env::var_os("JEPMON_OUT").map(PathBuf::from)).unwrap_or_else(std::env::temp_dir);
     let name = format!("jepmon-{}-{}.edn", std::process::id(), FILES.fetch_add(1, Ordering::Relaxed));
     let path = folder.join(name);
@@ -53,15 +62,18 @@ pub(crate) fn report<'a>(verdict: &mut Verdict, options: &Options, program: &Cho
         verdict.cause = cause(&path, options, &program.path);
     }
     if verdict.status == Status::Unknown && options.go_on {
-        verdict.also = over(&program.check(&path), verdict.key);
+        verdict.also = over(&program.check(&path, program.kind), |key| key != verdict.key && !by_ends.contains(&key));
+        if !by_ends.is_empty() {
+            verdict.also.extend(over(&program.check(&path, options.model.name()), |key| key != verdict.key && by_ends.contains(&key)));
+        }
     }
     verdict.history = Some(path);
 }
 
-/// The keys over their budget other than this one, by the report of `jepmon check`. `script` names the first one alone.
-fn over(report: &str, key: u32) -> Vec<String> {
+/// Those of these keys that are over their budget, by the report of `jepmon check`. `script` names the first one alone.
+fn over(report: &str, is_meant: impl Fn(u32) -> bool) -> Vec<String> {
     let words = report.lines().map(|line| line.split(' ').collect::<Vec<_>>());
-    let over = words.filter(|words| words.len() == 11 && words[9] == "over" && words[1] != key.to_string());
+    let over = words.filter(|words| words.len() == 11 && words[9] == "over" && words[1].parse().map_or(false, &is_meant));
     over.map(|words| format!("unknown key {} index {}", words[1], words[10])).collect()
 }
 

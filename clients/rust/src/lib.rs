@@ -21,7 +21,9 @@
 #![warn(missing_docs)]
 
 mod exchange;
+mod hello;
 mod history;
+mod messages;
 mod monitor;
 mod operation;
 mod program;
@@ -66,8 +68,11 @@ impl Model {
     pub(crate) fn wide(self) -> Option<&'static str> {
         match self {
             Model::Register => Some("wide-register"),
+            Model::CasRegister => Some("wide-cas-register"),
+            Model::FifoQueue => Some(messages::DIFFERING),
+            Model::UnorderedQueue => Some("wide-unordered-queue"),
             Model::Set => Some("wide-set"),
-            _ => None,
+            Model::Mutex => None,
         }
     }
 
@@ -104,11 +109,11 @@ pub struct Options {
     pub program: Option<PathBuf>,
     /// The kind of all keys.
     pub model: Model,
-    /// How many operations may be open at once, 1 to 64.
+    /// How many operations may be open at once, 1 to 64; 0 is 64.
     pub concurrency: usize,
     /// How many outcomes of a key are followed before it is unknown.
     pub budget: Option<u32>,
-    /// Registers and sets are judged by all their outcomes, as `jepmon check --model register` does.
+    /// Keys are judged by all their outcomes: no model is judged as its wide kind.
     pub by_ends: bool,
     /// Each event waits for its reply: no request is sent after a bad event.
     pub wait: bool,
@@ -127,7 +132,7 @@ impl Default for Options {
         Options {
             program: None,
             model: Model::Register,
-            concurrency: 64,
+            concurrency: 0,
             budget: None,
             by_ends: false,
             wait: false,

@@ -1,4 +1,5 @@
 use crate::exchange::{self, Line};
+use crate::messages::{Messages, DIFFERING};
 use crate::program::{kill_group, Chosen, Program};
 use crate::{history, Error, Operation, Options, Verdict, ABSENT};
 use std::collections::{BTreeMap, HashSet};
@@ -27,6 +28,7 @@ pub(crate) struct State {
     free: Vec<usize>,      // threads without an operation
     processes: Vec<u64>,   // of each thread
     begun: HashSet<u32>,
+    pub messages: Messages,
     counts: BTreeMap<(&'static str, &'static str), u64>,
     open: BTreeMap<&'static str, u64>,
     pub bad: Option<Verdict>,
@@ -69,6 +71,11 @@ impl Shared {
         state.lines += 1;
     }
 
+    /// Has a key judged as this kind.
+    fn command(&self, state: &mut State, key: u32, kind: &str) {
+        self.append(state, Line::Command(&format!("[:model {key} :{kind}]")));
+    }
+
     /// Waits for the replies to all lines so far, if events wait.
     fn settle(&self, mut state: Guard<'_>) -> Result<(), Error> {
         let lines = state.lines;
@@ -82,7 +89,7 @@ impl Shared {
     fn report_unknown(&self, state: &mut State) {
         if let Some(mut verdict) = state.unknown.take() {
             if verdict.history.is_none() {
-                history::report(&mut verdict, &self.options, &self.program, state.history());
+                history::report(&mut verdict, &self.options, &self.program, &state.messages.by_ends, state.history());
             }
             state.unknown = Some(verdict);
         }
@@ -99,8 +106,10 @@ impl Shared {
 }
 
 impl State {
+    /// The events since the last reset, each a line with its line feed.
     pub fn history(&self) -> impl Iterator<Item = &str> {
-        self.kept.iter().map(String::as_str).chain(std::iter::once(self.buffer.as_str()))
+        let pieces = self.kept.iter().map(String::as_str).chain(std::iter::once(self.buffer.as_str()));
+        pieces.flat_map(|piece| piece.split_inclusive('\n')).filter(|line| !line.starts_with("[:"))
     }
 
     fn test(&self) -> Result<(), Error> {
@@ -121,8 +130,8 @@ pub struct Monitor {
 
 impl Monitor {
     /// Starts the program. The verdict says why it can't be used.
-    pub fn start(options: Options) -> Result<Monitor, Error> {
-        let (program, input, output) = Program::start(&options)?;
+    pub fn start(mut options: Options) -> Result<Monitor, Error> {
+        let (program, input, output) = Program::start(&mut options)?;
         let state = State {
             buffer: String::new(),
             kept: vec![],
@@ -132,6 +141,7 @@ impl Monitor {
             free: (0..options.concurrency).rev().collect(),
             processes: (0..options.concurrency as u64).collect(),
             begun: HashSet::new(),
+            messages: Messages::default(),
             counts: BTreeMap::new(),
             open: BTreeMap::new(),
             bad: None,
@@ -187,8 +197,9 @@ impl Monitor {
         if !model.operations().contains(&name) {
             return Err(Error::Mistake(format!("a {} has no operation {name}: it has {:?}", model.name(), model.operations())));
         }
-        if key > 65535 {
-            return Err(Error::Mistake(format!("key {key} is none: keys are 0 to 65535")));
+        let most = self.shared.program.hello.keys - 1;
+        if key > most {
+            return Err(Error::Mistake(format!("key {key} is none: keys are 0 to {most}")));
         }
         Ok(())
     }
@@ -204,7 +215,8 @@ impl Monitor {
         }
         if state.free.is_empty() {
             let most = shared.options.concurrency;
-            return Err(Error::Mistake(format!("more than {most} operations are open at once: raise concurrency, 64 at most")));
+            let limit = shared.program.hello.clients;
+            return Err(Error::Mistake(format!("more than {most} operations are open at once: raise concurrency, {limit} at most")));
         }
         if shared.options.model.is_register() && !state.begun.contains(&key) {
             shared.begin_key(&mut state, key, shared.options.initial.unwrap_or(ABSENT));
@@ -212,6 +224,9 @@ impl Monitor {
         let thread = state.free.pop().expect("a free thread");
         *state.open.entry(name).or_insert(0) += 1;
         let process = state.processes[thread];
+        if shared.program.kind == DIFFERING && state.messages.begins(name, key, &part) {
+            shared.command(&mut state, key, shared.options.model.name());
+        }
         shared.append(&mut state, Line::Event { kind: "invoke", process, name, key, part: &part });
         let operation = Operation::new(self, thread, name, key, part);
         match shared.settle(state) {
@@ -231,6 +246,9 @@ impl Monitor {
         let process = state.processes[thread];
         shared.append(&mut state, Line::Event { kind: outcome, process, name, key, part });
         *state.counts.entry((name, outcome)).or_insert(0) += 1;
+        if outcome == "fail" {
+            state.messages.fails(name, key, part);
+        }
         if outcome == "info" {
             state.processes[thread] += shared.options.concurrency as u64;
         }
@@ -324,6 +342,9 @@ impl Monitor {
         self.shared.report_unknown(&mut state);
         state.kept.clear();
         state.begun.clear();
+        for key in std::mem::take(&mut state.messages).by_ends {
+            self.shared.command(&mut state, key, self.shared.program.kind);
+        }
         state.processes = (0..self.shared.options.concurrency as u64).collect();
         Ok(())
     }
@@ -342,7 +363,7 @@ impl Monitor {
         }
         let mut state = self.shared.lock();
         if let Some(mut verdict) = state.bad.clone() {
-            history::report(&mut verdict, &self.shared.options, &self.shared.program, state.history());
+            history::report(&mut verdict, &self.shared.options, &self.shared.program, &state.messages.by_ends, state.history());
             return Err(verdict.into());
         }
         self.shared.report_unknown(&mut state);

@@ -1,4 +1,5 @@
-//! The program: where it is, its version, and how it ends.
+//! The program: where it is, and how it ends.
+use crate::hello::Hello;
 use crate::{Options, Verdict};
 use std::io::Read;
 use std::os::unix::fs::PermissionsExt;
@@ -7,10 +8,6 @@ use std::path::{Path, PathBuf};
 use std::process::{Child, ChildStdin, ChildStdout, Command, ExitStatus, Stdio};
 use std::thread::JoinHandle;
 use std::time::Duration;
-
-const MAJOR: u32 = 1; // of the oldest program that this crate works with
-const MINOR: u32 = 4;
-const WIDE_MINOR: u32 = 5; // of the first one that has wide kinds
 
 extern "C" {
     fn setsid() -> i32;
@@ -21,26 +18,31 @@ extern "C" {
 #[derive(Clone)]
 pub(crate) struct Chosen {
     pub path: PathBuf,
-    pub kind: &'static str, // by which it judges all keys
+    pub hello: Hello,
+    pub kind: &'static str, // by which it judges all keys but fifo queues of equal values
     words: Vec<String>,
 }
 
 impl Chosen {
-    fn new(options: &Options) -> Result<Chosen, Verdict> {
+    /// Finds the program, and completes the options by what it says of itself.
+    fn new(options: &mut Options) -> Result<Chosen, Verdict> {
         let path = find(options.program.as_deref())?;
-        let has_wide = minor_version(&path)? >= WIDE_MINOR;
-        let kind = options.model.wide().filter(|_| has_wide && !options.by_ends).unwrap_or(options.model.name());
-        let mut words = vec!["--concurrency".into(), options.concurrency.to_string(), "--model".into(), kind.into()];
+        let hello = Hello::of(&path, options.timeout)?;
+        if options.concurrency == 0 {
+            options.concurrency = hello.clients.min(64);
+        }
+        let kind = options.model.wide().filter(|kind| hello.has(kind) && !options.by_ends).unwrap_or(options.model.name());
+        let mut words = vec!["--concurrency".into(), options.concurrency.to_string()];
         if let Some(budget) = options.budget {
             words.extend(["--budget".into(), budget.to_string()]);
         }
-        Ok(Chosen { path, kind, words })
+        Ok(Chosen { path, hello, kind, words })
     }
 
-    /// What `jepmon check` says of a history.
-    pub fn check(&self, history: &Path) -> String {
+    /// What `jepmon check` says of a history, by the kind of this name.
+    pub fn check(&self, history: &Path, kind: &str) -> String {
         let mut command = Command::new(&self.path);
-        command.arg("check").arg(history).args(&self.words).stdin(Stdio::null()).stderr(Stdio::null());
+        command.arg("check").arg(history).args(&self.words).args(["--model", kind]).stdin(Stdio::null()).stderr(Stdio::null());
         command.output().map_or(String::new(), |told| String::from_utf8_lossy(&told.stdout).into_owned())
     }
 }
@@ -60,10 +62,10 @@ pub(crate) struct End {
 }
 
 impl Program {
-    pub fn start(options: &Options) -> Result<(Program, ChildStdin, ChildStdout), Verdict> {
+    pub fn start(options: &mut Options) -> Result<(Program, ChildStdin, ChildStdout), Verdict> {
         let chosen = Chosen::new(options)?;
         let mut command = Command::new(&chosen.path);
-        command.args(["script", "--strict"]).args(&chosen.words);
+        command.args(["script", "--strict"]).args(&chosen.words).args(["--model", chosen.kind]);
         command.stdin(Stdio::piped()).stdout(Stdio::piped()).stderr(Stdio::piped());
         // SAFETY: setsid is async-signal-safe. Ctrl-C in a terminal is for the test.
         unsafe {
@@ -147,21 +149,4 @@ pub(crate) fn is_executable(path: &Path) -> bool {
 fn is_machine_code(path: &Path) -> bool {
     let mut first = [0; 4];
     is_executable(path) && std::fs::File::open(path).and_then(|mut file| file.read_exact(&mut first)).is_ok() && &first == b"\x7fELF"
-}
-
-fn minor_version(path: &Path) -> Result<u32, Verdict> {
-    let told = Command::new(path)
-        .arg("--version")
-        .stdin(Stdio::null())
-        .stderr(Stdio::null())
-        .output()
-        .map_err(|e| Verdict::refused(&format!("{} can't be used: {e}", path.display())))?;
-    let text = String::from_utf8_lossy(&told.stdout);
-    let line = text.lines().next().unwrap_or("");
-    let numbers: Vec<u32> = line.strip_prefix("jepmon ").unwrap_or("").split('.').filter_map(|word| word.parse().ok()).collect();
-    match numbers[..] {
-        [MAJOR, minor, _] if minor >= MINOR => Ok(minor),
-        [_, _, _] => Err(Verdict::refused(&format!("{} is {line}: this crate needs jepmon {MAJOR}.{MINOR} or a later {MAJOR}", path.display()))),
-        _ => Err(Verdict::refused(&format!("{} is no jepmon: its --version prints {line:?}", path.display()))),
-    }
 }

@@ -7,13 +7,14 @@ import pathlib
 import re
 import subprocess
 import sys
-from typing import FrozenSet, Iterator, Optional
+from typing import FrozenSet, Iterator, List, Optional
 
 from ..history.kinds import WIDE
 from ..tools.errors import ProgramError
 
 CURE = "`./jepmon install DIR`, put DIR on the PATH, or set JEPMON"
-PROMPT = 5.0  # seconds in which the program prints its help
+PROMPT = 5.0  # seconds in which the program answers [:hello], or prints its help
+HELLO = re.compile(r'\{:jepmon "[^"]*" .*\}\n')
 KIND = re.compile("wide-[a-z]+(?:-[a-z]+)*")
 
 
@@ -57,9 +58,15 @@ def wide_kinds(program: Optional[str] = None) -> FrozenSet[str]:
 
 @functools.lru_cache(maxsize=None)
 def _wide_kinds(name: str) -> FrozenSet[str]:
+    said = _said([name, "script"], b"[:hello]\n")
+    if said is not None and not HELLO.fullmatch(said):
+        said = _said([name, "check", "--help"])  # a program before 1.6 refuses [:hello], and its help names the kinds
+    return frozenset(WIDE.values()).intersection(KIND.findall(said or ""))
+
+
+def _said(words: List[str], raw: bytes = b"") -> Optional[str]:
+    """What the program prints, if it can be run and ends."""
     try:
-        ran = subprocess.run([name, "check", "--help"], stdin=subprocess.DEVNULL, stdout=subprocess.PIPE, stderr=subprocess.DEVNULL,
-                             timeout=PROMPT)
+        return subprocess.run(words, input=raw, stdout=subprocess.PIPE, stderr=subprocess.DEVNULL, timeout=PROMPT).stdout.decode("utf-8", "replace")
     except (OSError, subprocess.TimeoutExpired):
-        return frozenset()  # whoever asks it for a verdict will say so
-    return frozenset(WIDE.values()).intersection(KIND.findall(ran.stdout.decode("utf-8", "replace")))
+        return None  # whoever asks it for a verdict will say so

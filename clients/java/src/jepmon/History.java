@@ -45,6 +45,7 @@ final class History {
         String text = "key " + verdict.key + " has more outcomes than its budget: raise budget, let fewer clients use one key, or write to a new key"
             + " after timeouts";
         String kind = options.model.wide;
+        if (program.byEnds.contains(verdict.key)) return text + Messages.EQUAL;
         if (kind == null || kind.equals(program.kind)) return text;
         if (options.byEnds) return text + ". Without byEnds the kind " + kind + " may decide it";
         return text + ". " + program.path + " does not have the kind " + kind + ": a newer jepmon may decide it";
@@ -62,7 +63,10 @@ final class History {
                 for (Lines piece : pieces) out.write(piece.bytes, 0, piece.length);
             }
             if (verdict.status.equals("illegal")) lines.addAll(cause(file, options, program.path));
-            if (verdict.status.equals("unknown") && options.goesOn) lines.addAll(over(verdict, program.check(file, options)));
+            if (verdict.status.equals("unknown") && options.goesOn) lines.addAll(over(verdict, program, file, program.kind));
+            if (verdict.status.equals("unknown") && options.goesOn && !program.byEnds.isEmpty()) {
+                lines.addAll(over(verdict, program, file, options.model.word));
+            }
             lines.add("history: " + file.toAbsolutePath());
         } catch (IOException e) {
             lines.add("the history can't be written: " + e);
@@ -70,11 +74,14 @@ final class History {
         return lines;
     }
 
-    /** The keys over their budget other than the verdict's. {@code script} names the first one alone. */
-    private static List<String> over(Verdict verdict, String report) {
+    /** The keys over their budget other than the verdict's, of those that are judged by this kind. {@code script} names the first one alone. */
+    private static List<String> over(Verdict verdict, Program program, Path history, String kind) throws IOException {
         List<String> lines = new ArrayList<>();
-        for (Matcher found = OVER.matcher(report); found.find(); ) {
-            if (Integer.parseInt(found.group(1)) != verdict.key) lines.add("also unknown key " + found.group(1) + " index " + found.group(2));
+        for (Matcher found = OVER.matcher(program.check(history, kind)); found.find(); ) {
+            int key = Integer.parseInt(found.group(1));
+            if (key != verdict.key && program.byEnds.contains(key) != kind.equals(program.kind)) {
+                lines.add("also unknown key " + key + " index " + found.group(2));
+            }
         }
         return lines;
     }

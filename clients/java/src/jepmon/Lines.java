@@ -30,6 +30,14 @@ final class Lines {
         return this;
     }
 
+    /** The lines without commands, each of which begins with {@code [:}. */
+    Lines events() {
+        if (!toString().contains("[:")) return this;
+        Lines events = new Lines();
+        for (String line : toString().split("(?<=\n)")) if (!line.startsWith("[:")) events.text(line);
+        return events;
+    }
+
     private void room(int more) {
         if (length + more > bytes.length) bytes = Arrays.copyOf(bytes, 2 * (length + more));
     }

@@ -5,10 +5,10 @@ import java.util.Set;
 /** The kind of object that each key is, and its operations. */
 public enum Model {
     REGISTER("register", "wide-register", "read", "write"),
-    CAS_REGISTER("cas-register", null, "read", "write", "cas"),
+    CAS_REGISTER("cas-register", "wide-cas-register", "read", "write", "cas"),
     MUTEX("mutex", null, "acquire", "release"),
-    FIFO_QUEUE("fifo-queue", null, "enqueue", "dequeue"),
-    UNORDERED_QUEUE("unordered-queue", null, "enqueue", "dequeue"),
+    FIFO_QUEUE("fifo-queue", "wide-fifo-queue", "enqueue", "dequeue"),
+    UNORDERED_QUEUE("unordered-queue", "wide-unordered-queue", "enqueue", "dequeue"),
     SET("set", "wide-set", "add", "read");
 
     final String word;

@@ -35,6 +35,7 @@ public final class Monitor implements AutoCloseable {
 
     private final Options options;
     private final Program program;
+    private final Messages messages;
     private final ReentrantLock lock = new ReentrantLock();
     private final Condition changed = lock.newCondition(); // replies came, there is room, or it is over
     private final Condition filled = lock.newCondition(); // there is something to write, or it is over
@@ -50,9 +51,10 @@ public final class Monitor implements AutoCloseable {
     private Verdict bad, unknown;
     private boolean isClosed, hasEnded, isResetting;
 
-    private Monitor(Options options) {
-        this.options = options;
-        program = new Program(options);
+    private Monitor(Options given) {
+        program = new Program(given);
+        options = program.options;
+        messages = new Messages(program);
         processes = new long[options.concurrency];
         for (int thread = 0; thread < options.concurrency; thread++) {
             processes[thread] = thread;
@@ -196,8 +198,9 @@ public final class Monitor implements AutoCloseable {
     }
 
     private List<Lines> history() {
-        List<Lines> all = new ArrayList<>(kept);
-        all.add(buffer);
+        List<Lines> all = new ArrayList<>();
+        for (Lines piece : kept) all.add(piece.events());
+        all.add(buffer.events());
         return all;
     }
 
@@ -229,7 +232,8 @@ public final class Monitor implements AutoCloseable {
         if (!options.model.operations.contains(name)) {
             throw new IllegalArgumentException("a " + options.model.word + " has no operation " + name + ": it has " + options.model.operations);
         }
-        if (key < 0 || key > 65535) throw new IllegalArgumentException("key " + key + " is none: keys are 0 to 65535");
+        int most = program.hello.keys() - 1;
+        if (key < 0 || key > most) throw new IllegalArgumentException("key " + key + " is none: keys are 0 to " + most);
     }
 
     private void beginKey(int key, long value) {
@@ -251,11 +255,13 @@ public final class Monitor implements AutoCloseable {
                 test();
             }
             if (free.isEmpty()) {
-                throw new IllegalStateException("more than " + options.concurrency + " operations are open at once: raise concurrency, 64 at most");
+                throw new IllegalStateException("more than " + options.concurrency + " operations are open at once: raise concurrency, "
+                    + program.hello.clients() + " at most");
             }
             if (options.model.isRegister() && !begun.contains(key)) beginKey(key, options.initial != null ? options.initial : ABSENT);
             Operation operation = new Operation(this, free.pop(), name, key, part);
             open.add(operation);
+            if (messages.begins(name, key, part)) command("[:model " + key + " :" + options.model.word + "]");
             event("invoke", processes[operation.thread], name, key, part);
             settle();
             return operation;
@@ -273,6 +279,7 @@ public final class Monitor implements AutoCloseable {
             open.remove(operation);
             event(outcome, processes[operation.thread], operation.name, operation.key, part);
             counts.merge(operation.name + " " + outcome, 1L, Long::sum);
+            if (outcome.equals("fail")) messages.fails(operation.name, operation.key, operation.part);
             if (outcome.equals("info")) processes[operation.thread] += options.concurrency;
             free.push(operation.thread);
             settle();
@@ -408,6 +415,8 @@ public final class Monitor implements AutoCloseable {
             if (unknown != null) unknown = reported(unknown);
             kept.clear();
             begun.clear();
+            for (int key : program.byEnds) command("[:model " + key + " :" + program.kind + "]");
+            messages.forget();
             for (int thread = 0; thread < processes.length; thread++) processes[thread] = thread;
         } finally {
             lock.unlock();

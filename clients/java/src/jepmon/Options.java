@@ -7,7 +7,7 @@ import java.time.Duration;
 public final class Options implements Cloneable {
     String program;
     Model model = Model.REGISTER;
-    int concurrency = 64;
+    int concurrency; // 0 is 64, or what the program allows, if that is less
     int budget;
     boolean byEnds;
     boolean waits;
@@ -53,7 +53,7 @@ public final class Options implements Cloneable {
         return with(o -> o.budget = outcomes);
     }
 
-    /** Registers and sets are judged by all their outcomes, as {@code jepmon check --model register} does. */
+    /** Keys are judged by all their outcomes: no model is judged as its wide kind. */
     public Options byEnds() {
         return with(o -> o.byEnds = true);
     }

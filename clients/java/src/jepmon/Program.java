@@ -8,27 +8,28 @@ import java.nio.charset.StandardCharsets;
 import java.nio.file.Files;
 import java.nio.file.Path;
 import java.util.ArrayList;
+import java.util.HashSet;
 import java.util.List;
+import java.util.Set;
 import java.util.concurrent.TimeUnit;
-import java.util.regex.Matcher;
-import java.util.regex.Pattern;
 
 /** The running {@code jepmon script}. */
 final class Program {
-    private static final int MAJOR = 1, MINOR = 4; // of the oldest program that this package works with
-    private static final int WIDE_MINOR = 5; // of the first one that has wide kinds
-    private static final int PATIENCE = 10; // seconds, for what takes milliseconds
-    private static final Pattern VERSION = Pattern.compile("jepmon (\\d+)\\.(\\d+)\\.\\d+\n[\\s\\S]*");
-
-    final String path, kind; // by which it judges all keys
+    final Options options;
+    final String path;
+    final Hello hello;
+    final String kind; // by which it judges all keys but these:
+    final Set<Integer> byEnds = new HashSet<>(); // fifo queues of equal values, which it judges by their ends
     final Process process;
     private final Path errors;
 
-    Program(Options options) {
-        path = find(options.program);
-        boolean hasWide = minorVersion(path) >= WIDE_MINOR;
-        kind = options.model.wide != null && !options.byEnds && hasWide ? options.model.wide : options.model.word;
-        List<String> words = words("script", "--strict", options);
+    Program(Options given) {
+        path = find(given.program);
+        hello = Hello.of(path, given.timeout);
+        options = given.concurrency == 0 ? given.concurrency(Math.min(64, hello.clients())) : given;
+        String wide = options.model.wide;
+        kind = wide != null && !options.byEnds && hello.kinds().contains(wide) ? wide : options.model.word;
+        List<String> words = words("script", "--strict", kind);
         try {
             errors = Files.createTempFile("jepmon", ".errors");
             process = new ProcessBuilder(words).redirectError(errors.toFile()).start();
@@ -38,15 +39,15 @@ final class Program {
     }
 
     /** A command with those options that {@code jepmon script} and {@code jepmon check} have. */
-    private List<String> words(String command, String first, Options options) {
+    private List<String> words(String command, String first, String kind) {
         List<String> words = new ArrayList<>(List.of(path, command, first, "--concurrency", "" + options.concurrency, "--model", kind));
         if (options.budget > 0) words.addAll(List.of("--budget", "" + options.budget));
         return words;
     }
 
-    /** What {@code jepmon check} says of a history. */
-    String check(Path history, Options options) throws IOException {
-        Process asked = new ProcessBuilder(words("check", history.toString(), options)).redirectError(ProcessBuilder.Redirect.DISCARD).start();
+    /** What {@code jepmon check} says of a history, by the kind of this name. */
+    String check(Path history, String kind) throws IOException {
+        Process asked = new ProcessBuilder(words("check", history.toString(), kind)).redirectError(ProcessBuilder.Redirect.DISCARD).start();
         asked.getOutputStream().close();
         return new String(asked.getInputStream().readAllBytes(), StandardCharsets.UTF_8);
     }
@@ -93,28 +94,6 @@ final class Program {
         } catch (IOException e) {
             return false;
         }
-    }
-
-    private static int minorVersion(String path) {
-        String said;
-        try {
-            Process asked = new ProcessBuilder(path, "--version").redirectError(ProcessBuilder.Redirect.DISCARD).start();
-            asked.getOutputStream().close();
-            if (!asked.waitFor(PATIENCE, TimeUnit.SECONDS)) asked.destroyForcibly();
-            said = new String(asked.getInputStream().readAllBytes(), StandardCharsets.UTF_8);
-        } catch (IOException e) {
-            throw Verdict.refused(path + " can't be used: " + e.getMessage());
-        } catch (InterruptedException e) {
-            Thread.currentThread().interrupt();
-            throw Verdict.refused("the start was interrupted");
-        }
-        Matcher found = VERSION.matcher(said);
-        if (!found.matches()) throw Verdict.refused(path + " is no jepmon: its --version prints " + said.lines().findFirst().orElse("nothing"));
-        if (Integer.parseInt(found.group(1)) != MAJOR || Integer.parseInt(found.group(2)) < MINOR) {
-            throw Verdict.refused(path + " is " + said.lines().findFirst().orElse("") + ": this package needs jepmon " + MAJOR + "." + MINOR
-                + " or a later " + MAJOR);
-        }
-        return Integer.parseInt(found.group(2));
     }
 
     void kill() {

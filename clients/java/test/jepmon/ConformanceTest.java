@@ -3,6 +3,7 @@ package jepmon;
 import static org.junit.jupiter.api.Assertions.assertTrue;
 
 import java.io.IOException;
+import java.nio.charset.StandardCharsets;
 import java.nio.file.Files;
 import java.nio.file.Path;
 import java.time.Duration;
@@ -26,7 +27,9 @@ class ConformanceTest {
 
     @Test void scenarios() throws Exception {
         List<String> failed = new ArrayList<>();
+        int minor = minorVersion();
         for (List<String[]> scenario : read()) {
+            if (scenario.stream().anyMatch(line -> line[0].equals("since") && Integer.parseInt(line[1]) > minor)) continue;
             for (boolean waits : new boolean[] {false, true}) {
                 if (waits && scenario.stream().anyMatch(line -> String.join(" ", line).equals("waiting no"))) continue;
                 String name = scenario.get(0)[1] + (waits ? "_waiting" : "");
@@ -42,6 +45,12 @@ class ConformanceTest {
         assertTrue(failed.isEmpty(), "failed: " + failed);
     }
 
+    /** The minor version of the program that is tested. */
+    private static int minorVersion() throws IOException {
+        Process asked = new ProcessBuilder(Program.find(null), "--version").start();
+        return Integer.parseInt(new String(asked.getInputStream().readAllBytes(), StandardCharsets.UTF_8).split("\\.")[1]);
+    }
+
     private static List<List<String[]>> read() throws IOException {
         List<List<String[]>> all = new ArrayList<>();
         for (String line : Files.readAllLines(TABLE.resolve("scenarios.txt"))) {
@@ -54,7 +63,8 @@ class ConformanceTest {
     }
 
     private void run(List<String[]> scenario, boolean waits) throws Exception {
-        options = Options.of(Model.REGISTER).out(out);
+        String model = scenario.stream().filter(line -> line[0].equals("model")).map(line -> line[1]).findFirst().orElse("register");
+        options = Options.of(Model.of(model)).out(out);
         if (waits) options = options.waiting();
         monitor = null;
         ended = null;
@@ -77,11 +87,7 @@ class ConformanceTest {
 
     private void step(String[] words) throws Exception {
         switch (words[0]) {
-            case "scenario", "waiting" -> { }
-            case "model" -> {
-                Options chosen = Options.of(Model.of(words[1])).out(out);
-                options = options.waits ? chosen.waiting() : chosen;
-            }
+            case "scenario", "waiting", "since", "model" -> { }
             case "concurrency" -> options = options.concurrency(Integer.parseInt(words[1]));
             case "budget" -> options = options.budget(Integer.parseInt(words[1]));
             case "initial" -> options = options.initial(Long.parseLong(words[1]));

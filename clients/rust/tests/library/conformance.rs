@@ -23,7 +23,8 @@ fn scenarios() {
         all.last_mut().unwrap().push(words);
     }
     let mut failed = vec![];
-    for scenario in &all {
+    let minor = minor_version();
+    for scenario in all.iter().filter(|scenario| since(scenario) <= minor) {
         for wait in [false, true] {
             if wait && scenario.contains(&vec!["waiting", "no"]) {
                 continue;
@@ -39,6 +40,18 @@ fn scenarios() {
         }
     }
     assert!(failed.is_empty(), "failed: {failed:?}");
+}
+
+/// The minor version of the program that is tested.
+fn minor_version() -> u32 {
+    let program = std::env::var_os("JEPMON").map_or_else(|| table().join("../../dist/jepmon"), PathBuf::from);
+    let told = std::process::Command::new(program).arg("--version").output().unwrap();
+    String::from_utf8_lossy(&told.stdout).split('.').nth(1).unwrap().parse().unwrap()
+}
+
+/// The minor version of the program that the scenario needs, or 0.
+fn since(scenario: &[Vec<&str>]) -> u32 {
+    scenario.iter().find(|words| words[0] == "since").map_or(0, |words| words[1].parse().unwrap())
 }
 
 /// What a scenario says before its first operation.

@@ -18,7 +18,7 @@ public @interface Judged {
     /** How many outcomes of a key are followed before it is unknown; 0 leaves it to the program. */
     int budget() default 0;
 
-    /** Whether registers and sets are judged by all their outcomes. */
+    /** Whether keys are judged by all their outcomes: no model is judged as its wide kind. */
     boolean byEnds() default false;
 
     /** Whether each event waits for its reply. */
