@@ -113,7 +113,7 @@ def until(what: Callable[[], object], cluster: Cluster) -> None:
 
 
 def asked(etcd: Etcd, node: Node, path: str, **body: Any) -> Any:
-    """By the first of the other nodes that answers."""
+    """Asks the first of the other nodes that answers."""
     fault: OSError = ConnectionError("there is no other node")
     for other in etcd.nodes:
         if other is not node and other.pid is not None:
