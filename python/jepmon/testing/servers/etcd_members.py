@@ -97,7 +97,7 @@ def numbers(found: List[Dict[str, Any]]) -> Dict[str, str]:
 
 
 def until(what: Callable[[], object], cluster: Cluster) -> None:
-    """Tries until the others answer: other strikes may hold them, which end before the run does. If the test is over, a little longer."""
+    """Tries until the other members answer: other strikes may hold them, and end before the run. At the end of a test it tries a little longer."""
     end, is_over = time.monotonic() + cluster.server.patience, False
     while True:
         try:
