@@ -28,7 +28,7 @@ NOTHING = "from-json: nothing was turned; standard error says why\n"
 
 
 class Words(command.Words):
-    """Its faults are refusals as any other."""
+    """Reports usage faults as refusals, like any other."""
 
     refusal = Refused
 

@@ -121,7 +121,7 @@ class OfAFolder(Folders):
             os.unlink(self.out / "latest" / name)
         status, out, _ = self.shown(str(self.out))
         self.assertEqual(status, 0)
-        self.assertIn("no verdict: the test was killed, or runs still", out)
+        self.assertIn("no verdict: the test was killed, or is still running", out)
         self.assertIn("write: operations a second", self.page())
 
     def test_what_a_test_says_of_itself(self) -> None:

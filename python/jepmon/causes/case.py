@@ -134,7 +134,7 @@ class Case(NamedTuple):
         return next(operation for operation in self.operations if event in (operation.invocation, operation.completion))
 
     def legal_with(self, completions: Iterable[Event]) -> List[Event]:
-        """Those of these completions with which, in place of the fatal event, the program calls the key's events legal."""
+        """The completions of the list with which the program would call the key's events legal, instead of the fatal event."""
         return [completion for completion in completions if self._is_legal(completion)]
 
     def _is_legal(self, completion: Event) -> bool:
@@ -145,7 +145,7 @@ class Case(NamedTuple):
         return check(text.encode(), as_asked(self.options), self.program).word == "legal"
 
     def with_answers(self, answers: Sequence[Any]) -> List[Any]:
-        """Those of these answers that the program calls legal in place of the one that was given."""
+        """The answers of the list that the program would call legal, instead of the given one."""
         return [event.value for event in self.legal_with(self.front[-1]._replace(kind="ok", value=answer) for answer in answers)]
 
     def as_a_failure(self) -> str:

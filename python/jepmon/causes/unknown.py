@@ -49,7 +49,7 @@ class Over(NamedTuple):
 
     @property
     def kind(self) -> str:
-        """By which the program judged it."""
+        """The kind by which the program judged the key."""
         return self.options.kind(self.program)
 
     @property

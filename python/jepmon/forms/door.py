@@ -129,7 +129,7 @@ class Translation:
         return f"{keys:,} keys, which one check does not take" if keys > len(kinds.KEYS) else "" if events > MOST_WHOLE else None
 
     def turned(self, in_shards: bool) -> Turned:
-        """It in jepmon's own form."""
+        """The history in jepmon's own form."""
         return written(self.history, self.nil_is_absent, OF_SHARDS if in_shards else Limits(), self.initial)
 
     def beside(self, wanted: Set[int], begun: int) -> Dict[int, Dict[str, Any]]:

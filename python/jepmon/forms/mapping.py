@@ -46,7 +46,7 @@ class Mapping(NamedTuple):
     contradictions: Map[str, str] = {}  # the type of an :ok of EDN that is answered by false ("false"), or has an :error ("error")
 
     def with_field(self, words: str) -> Mapping:
-        """With one field more, said as FIELD=NAME."""
+        """Adds a field, given as FIELD=NAME."""
         field, equals, name = words.rpartition("=")
         if not (field and equals and name):
             raise Refused(f"--map {words}: it takes FIELD=NAME, as --map path=key")
@@ -121,7 +121,7 @@ def _text(said: Dict[str, Any], name: str) -> Optional[str]:
 
 
 def _known(said: Dict[str, Any], name: str, known: Map[str, str]) -> Map[str, str]:
-    """These words, with those that a user adds."""
+    """The words of the tables, and those that a user adds."""
     added = _words(said, name)
     for word, meaning in added.items():
         if meaning not in set(known.values()):

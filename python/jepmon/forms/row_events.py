@@ -113,7 +113,7 @@ class Events:
                 return row
             if not collector.takes((f":{kind}", process, f":{name}", key, part, collector.count, line, beside)):
                 return row
-            # The row is taken. The rest is for the tests of the next rows, and for the notes at the end.
+            # The row is taken. The lines below prepare the tests of the next rows, and the notes at the end.
             collector.count += 1
             if kind == "invoke":
                 opened[process] = row

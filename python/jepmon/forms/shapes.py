@@ -48,7 +48,7 @@ class Shape:
         self.key_parts = sorted(use.name for use in self.uses.get("key", ())) if "key" in mapped else []  # if the user names them
         for uses in self.uses.values():
             uses.sort(key=lambda use: use.slot.rank)
-        # Fields that may hold an object to be laid open.
+        # Fields that may hold an object whose members are read as fields.
         kept = {use.name for meaning in ("key", "old", "new", "error") for use in self.uses.get(meaning, ())}
         self.objects = [name for name in names if name not in kept and plain(name) not in mapping.ignored]
 

@@ -131,7 +131,7 @@ def ordered(texts: Texts, asked: Asked, account: Account, fault: Optional[Refusa
 
 
 def of_files(facts: Facts, account: Account) -> str:
-    """By what the events of several files are in order."""
+    """The field by which the events of several files are in order."""
     if None not in facts.times:
         account.guess(ORDER, ONE_CLOCK, SKEW)
         return TIMES
@@ -177,7 +177,7 @@ def elements(parts: Sequence[Tuple[int, Counted]], asked: Asked) -> Iterator[Tup
 
 
 def found(facts: Facts, account: Account, fault: Optional[Refusal]) -> str:
-    """By what the events are in order; refused if nothing says so."""
+    """The field by which the events are in order; refused if there is none."""
     again, back = facts.begins_again(), facts.goes_back()
     twice = facts.twice() if again is None else None
     if twice is not None:

@@ -99,7 +99,7 @@ def _ways(given: Given, judged: Judged) -> Iterator[Way]:
 
 
 def _of_both(guess: Guess, given: Given) -> Iterator[Way]:
-    """Those by which an illegal history may be legal, and a legal one illegal."""
+    """The readings by which an illegal history may be legal, and a legal one illegal."""
     if guess.of == TYPE:
         yield Way(lambda given: given._replace(values=NUMBERS), guess.assumed, "they are one", "--values exact or --values number")
     if guess.option == BY_MAPPING:
@@ -123,7 +123,7 @@ def _with_outcome(what: str, kind: str) -> Callable[[Given], Given]:
 
 
 def _of_order(guess: Guess, judged: Judged) -> Iterator[Way]:
-    """Those by which less is known of the order of events, or of messages."""
+    """The readings that assume less about the order of events, or of messages."""
     if guess.option == EITHER:
         yield Way(_ordered(TIMES), "events of several clients with one time took place in the order in which they stand", "they were open at once", EITHER)
     elif guess.option == BY_TIMES and judged.found.translation is not None and are_mixed(judged.found.translation):

@@ -61,7 +61,7 @@ class Given(NamedTuple):
 
 
 class Words(command.Words):
-    """Its faults are refusals as any other."""
+    """Reports usage faults as refusals, like any other."""
 
     refusal = Refused
 

@@ -35,7 +35,7 @@ class LongOperation(Block):
 
     @property
     def name(self) -> str:
-        """By which the store is to know the object."""
+        """The name by which the store knows the object."""
         return self.object.name
 
     def __enter__(self) -> LongOperation:

@@ -75,7 +75,7 @@ class Parts:
             return one, one.part.telling
 
     def end(self, one: LongObject, name: str, outcome: Optional[str], told: bool, is_answered: bool) -> None:
-        """It has ended so there; None if it could not begin."""
+        """The outcome of an operation there; None if it could not begin."""
         with self.lock:
             one.open -= 1
             one.part.open -= 1
@@ -161,12 +161,12 @@ class Parts:
 
     @property
     def running(self) -> List[Part]:
-        """In the order in which they began."""
+        """The parts in the order in which they began."""
         return sorted([*self._shut, *self._retired, *self._current], key=lambda part: part.number)
 
     @property
     def untallied(self) -> List[Part]:
-        """Those of which the tally knows nothing yet."""
+        """The parts that the tally does not contain yet."""
         return [*self._closing, *self.running]
 
     def _part(self) -> Part:

@@ -285,7 +285,7 @@ class Walk:
         return self.steps[-1].event if self.status == "dead" else None
 
     def ends(self) -> List[End]:
-        """The ends at its end: where it is dead those just before the fatal event. None if it is over or gave up. GaveUp is raised if
+        """The ends after the last event; of a dead key the ends just before the fatal event. None if it is over or gave up. GaveUp is raised if
         there are too many; the budget does not bound them if the last event is not an ok."""
         return self.walker.ends() if self.status in ("alive", "dead") else []
 

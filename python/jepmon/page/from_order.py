@@ -1,4 +1,4 @@
-"""From an order of a key's operations, which was found afterwards, to the data of a page."""
+"""Makes the data of a page from an order of a key's operations that was found afterwards."""
 from __future__ import annotations
 
 from typing import Dict, Mapping, Optional, Sequence

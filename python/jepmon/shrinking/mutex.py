@@ -99,7 +99,7 @@ def pairs(operations: Sequence[Operation], firsts: List[int], seconds: List[int]
 
 
 def among(places: List[int], begins: List[int], since: int, until: int) -> List[int]:
-    """Those that begin between two moments."""
+    """The operations that begin between two moments."""
     return places[bisect.bisect(begins, since):bisect.bisect(begins, until)]
 
 

@@ -61,7 +61,7 @@ class Clients:
 
 
 class FreeThreads(Clients):
-    """Those where each operation has one of the threads that a check takes, so long as no more are open."""
+    """The units with which each operation has one of the threads of a check: no more operations are open at once."""
 
     def __init__(self) -> None:
         super().__init__(THREADS)

@@ -219,7 +219,7 @@ def verdict_on(fatal: Event, readings: Dict[str, Reading], acknowledged: Acknowl
 
 
 def lost_members(readings: Dict[str, Reading], acknowledged: Acknowledged) -> List[One]:
-    """Those that no node has."""
+    """The messages that no node has."""
     sets = [reading.value for reading in readings.values() if isinstance(reading.value, frozenset)]
     return acknowledged.missing(frozenset().union(*sets)) if sets else []
 

@@ -132,7 +132,7 @@ class Links:
 
 
 class Proxied(Links):
-    """By a proxy on the loopback."""
+    """Links by a proxy on the loopback."""
 
     def __init__(self, nodes: Sequence[Node], ports: Ports) -> None:
         ends = []

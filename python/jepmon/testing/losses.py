@@ -44,7 +44,7 @@ class Acknowledged(NamedTuple):
         return cls(found)
 
     def after(self, index: int) -> List[One]:
-        """Those whose operation began after that event."""
+        """The values whose operation began after that event."""
         return [one for one in self.values if one.begun > index]
 
     def missing(self, held: "frozenset[int]") -> List[One]:

@@ -88,7 +88,7 @@ class Node:
             self.starts += 1
 
     def kill(self) -> None:
-        """By SIGKILL, all its processes at once, so that none can write anything down any more."""
+        """Kills all its processes at once by SIGKILL, so that none can write any more."""
         with self._lock:
             if self._process is not None:
                 had_ended = self._process.poll() is not None

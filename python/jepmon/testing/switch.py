@@ -95,7 +95,7 @@ class Switch:
 
 
 def flipped(packet: bytes, draws: random.Random) -> bytes:
-    """With one bit that is another, after the addresses."""
+    """The packet with one flipped bit, after the addresses."""
     at = draws.randrange(ENDS.stop, len(packet)) if len(packet) > ENDS.stop else 0
     return packet[:at] + bytes([packet[at] ^ 1 << draws.randrange(8)]) + packet[at + 1:]
 

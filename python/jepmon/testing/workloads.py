@@ -243,7 +243,7 @@ class Queues(Work):
 
 
 def key_of(op: LongOperation) -> int:
-    """By which the server knows the object."""
+    """The name by which the server knows the object."""
     return int(op.name)
 
 

@@ -45,13 +45,13 @@ class Elements:
         self.held[cast(int, op.part)] += 1
 
     def left(self, place: int = 0) -> Iterator[Op]:
-        """Those that are left, behind a place."""
+        """The remaining elements behind a place."""
         while self._next[place]:
             place = self._next[place]
             yield cast(Op, self._ops[place])
 
     def front(self) -> List[Op]:
-        """Those that can be in front."""
+        """The elements that can be first."""
         found: List[Op] = []
         bound = NEVER
         for op in self.left():

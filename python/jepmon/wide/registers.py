@@ -214,7 +214,7 @@ class Search:
         self.failed.add(state)
 
     def towards(self, op: Op, moment: int) -> Iterator[None]:
-        """In each way that there is the operation takes place."""
+        """Tries each way in which the operation can take place."""
         self.clock.step()
         self.steps -= 1
         if self.steps < 0:

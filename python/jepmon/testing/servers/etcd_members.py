@@ -97,7 +97,7 @@ def numbers(found: List[Dict[str, Any]]) -> Dict[str, str]:
 
 
 def until(what: Callable[[], object], cluster: Cluster) -> None:
-    """Tries until the others answer: other strikes may hold them, which end before the run does. If the test is over, a little longer."""
+    """Tries until the other members answer: other strikes may hold them, and end before the run. At the end of a test it tries a little longer."""
     end, is_over = time.monotonic() + cluster.server.patience, False
     while True:
         try:
@@ -113,7 +113,7 @@ def until(what: Callable[[], object], cluster: Cluster) -> None:
 
 
 def asked(etcd: Etcd, node: Node, path: str, **body: Any) -> Any:
-    """By the first of the other nodes that answers."""
+    """Asks the first of the other nodes that answers."""
     fault: OSError = ConnectionError("there is no other node")
     for other in etcd.nodes:
         if other is not node and other.pid is not None:
