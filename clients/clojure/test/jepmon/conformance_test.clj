@@ -14,6 +14,14 @@
        (map #(str/split (str/trim %) #" +"))
        (reduce (fn [all words] (if (= "scenario" (first words)) (conj all [words]) (conj (pop all) (conj (peek all) words)))) [])))
 
+;; The minor version of the program, and the one that a scenario needs, or 0.
+(def minor
+  (let [program (or (System/getenv "JEPMON") (str (io/file table "../../dist/jepmon")))
+        said (slurp (.getInputStream (.start (ProcessBuilder. ^java.util.List [program "--version"]))))]
+    (parse-long (second (re-find #"^jepmon \d+\.(\d+)" said)))))
+
+(defn since [scenario] (parse-long (or (some (fn [[word number]] (when (= "since" word) number)) scenario) "0")))
+
 (defn option [words name] (parse-long (or (second (drop-while #(not= name %) words)) "0")))
 
 (defn options-of [scenario wait?]
@@ -113,7 +121,7 @@
 
 (deftest scenarios-of-the-table
   (doseq [scenario (scenarios), wait? [false true]
-          :when (not (and wait? (some #{["waiting" "no"]} scenario)))
+          :when (and (<= (since scenario) minor) (not (and wait? (some #{["waiting" "no"]} scenario))))
           :let [name (str (second (first scenario)) (when wait? "_waiting"))
                 wrong (try (fault scenario wait?) (catch Throwable e (str e)))]]
     (println (str "conformance " name ": " (if wrong (str "FAILED: " wrong) "ok")))
