@@ -3,7 +3,7 @@ ghost use Rattle.std.specs.Prelude.{◌≡◌};
 ghost use Rattle.rules.specs.Meaning.{is_within, kept_value, state_after};
 
 use crate::rule::{Assignment, Limits, Variable};
-use crate::rules::State;
+use crate::rules::{State, put};
 use crate::value::value_of;
 
 // Whether the value is within the limits, if there are any.
@@ -51,10 +51,7 @@ pub fn state_after(
     let mut after = *before;
     for assignment in assignments {
         let value = kept_value(variables, before, given, assignment)?;
-        let place = assignment.variable as usize;
-        if place < after.len() {
-            after[place] = value;
-        }
+        put(&mut after, assignment.variable as usize, value);
     }
     Some(after)
 }

@@ -1,5 +1,5 @@
 //! The rules of an object.
-ghost use Rattle.std.specs.Prelude.{◌≡◌};
+ghost use Rattle.std.specs.Prelude.{◌≡◌, slice_set};
 ghost use Rattle.std.specs.Option.{option_copied};
 ghost use Rattle.rules.specs.Meaning.{start_of, outcome_of, operation_named, sets_nothing, reads};
 
@@ -12,6 +12,15 @@ pub const MOST_VARIABLES: usize = 8;
 
 /// What each variable holds: nil or an integer. A place without a variable holds nil.
 pub type State = [Option<i64>; MOST_VARIABLES];
+
+/// Puts the value in this place, if it is there. Takes constant time.
+pub fn put(state: &mut State, place: usize, value: Option<i64>)
+    ensures { state.new ≡ slice_set state.old place value }
+{
+    if place < MOST_VARIABLES {
+        state[place] = value;
+    }
+}
 
 /// The rules of an object: its variables by their places, of which those from [`MOST_VARIABLES`] on are not there, and its operations. If
 /// several have one name, the first counts.
@@ -52,9 +61,7 @@ impl Rules {
     {
         let mut state = [None; MOST_VARIABLES];
         for (place, variable) in self.variables.iter().enumerate() {
-            if place < state.len() {
-                state[place] = variable.start;
-            }
+            put(&mut state, place, variable.start);
         }
         state
     }
