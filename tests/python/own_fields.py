@@ -3,7 +3,7 @@ from __future__ import annotations
 
 from typing import Dict, Iterable, List, NamedTuple, NoReturn, Optional, Sequence, Tuple
 
-from python.jepmon.edn import Many, Value as Element, integer, keyword, spelling
+from python.jepmon.edn import Many, Value as Element, integer, keyword
 
 from .own_rules import Term
 
@@ -44,6 +44,13 @@ def listed(names: Iterable[str]) -> str:
     return " ".join(f":{name}" for name in names)
 
 
+def shown(element: Element) -> str:
+    """In words, as short as it can be: the keyword, the integer, or what it is."""
+    if isinstance(element, Many):
+        return {"[": "a vector", "{": "a map", "#{": "a set"}[element.opened]
+    return "a text" if element.startswith('"') else element
+
+
 def pairs_of(element: Optional[Element]) -> Optional[List[Tuple[Element, Element]]]:
     if not isinstance(element, Many) or element.opened != "{":
         return None
@@ -67,7 +74,7 @@ def fields_of(pairs: Sequence[Tuple[Element, Element]], known: Sequence[str], at
     for key, value in pairs:
         name = keyword(key)
         if name is None:
-            at.refuse(f"{spelling(key)} stands where a keyword is wanted.")
+            at.refuse(f"{shown(key)} stands where a keyword is wanted.")
         if name not in known:
             at.refuse(f"there is no key :{name}{nearest(name, known)} The keys are {listed(known)}.")
         fields[name] = value

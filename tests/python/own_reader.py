@@ -4,9 +4,9 @@ from __future__ import annotations
 
 from typing import Dict, FrozenSet, List, NamedTuple, Optional, Sequence, Tuple
 
-from python.jepmon.edn import Many, Reader, Unreadable, Value as Element, integer, keyword, spelling
+from python.jepmon.edn import Many, Reader, Unreadable, Value as Element, integer, keyword
 
-from .own_fields import Fields, Place, Refused, constant, fields_of, listed, nearest, pairs_of, vector_of
+from .own_fields import Fields, Place, Refused, constant, fields_of, listed, nearest, pairs_of, shown, vector_of
 from .own_rules import Case, Operation, Rules, Term, Value
 
 MOST_BYTES, MOST_OBJECTS, MOST_VARIABLES, MOST_OPERATIONS, MOST_NAMES, MOST_CASES, MOST_WORDS = 65_536, 64, 8, 32, 128, 16, 256
@@ -89,7 +89,7 @@ def object_of(pairs: Sequence[Tuple[Element, Element]], made: Dict[str, Tuple[Ob
     if "like" in fields:
         like = keyword(fields["like"])
         if like is None or like not in made:
-            at.refuse(f"there is no object {spelling(fields['like'])} before it{nearest(like or '', made)}")
+            at.refuse(f"there is no object {shown(fields['like'])} before it{nearest(like or '', made)}")
         if ops is not None:
             at.refuse(f"it has the operations of :{like}. :ops are not wanted.")
         other, ops = made[like]
@@ -114,13 +114,13 @@ def read_starts(fields: Fields, starts: Dict[str, Value], at: Place) -> None:
     for key, value in pairs:
         name, start = keyword(key), constant(value)
         if name is None:
-            at.refuse(f":state has {spelling(key)}, which is no keyword.")
+            at.refuse(f":state has {shown(key)}, which is no keyword.")
         if name == "client":
             at.refuse(":client is who did it, and names no variable.")
         if "like" in fields and name not in starts:
             at.refuse(f"there is no variable :{name}{nearest(name, starts)}")
         if start is None:
-            at.refuse(f":{name} starts as {spelling(value)}. A variable starts as nil, true, false or an integer.")
+            at.refuse(f":{name} starts as {shown(value)}. A variable starts as nil, true, false or an integer.")
         starts[name] = start.value
 
 
@@ -132,7 +132,7 @@ def read_limits(fields: Fields, starts: Dict[str, Value], limits: Dict[str, Tupl
         for key, value in pairs:
             name = keyword(key)
             if name is None or name not in starts:
-                at.refuse(f":limits has {spelling(key)}, which is no variable{nearest(name or '', starts)}")
+                at.refuse(f":limits has {shown(key)}, which is no variable{nearest(name or '', starts)}")
             ends = [integer(end) for end in vector_of(value) or ()]
             if len(ends) != 2 or ends[0] is None or ends[1] is None:
                 at.refuse(f"the limits of :{name} are two integers, as [0 10].")
@@ -142,8 +142,7 @@ def read_limits(fields: Fields, starts: Dict[str, Value], limits: Dict[str, Tupl
     for name, (least, greatest) in limits.items():
         start = starts[name]
         if start is None or not least <= start <= greatest:
-            shown = "nil" if start is None else start
-            at.refuse(f":{name} starts as {shown}, which is outside its limits, {least} to {greatest}.")
+            at.refuse(f":{name} starts as {'nil' if start is None else start}, which is outside its limits, {least} to {greatest}.")
 
 
 def operations_of(ops: Optional[Element], variables: Tuple[str, ...], limits: Dict[str, Tuple[int, int]], askers: FrozenSet[str],
@@ -157,7 +156,7 @@ def operations_of(ops: Optional[Element], variables: Tuple[str, ...], limits: Di
     for key, value in pairs:
         name, given = keyword(key), pairs_of(value)
         if name is None:
-            at.refuse(f":ops has {spelling(key)}, which is no keyword.")
+            at.refuse(f":ops has {shown(key)}, which is no keyword.")
         within = at.within(f"operation :{name}")
         if given is None:
             within.refuse("a map is wanted, as {:set {..}}.")
@@ -197,7 +196,7 @@ class OfOperation:
         for member in members:
             name = keyword(member)
             if name is None:
-                self.at.refuse(f":args are keywords, and {spelling(member)} is none.")
+                self.at.refuse(f":args are keywords, and {shown(member)} is none.")
             if name == "client" or name in self.variables or name in self.arguments:
                 self.at.refuse(f"the argument :{name} has the name of something else. Choose another name.")
             self.arguments.append(name)
@@ -251,11 +250,11 @@ class OfOperation:
             if name in self.arguments:
                 self.at.refuse(f":set has the argument :{name}. Only variables of the state are set.")
             if name is None or name not in self.variables:
-                self.at.refuse(f":set has {spelling(key)}, which is no variable of the state{nearest(name or '', self.variables)}")
+                self.at.refuse(f":set has {shown(key)}, which is no variable of the state{nearest(name or '', self.variables)}")
             term, _ = self.term(value)
             limits = self.limits.get(name)
             if limits is not None and term.word == "constant" and (term.value is None or not limits[0] <= term.value <= limits[1]):
-                self.at.refuse(f":{name} is set to {spelling(value)}, which is outside its limits, {limits[0]} to {limits[1]}.")
+                self.at.refuse(f":{name} is set to {shown(value)}, which is outside its limits, {limits[0]} to {limits[1]}.")
             sets.append((self.variables.index(name), term))
         return tuple(sets)
 
@@ -271,8 +270,8 @@ class OfOperation:
             return known, ANY if element == "nil" else TRUTH if element in ("true", "false") else NUMBER
         members = vector_of(element)
         if members is None:
-            self.at.refuse(f"{spelling(element)} is no value. A value is nil, true, false, an integer, a name or a vector of a function.")
-        return self.called(members, element)
+            self.at.refuse(f"{shown(element)} is no value. A value is nil, true, false, an integer, a name or a vector of a function.")
+        return self.called(members)
 
     def named(self, name: str) -> Tuple[Term, str]:
         if name == "client":
@@ -284,10 +283,11 @@ class OfOperation:
         known = [*self.variables, *self.arguments]
         self.at.refuse(f"there is no :{name}{nearest(name, known)} There are {listed(known)} and :client.")
 
-    def called(self, members: Sequence[Element], element: Element) -> Tuple[Term, str]:
+    def called(self, members: Sequence[Element]) -> Tuple[Term, str]:
         word = keyword(members[0]) if members else None
         if word is None:
-            self.at.refuse(f"{spelling(members[0] if members else element)} stands where a function is wanted, as in [:plus :sum 1].")
+            first = shown(members[0]) if members else "an empty vector"
+            self.at.refuse(f"{first} stands where a function is wanted, as in [:plus :sum 1].")
         if word not in WORDS:
             self.at.refuse(f"there is no function :{word}{nearest(word, WORDS)} The functions are {listed(WORDS)}.")
         least, most = {"and": (2, MOST_TERMS), "or": (2, MOST_TERMS), "not": (1, 1), "if": (3, 3)}.get(word, (2, 2))

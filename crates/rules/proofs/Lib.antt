@@ -1,1 +1,3 @@
+mod Bounded
 mod Outcomes
+mod Reading

@@ -1,0 +1,25 @@
+//! The reader of files of objects. A file declares objects by rules (the crate `rules`): their variables, and their operations as cases in order.
+//!
+//! [`read`] gives the objects of a file, or refuses it by its first fault: the place, what is wrong, and what is wanted. The faults are for the
+//! author of the file. No law of the rules depends on them, but that each object begins within its limits.
+//!
+//! A call allocates only if its result can be `AllocError` or [`Fault::NoMemory`].
+#![tactic(auto)]
+
+mod constants;
+mod fault;
+mod fields;
+mod file;
+mod names;
+mod nearest;
+mod object;
+mod operation;
+mod scope;
+mod sort;
+mod starts;
+mod term;
+
+pub use fault::Fault;
+pub use file::{File, MOST_BYTES, MOST_OBJECTS, read};
+pub use names::{MOST_NAMES, Names};
+pub use object::Object;
