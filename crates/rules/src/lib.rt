@@ -15,6 +15,8 @@ mod laws;
 mod rule;
 mod rules;
 mod term;
+#[cfg(test)]
+mod tests;
 mod value;
 
 pub use finding::{Found, fits};
