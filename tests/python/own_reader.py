@@ -41,7 +41,7 @@ def load(text: bytes) -> List[Object]:
     try:
         elements = [element.value for element in Reader(text.decode(), profile=True).elements()]
     except (Unreadable, UnicodeDecodeError) as fault:
-        raise Refused(f"line {getattr(fault, 'line', 1)}: the text is not EDN that is read here.") from fault
+        raise Refused(f"line {getattr(fault, 'line', 1)}: the text can't be read.") from fault
     if not elements:
         raise Refused("the file declares no object. An object is {:object :name, :state {..}, :ops {..}}.")
     if len(elements) > MOST_OBJECTS:

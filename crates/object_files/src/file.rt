@@ -40,7 +40,7 @@ fn elements_of(alloc: Global, text: &[u8]) -> Result<Vec<Edn>, Fault> {
         Err(Refusal::Unreadable(place)) => {
             let line = line_of(text, place);
             Err(fault(
-                format!(in alloc; "line {line}: the text is not EDN that is read here. Byte {place} is the first that does not fit."),
+                format!(in alloc; "line {line}: the element that begins here can't be read. It is not closed, has a key twice, an integer outside 64 bits, more than 32 collections in one another, or a form that is not read here."),
             ))
         }
         Err(_) => Err(Fault::NoMemory),

@@ -7,6 +7,7 @@ use rules::{Term, Variable};
 use std::alloc::{AllocError, Global};
 
 /// The variables of the object, by their places, and the arguments of the operation; whether the client is given before them.
+#[derive(Drop)]
 pub struct Scope<'a> {
     pub names: &'a [String],
     pub variables: &'a [Variable],

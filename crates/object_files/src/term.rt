@@ -72,7 +72,7 @@ fn both(alloc: Global, operator: Operator, a: Term, b: Term) -> Result<Term, Fau
     Ok(Term::Combined(operator, a, b))
 }
 
-/// The second term if the value of the first is 1, and the third if it is 0.
+// The second term if the value of the first is 1, and the third if it is 0.
 fn choice(alloc: Global, condition: Term, a: Term, b: Term) -> Result<Term, Fault> {
     let condition = Box::new(alloc, condition)?;
     let a = Box::new(alloc, a)?;
@@ -102,6 +102,7 @@ fn of_truths(alloc: Global, is_all: bool, mut terms: Vec<Term>) -> Result<Term, 
 }
 
 /// The term that the element spells, and the sort of its values. Counts its words.
+#[cycle(terms)]
 pub fn term_of(
     alloc: Global,
     scope: &Scope,
@@ -132,6 +133,7 @@ pub fn term_of(
 }
 
 // The term of a function and its values.
+#[cycle(terms)]
 fn called(
     alloc: Global,
     scope: &Scope,
