@@ -39,7 +39,12 @@ fn is_known(name: &str, known: &[&str]) -> bool {
 }
 
 /// Tests that each key of the map is one of these keywords.
-pub fn test_keys(alloc: Global, at: &str, pairs: &[(Edn, Edn)], known: &[&str]) -> Result<(), Fault> {
+pub fn test_keys(
+    alloc: Global,
+    at: &str,
+    pairs: &[(Edn, Edn)],
+    known: &[&str],
+) -> Result<(), Fault> {
     for pair in pairs {
         let Some(name) = pair.0.as_keyword() else {
             let shown = shown(alloc, &pair.0)?;
@@ -48,9 +53,9 @@ pub fn test_keys(alloc: Global, at: &str, pairs: &[(Edn, Edn)], known: &[&str]) 
         if !is_known(name, known) {
             let meant = meant(alloc, name, known)?;
             let keys = listed(alloc, known)?;
-            return Err(fault(
-                format!(in alloc; "{at}: there is no key :{name}{meant} The keys are {keys}."),
-            ));
+            return Err(fault(format!(in alloc;
+                "{at}: there is no key :{name}{meant} The keys are {keys}."
+            )));
         }
     }
     Ok(())

@@ -39,9 +39,9 @@ fn elements_of(alloc: Global, text: &[u8]) -> Result<Vec<Edn>, Fault> {
         Ok(elements) => Ok(elements),
         Err(Refusal::Unreadable(place)) => {
             let line = line_of(text, place);
-            Err(fault(
-                format!(in alloc; "line {line}: the element that begins here can't be read. It is not closed, has a key twice, an integer outside 64 bits, more than 32 collections in one another, or a form that is not read here."),
-            ))
+            Err(fault(format!(in alloc;
+                "line {line}: the element that begins here can't be read. It is not closed, has a key twice, an integer outside 64 bits, more than 32 collections in one another, or a form that is not read here."
+            )))
         }
         Err(_) => Err(Fault::NoMemory),
     }
@@ -58,21 +58,21 @@ pub fn read(alloc: Global, text: &[u8]) -> Result<File, Fault>
 {
     let bytes = text.len();
     if bytes > MOST_BYTES {
-        return Err(fault(
-            format!(in alloc; "the file has {bytes} bytes. It may have {MOST_BYTES} at most."),
-        ));
+        return Err(fault(format!(in alloc;
+            "the file has {bytes} bytes. It may have {MOST_BYTES} at most."
+        )));
     }
     let elements = elements_of(alloc, text)?;
     let many = elements.len();
     if many == 0 {
-        return Err(fault(
-            format!(in alloc; "the file declares no object. An object is {{:object :name, :state {{..}}, :ops {{..}}}}."),
-        ));
+        return Err(fault(format!(in alloc;
+            "the file declares no object. An object is {{:object :name, :state {{..}}, :ops {{..}}}}."
+        )));
     }
     if many > MOST_OBJECTS {
-        return Err(fault(
-            format!(in alloc; "the file declares {many} objects. It may declare {MOST_OBJECTS} at most."),
-        ));
+        return Err(fault(format!(in alloc;
+            "the file declares {many} objects. It may declare {MOST_OBJECTS} at most."
+        )));
     }
     let names = names_of(alloc, elements.as_slice())?;
     let objects = objects_of(alloc, elements.as_slice(), &names)?;

@@ -18,6 +18,8 @@ mod scope;
 mod sort;
 mod starts;
 mod term;
+#[cfg(test)]
+mod tests;
 
 pub use fault::Fault;
 pub use file::{File, MOST_BYTES, MOST_OBJECTS, read};

@@ -154,9 +154,9 @@ fn note(alloc: Global, own: &mut Vec<OwnName>, name: &str, asks: bool) -> Result
         }
     }
     if own.len() >= MOST_NAMES {
-        return Err(fault(
-            format!(in alloc; "the file has more than {MOST_NAMES} names of operations of its own."),
-        ));
+        return Err(fault(format!(in alloc;
+            "the file has more than {MOST_NAMES} names of operations of its own."
+        )));
     }
     let text = String::from_str(alloc, name)?;
     own.push(OwnName { text, asks })?;

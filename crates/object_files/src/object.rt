@@ -1,9 +1,9 @@
 //! Objects in a file.
 ghost use Rattle.std.specs.Prelude.{◌<◌, ◌≤◌, length, IfOk, OnOk};
-ghost use Rattle.object_files.specs.Measures.{IsMeasured};
+ghost use Rattle.object_files.specs.Measures.{AllStartWithin, IsMeasured};
 
 use crate::fault::{Fault, fault};
-use crate::fields::{shown, test_keys};
+use crate::fields::{pairs_of, shown, test_keys};
 use crate::names::Names;
 use crate::nearest::meant;
 use crate::operation::{MOST_OPERATIONS, operations_of};
@@ -58,15 +58,15 @@ fn name_of(alloc: Global, number: usize, element: &Edn, made: &[Object]) -> Resu
         None => None,
     };
     let Some(name) = name else {
-        return Err(fault(
-            format!(in alloc; "object {number}: its name is wanted, as :object :semaphore."),
-        ));
+        return Err(fault(format!(in alloc;
+            "object {number}: its name is wanted, as :object :semaphore."
+        )));
     };
     for kind in &KINDS {
         if *kind == name {
-            return Err(fault(
-                format!(in alloc; "object :{name}: this is a kind that the program has. Choose another name."),
-            ));
+            return Err(fault(format!(in alloc;
+                "object :{name}: this is a kind that the program has. Choose another name."
+            )));
         }
     }
     if object_named(name, made).is_some() {
@@ -83,9 +83,7 @@ fn no_such(alloc: Global, at: &str, like: &Edn, made: &[Object]) -> Result<Fault
     }
     let shown = shown(alloc, like)?;
     let meant = meant(alloc, like.as_keyword().unwrap_or(""), known.as_slice())?;
-    Ok(fault(
-        format!(in alloc; "{at}: there is no object {shown} before it{meant}"),
-    ))
+    Ok(fault(format!(in alloc; "{at}: there is no object {shown} before it{meant}")))
 }
 
 // The variables of the object that it is like, if it is like one, and the element that declares their operations.
@@ -108,9 +106,9 @@ fn begun_like(
     };
     if element.get("ops").is_some() {
         let name = other.name.as_str();
-        return Err(fault(
-            format!(in alloc; "{at}: it has the operations of :{name}. :ops are not wanted."),
-        ));
+        return Err(fault(format!(in alloc;
+            "{at}: it has the operations of :{name}. :ops are not wanted."
+        )));
     }
     for name in &other.variables {
         let text = String::from_str(alloc, name.as_str())?;
@@ -120,6 +118,33 @@ fn begun_like(
         read.variables.push(*variable)?;
     }
     Ok((read, other.declared_at))
+}
+
+// The variables of the object, behind those that it has from another one. Each starts within its limits.
+fn variables_of(
+    alloc: Global,
+    at: &str,
+    element: &Edn,
+    begun: Variables,
+) -> Result<Variables, Fault>
+    ensures { IfOk result (λ read. AllStartWithin read.variables.items) }
+{
+    let mut read = begun;
+    let is_like = element.get("like").is_some();
+    match element.get("state") {
+        Some(state) => read_starts(alloc, at, state, is_like, &mut read)?,
+        None if is_like => {}
+        None => {
+            return Err(fault(
+                format!(in alloc; "{at}: :state {{:variable start ..}} is wanted."),
+            ));
+        }
+    }
+    if let Some(limits) = element.get("limits") {
+        read_limits(alloc, at, limits, &mut read)?;
+    }
+    test_starts(alloc, at, read.names.as_slice(), read.variables.as_slice())?;
+    Ok(read)
 }
 
 /// The object that the element of this place declares, behind those that were made.
@@ -135,46 +160,57 @@ pub fn object_of(
 {
     let element = &elements[place];
     let number = place.saturating_add(1);
-    let Edn::Map(pairs) = element else {
+    let Some(pairs) = pairs_of(element) else {
         return Err(fault(
             format!(in alloc; "element {number} is no map. An object is {{:object :name, :state {{..}}, :ops {{..}}}}."),
         ));
     };
     let first = format!(in alloc; "object {number}")?;
-    test_keys(alloc, first.as_str(), pairs.as_slice(), &OF_OBJECT)?;
+    test_keys(alloc, first.as_str(), pairs, &OF_OBJECT)?;
     let name = name_of(alloc, number, element, made)?;
     let at = format!(in alloc; "object :{name}")?;
-    let (mut read, declared_at) = begun_like(alloc, at.as_str(), place, element, made)?;
-    let is_like = element.get("like").is_some();
-    match element.get("state") {
-        Some(state) => read_starts(alloc, at.as_str(), state, is_like, &mut read)?,
-        None if is_like => {}
-        None => {
-            return Err(fault(format!(in alloc; "{at}: :state {{:variable start ..}} is wanted.")));
-        }
-    }
-    if let Some(limits) = element.get("limits") {
-        read_limits(alloc, at.as_str(), limits, &mut read)?;
-    }
-    test_starts(alloc, at.as_str(), read.names.as_slice(), read.variables.as_slice())?;
+    let (begun, declared_at) = begun_like(alloc, at.as_str(), place, element, made)?;
+    let read = variables_of(alloc, at.as_str(), element, begun)?;
     let declared = match elements.get(declared_at) {
         Some(declaring) => declaring.get("ops"),
         None => None,
     };
+    object_with(alloc, at.as_str(), name, read, declared, declared_at, names)
+}
+
+// The object of this name with these variables and the operations that the element declares.
+fn object_with(
+    alloc: Global,
+    at: &str,
+    name: String,
+    read: Variables,
+    declared: Option<&Edn>,
+    declared_at: usize,
+    names: &Names,
+) -> Result<Object, Fault>
+    requires { AllStartWithin read.variables.items }
+    ensures { IfOk result (λ object. IsMeasured object.rules) }
+{
     let operations = operations_of(
         alloc,
-        at.as_str(),
+        at,
         declared,
         names,
         read.names.as_slice(),
         read.variables.as_slice(),
     )?;
-    let Variables { names, variables } = read;
-    test_measures(alloc, at.as_str(), variables.len(), operations.len())?;
+    test_measures(alloc, at, read.variables.len(), operations.len())?;
+    let Variables {
+        names: texts,
+        variables,
+    } = read;
     Ok(Object {
         name,
-        variables: names,
-        rules: Rules { variables, operations },
+        variables: texts,
+        rules: Rules {
+            variables,
+            operations,
+        },
         declared_at,
     })
 }
@@ -185,9 +221,9 @@ fn test_measures(alloc: Global, at: &str, variables: usize, operations: usize) -
     ensures operations { OnOk result (operations ≤ 32) }
 {
     if variables > MOST_VARIABLES || operations > MOST_OPERATIONS {
-        return Err(fault(
-            format!(in alloc; "{at}: it has more than {MOST_VARIABLES} variables or {MOST_OPERATIONS} operations."),
-        ));
+        return Err(fault(format!(in alloc;
+            "{at}: it has more than {MOST_VARIABLES} variables or {MOST_OPERATIONS} operations."
+        )));
     }
     Ok(())
 }

@@ -21,6 +21,7 @@ const MOST_CASES: usize = 16;
 const MOST_GIVEN: usize = 2;
 
 const OF_OPERATION: [&str; 6] = ["args", "cases", "when", "set", "answer", "answer-or-nil"];
+
 const OF_CASE: [&str; 4] = ["when", "set", "answer", "answer-or-nil"];
 
 /// The operations that the element declares of an object with these variables.
@@ -41,9 +42,9 @@ pub fn operations_of(
     };
     let many = pairs.len();
     if many == 0 || many > MOST_OPERATIONS {
-        return Err(fault(
-            format!(in alloc; "{at}: 1 to {MOST_OPERATIONS} operations are wanted, not {many}."),
-        ));
+        return Err(fault(format!(in alloc;
+            "{at}: 1 to {MOST_OPERATIONS} operations are wanted, not {many}."
+        )));
     }
     let mut operations = Vec::new(alloc);
     for pair in pairs {
@@ -52,7 +53,15 @@ pub fn operations_of(
             return Err(fault(format!(in alloc; "{at}: :ops has {shown}, which is no keyword.")));
         };
         let within = format!(in alloc; "{at}, operation :{name}")?;
-        let operation = operation_of(alloc, within.as_str(), name, &pair.1, names, texts, variables)?;
+        let operation = operation_of(
+            alloc,
+            within.as_str(),
+            name,
+            &pair.1,
+            names,
+            texts,
+            variables,
+        )?;
         operations.push(operation)?;
     }
     Ok(operations)
@@ -77,7 +86,11 @@ fn operation_of(
     };
     let asks = names.asks(name);
     let arguments = arguments_of(alloc, at, name, element.get("args"), asks, texts)?;
-    let given = if asks { arguments.len().saturating_add(1) } else { arguments.len() };
+    let given = if asks {
+        arguments.len().saturating_add(1)
+    } else {
+        arguments.len()
+    };
     let scope = Scope {
         names: texts,
         variables,
@@ -111,16 +124,16 @@ fn arguments_of(
         for member in members {
             let Some(argument) = member.as_keyword() else {
                 let shown = shown(alloc, member)?;
-                return Err(fault(
-                    format!(in alloc; "{at}: :args are keywords, and {shown} is none."),
-                ));
+                return Err(fault(format!(in alloc;
+                    "{at}: :args are keywords, and {shown} is none."
+                )));
             };
             let is_taken = place_of(argument, texts).is_some()
                 || place_of(argument, arguments.as_slice()).is_some();
             if is_taken || argument == "client" {
-                return Err(fault(
-                    format!(in alloc; "{at}: the argument :{argument} has the name of something else. Choose another name."),
-                ));
+                return Err(fault(format!(in alloc;
+                    "{at}: the argument :{argument} has the name of something else. Choose another name."
+                )));
             }
             let text = String::from_str(alloc, argument)?;
             arguments.push(text)?;
@@ -131,21 +144,31 @@ fn arguments_of(
 }
 
 // Tests how many arguments there are.
-fn test_arguments(alloc: Global, at: &str, name: &str, many: usize, asks: bool) -> Result<(), Fault> {
+fn test_arguments(
+    alloc: Global,
+    at: &str,
+    name: &str,
+    many: usize,
+    asks: bool,
+) -> Result<(), Fault> {
     let most = if asks { MOST_GIVEN - 1 } else { MOST_GIVEN };
     if many > most {
         return Err(fault(if asks {
-            format!(in alloc; "{at}: it has {many} arguments. An operation has 1 argument at most beside :client.")
+            format!(in alloc;
+                "{at}: it has {many} arguments. An operation has 1 argument at most beside :client."
+            )
         } else {
-            format!(in alloc; "{at}: it has {many} arguments. An operation has 2 arguments at most.")
+            format!(in alloc;
+                "{at}: it has {many} arguments. An operation has 2 arguments at most."
+            )
         }));
     }
     match built_in_arguments(name) {
         Some(wanted) if wanted != many => {
             let plural = if wanted == 1 { "" } else { "s" };
-            Err(fault(
-                format!(in alloc; "{at}: events of :{name} have {wanted} argument{plural}. For others choose another name."),
-            ))
+            Err(fault(format!(in alloc;
+                "{at}: events of :{name} have {wanted} argument{plural}. For others choose another name."
+            )))
         }
         _ => Ok(()),
     }
@@ -164,16 +187,16 @@ fn cases_of(alloc: Global, at: &str, scope: &Scope, element: &Edn) -> Result<Vec
     };
     for key in &OF_CASE {
         if element.get(key).is_some() {
-            return Err(fault(
-                format!(in alloc; "{at}: what it does stands in :cases, and not beside them too."),
-            ));
+            return Err(fault(format!(in alloc;
+                "{at}: what it does stands in :cases, and not beside them too."
+            )));
         }
     }
     let many = members.len();
     if many == 0 || many > MOST_CASES {
-        return Err(fault(
-            format!(in alloc; "{at}: 1 to {MOST_CASES} cases are wanted, not {many}."),
-        ));
+        return Err(fault(format!(in alloc;
+            "{at}: 1 to {MOST_CASES} cases are wanted, not {many}."
+        )));
     }
     let mut number: usize = 0;
     for member in members {
@@ -190,16 +213,24 @@ fn cases_of(alloc: Global, at: &str, scope: &Scope, element: &Edn) -> Result<Vec
 }
 
 // The case that the member of `:cases` declares, behind these.
-fn listed_case(alloc: Global, at: &str, scope: &Scope, member: &Edn, before: &[Case]) -> Result<Case, Fault> {
+fn listed_case(
+    alloc: Global,
+    at: &str,
+    scope: &Scope,
+    member: &Edn,
+    before: &[Case],
+) -> Result<Case, Fault> {
     let Some(pairs) = pairs_of(member) else {
-        return Err(fault(format!(in alloc; "{at}: a map is wanted, as {{:when .., :set {{..}}}}.")));
+        return Err(fault(format!(in alloc;
+            "{at}: a map is wanted, as {{:when .., :set {{..}}}}."
+        )));
     };
     test_keys(alloc, at, pairs, &OF_CASE)?;
     if let Some(last) = before.last() {
         if always_holds(last, scope.variables) {
-            return Err(fault(
-                format!(in alloc; "{at}: it is never reached, since the case before it always holds."),
-            ));
+            return Err(fault(format!(in alloc;
+                "{at}: it is never reached, since the case before it always holds."
+            )));
         }
     }
     case_of(alloc, at, scope, member)
@@ -227,21 +258,25 @@ fn case_of(alloc: Global, at: &str, scope: &Scope, element: &Edn) -> Result<Case
             Answer::OrNil(term)
         }
         (Some(_), Some(_)) => {
-            return Err(fault(
-                format!(in alloc; "{at}: :answer or :answer-or-nil is wanted, not both."),
-            ));
+            return Err(fault(format!(in alloc;
+                "{at}: :answer or :answer-or-nil is wanted, not both."
+            )));
         }
     };
     Ok(Case { when, set, answer })
 }
 
 // The condition that the element spells.
-fn condition_of(alloc: Global, at: &str, scope: &Scope, words: &mut usize, element: &Edn) -> Result<Term, Fault> {
+fn condition_of(
+    alloc: Global,
+    at: &str,
+    scope: &Scope,
+    words: &mut usize,
+    element: &Edn,
+) -> Result<Term, Fault> {
     let (term, sort) = term_of(alloc, scope, at, words, DEEPEST, element)?;
     if sort == Sort::Number {
-        return Err(fault(
-            format!(in alloc; "{at}: :when is true or false, and this is a number."),
-        ));
+        return Err(fault(format!(in alloc; "{at}: :when is true or false, and this is a number.")));
     }
     Ok(term)
 }
@@ -264,7 +299,10 @@ fn assignments_of(
         if let Some(variable) = scope.variables.get(place as usize) {
             test_constant(alloc, at, *variable, &value, pair)?;
         }
-        assignments.push(Assignment { variable: place, value })?;
+        assignments.push(Assignment {
+            variable: place,
+            value,
+        })?;
     }
     Ok(assignments)
 }
@@ -273,9 +311,9 @@ fn assignments_of(
 fn place_set(alloc: Global, at: &str, scope: &Scope, key: &Edn) -> Result<u8, Fault> {
     let name = key.as_keyword().unwrap_or("");
     if place_of(name, scope.arguments).is_some() {
-        return Err(fault(
-            format!(in alloc; "{at}: :set has the argument :{name}. Only variables of the state are set."),
-        ));
+        return Err(fault(format!(in alloc;
+            "{at}: :set has the argument :{name}. Only variables of the state are set."
+        )));
     }
     match place_of(name, scope.names) {
         Some(place) => Ok(place),
@@ -283,15 +321,21 @@ fn place_set(alloc: Global, at: &str, scope: &Scope, key: &Edn) -> Result<u8, Fa
             let shown = shown(alloc, key)?;
             let known = texts_of(alloc, scope.names)?;
             let meant = meant(alloc, name, known.as_slice())?;
-            Err(fault(
-                format!(in alloc; "{at}: :set has {shown}, which is no variable of the state{meant}"),
-            ))
+            Err(fault(format!(in alloc;
+                "{at}: :set has {shown}, which is no variable of the state{meant}"
+            )))
         }
     }
 }
 
 // Tests that a value that stands there is within the limits of the variable that it is given to.
-fn test_constant(alloc: Global, at: &str, variable: Variable, value: &Term, pair: &(Edn, Edn)) -> Result<(), Fault> {
+fn test_constant(
+    alloc: Global,
+    at: &str,
+    variable: Variable,
+    value: &Term,
+    pair: &(Edn, Edn),
+) -> Result<(), Fault> {
     let (Some(limits), Term::Constant(constant)) = (variable.limits, value) else {
         return Ok(());
     };
@@ -303,9 +347,9 @@ fn test_constant(alloc: Global, at: &str, variable: Variable, value: &Term, pair
     }
     let name = shown(alloc, &pair.0)?;
     let shown = shown(alloc, &pair.1)?;
-    Err(fault(
-        format!(in alloc; "{at}: {name} is set to {shown}, which is outside its limits, {least} to {greatest}."),
-    ))
+    Err(fault(format!(in alloc;
+        "{at}: {name} is set to {shown}, which is outside its limits, {least} to {greatest}."
+    )))
 }
 
 // Whether the case holds in every state: it has no condition, and each of its values exists and is within limits.
@@ -318,7 +362,9 @@ fn always_holds(case: &Case, variables: &[Variable]) -> bool {
             Some(variable) => variable.limits.is_some(),
             None => true,
         };
-        if is_limited && !matches!(assignment.value, Term::Constant(_)) || !is_total(&assignment.value) {
+        if is_limited && !matches!(assignment.value, Term::Constant(_))
+            || !is_total(&assignment.value)
+        {
             return false;
         }
     }
@@ -337,33 +383,39 @@ fn test_answers(alloc: Global, at: &str, cases: &[Case]) -> Result<(), Fault> {
         }
     }
     if silent > 0 && silent < cases.len() {
-        return Err(fault(
-            format!(in alloc; "{at}: some of its cases answer and others do not, so that any answer would fit these. Let each of them answer, or none."),
-        ));
+        return Err(fault(format!(in alloc;
+            "{at}: some of its cases answer and others do not, so that any answer would fit these. Let each of them answer, or none."
+        )));
     }
     Ok(())
 }
 
 // Tests what the events of a name of the program can say.
-fn test_built_in(alloc: Global, at: &str, name: &str, asks: bool, cases: &[Case]) -> Result<(), Fault> {
+fn test_built_in(
+    alloc: Global,
+    at: &str,
+    name: &str,
+    asks: bool,
+    cases: &[Case],
+) -> Result<(), Fault> {
     if built_in_arguments(name).is_none() {
         return Ok(());
     }
     if asks {
-        return Err(fault(
-            format!(in alloc; "{at}: events of :{name} do not say who did it, and it asks for :client. Choose another name, as :{name}-by."),
-        ));
+        return Err(fault(format!(in alloc;
+            "{at}: events of :{name} do not say who did it, and it asks for :client. Choose another name, as :{name}-by."
+        )));
     }
     for case in cases {
         if !is_answering(name) && !matches!(case.answer, Answer::Any) {
-            return Err(fault(
-                format!(in alloc; "{at}: the :ok of :{name} repeats its :invoke, so it has no answer. Choose another name, as :{name}?."),
-            ));
+            return Err(fault(format!(in alloc;
+                "{at}: the :ok of :{name} repeats its :invoke, so it has no answer. Choose another name, as :{name}?."
+            )));
         }
         if name == "read" && !case.set.is_empty() {
-            return Err(fault(
-                format!(in alloc; "{at}: a :read leaves the state as it was, and this one sets a variable. Choose another name."),
-            ));
+            return Err(fault(format!(in alloc;
+                "{at}: a :read leaves the state as it was, and this one sets a variable. Choose another name."
+            )));
         }
     }
     Ok(())

@@ -43,7 +43,11 @@ impl<'a> Scope<'a> {
             return Ok((Term::Given(0), Sort::Number));
         }
         if let Some(place) = place_of(name, self.arguments) {
-            let place = if self.asks { place.saturating_add(1) } else { place };
+            let place = if self.asks {
+                place.saturating_add(1)
+            } else {
+                place
+            };
             return Ok((Term::Given(place), Sort::Any));
         }
         if let Some(place) = place_of(name, self.names) {
@@ -60,8 +64,8 @@ impl<'a> Scope<'a> {
         }
         let meant = meant(alloc, name, known.as_slice())?;
         let keys = listed(alloc, known.as_slice())?;
-        Err(fault(
-            format!(in alloc; "{at}: there is no :{name}{meant} There are {keys} and :client."),
-        ))
+        Err(fault(format!(in alloc;
+            "{at}: there is no :{name}{meant} There are {keys} and :client."
+        )))
     }
 }

@@ -19,15 +19,21 @@ pub struct Variables {
 }
 
 /// Reads the starts that `:state` gives: of new variables, or of those that another object has.
-pub fn read_starts(alloc: Global, at: &str, state: &Edn, is_like: bool, read: &mut Variables) -> Result<(), Fault> {
+pub fn read_starts(
+    alloc: Global,
+    at: &str,
+    state: &Edn,
+    is_like: bool,
+    read: &mut Variables,
+) -> Result<(), Fault> {
     let Some(pairs) = pairs_of(state) else {
         return Err(fault(format!(in alloc; "{at}: :state {{:variable start ..}} is wanted.")));
     };
     let many = pairs.len();
     if !is_like && (many == 0 || many > MOST_VARIABLES) {
-        return Err(fault(
-            format!(in alloc; "{at}: 1 to {MOST_VARIABLES} variables are wanted, not {many}."),
-        ));
+        return Err(fault(format!(in alloc;
+            "{at}: 1 to {MOST_VARIABLES} variables are wanted, not {many}."
+        )));
     }
     for pair in pairs {
         let Some(name) = pair.0.as_keyword() else {
@@ -35,9 +41,9 @@ pub fn read_starts(alloc: Global, at: &str, state: &Edn, is_like: bool, read: &m
             return Err(fault(format!(in alloc; "{at}: :state has {shown}, which is no keyword.")));
         };
         if name == "client" {
-            return Err(fault(
-                format!(in alloc; "{at}: :client is who did it, and names no variable."),
-            ));
+            return Err(fault(format!(in alloc;
+                "{at}: :client is who did it, and names no variable."
+            )));
         }
         let place = place_of(name, read.names.as_slice());
         if is_like && place.is_none() {
@@ -47,9 +53,9 @@ pub fn read_starts(alloc: Global, at: &str, state: &Edn, is_like: bool, read: &m
         }
         let Some((start, _sort)) = constant(&pair.1) else {
             let shown = shown(alloc, &pair.1)?;
-            return Err(fault(
-                format!(in alloc; "{at}: :{name} starts as {shown}. A variable starts as nil, true, false or an integer."),
-            ));
+            return Err(fault(format!(in alloc;
+                "{at}: :{name} starts as {shown}. A variable starts as nil, true, false or an integer."
+            )));
         };
         put_start(alloc, read, place, name, start)?;
     }
@@ -57,12 +63,21 @@ pub fn read_starts(alloc: Global, at: &str, state: &Edn, is_like: bool, read: &m
 }
 
 // Puts the start of the variable of this place, or of a new one.
-fn put_start(alloc: Global, read: &mut Variables, place: Option<u8>, name: &str, start: Option<i64>) -> Result<(), Fault> {
+fn put_start(
+    alloc: Global,
+    read: &mut Variables,
+    place: Option<u8>,
+    name: &str,
+    start: Option<i64>,
+) -> Result<(), Fault> {
     match place {
         None => {
             let text = String::from_str(alloc, name)?;
             read.names.push(text)?;
-            read.variables.push(Variable { start, limits: None })?;
+            read.variables.push(Variable {
+                start,
+                limits: None,
+            })?;
         }
         Some(place) => {
             let place = place as usize;
@@ -76,9 +91,16 @@ fn put_start(alloc: Global, read: &mut Variables, place: Option<u8>, name: &str,
 }
 
 /// Reads the limits that `:limits` gives.
-pub fn read_limits(alloc: Global, at: &str, limits: &Edn, read: &mut Variables) -> Result<(), Fault> {
+pub fn read_limits(
+    alloc: Global,
+    at: &str,
+    limits: &Edn,
+    read: &mut Variables,
+) -> Result<(), Fault> {
     let Some(pairs) = pairs_of(limits) else {
-        return Err(fault(format!(in alloc; "{at}: :limits {{:variable [least greatest] ..}} is wanted.")));
+        return Err(fault(format!(in alloc;
+            "{at}: :limits {{:variable [least greatest] ..}} is wanted."
+        )));
     };
     for pair in pairs {
         let name = pair.0.as_keyword().unwrap_or("");
@@ -86,15 +108,18 @@ pub fn read_limits(alloc: Global, at: &str, limits: &Edn, read: &mut Variables) 
             let shown = shown(alloc, &pair.0)?;
             let known = texts_of(alloc, read.names.as_slice())?;
             let meant = meant(alloc, name, known.as_slice())?;
-            return Err(fault(
-                format!(in alloc; "{at}: :limits has {shown}, which is no variable{meant}"),
-            ));
+            return Err(fault(format!(in alloc;
+                "{at}: :limits has {shown}, which is no variable{meant}"
+            )));
         };
         let limits = limits_of(alloc, at, name, &pair.1)?;
         let place = place as usize;
         if place < read.variables.len() {
             let start = read.variables[place].start;
-            read.variables[place] = Variable { start, limits: Some(limits) };
+            read.variables[place] = Variable {
+                start,
+                limits: Some(limits),
+            };
         }
     }
     Ok(())
@@ -105,16 +130,19 @@ fn limits_of(alloc: Global, at: &str, name: &str, element: &Edn) -> Result<Limit
     match element.as_slice() {
         Some([Edn::Int(least), Edn::Int(greatest)]) => {
             if *least <= *greatest {
-                Ok(Limits { least: *least, greatest: *greatest })
+                Ok(Limits {
+                    least: *least,
+                    greatest: *greatest,
+                })
             } else {
-                Err(fault(
-                    format!(in alloc; "{at}: the limits of :{name} are two integers, the least first."),
-                ))
+                Err(fault(format!(in alloc;
+                    "{at}: the limits of :{name} are two integers, the least first."
+                )))
             }
         }
-        _ => Err(fault(
-            format!(in alloc; "{at}: the limits of :{name} are two integers, as [0 10]."),
-        )),
+        _ => Err(fault(format!(in alloc;
+            "{at}: the limits of :{name} are two integers, as [0 10]."
+        ))),
     }
 }
 
@@ -130,7 +158,12 @@ fn starts_within(variable: Variable) -> bool
 }
 
 /// Tests that each variable starts within its limits.
-pub fn test_starts(alloc: Global, at: &str, names: &[String], variables: &[Variable]) -> Result<(), Fault>
+pub fn test_starts(
+    alloc: Global,
+    at: &str,
+    names: &[String],
+    variables: &[Variable],
+) -> Result<(), Fault>
     ensures { OnOk result (AllStartWithin variables.now) }
 {
     let mut place: usize = 0;
@@ -154,11 +187,11 @@ fn outside(alloc: Global, at: &str, name: &str, variable: Variable) -> Fault {
         None => (i64::MIN, i64::MAX),
     };
     match variable.start {
-        None => fault(
-            format!(in alloc; "{at}: :{name} starts as nil, which is outside its limits, {least} to {greatest}."),
-        ),
-        Some(start) => fault(
-            format!(in alloc; "{at}: :{name} starts as {start}, which is outside its limits, {least} to {greatest}."),
-        ),
+        None => fault(format!(in alloc;
+            "{at}: :{name} starts as nil, which is outside its limits, {least} to {greatest}."
+        )),
+        Some(start) => fault(format!(in alloc;
+            "{at}: :{name} starts as {start}, which is outside its limits, {least} to {greatest}."
+        )),
     }
 }

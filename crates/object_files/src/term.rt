@@ -20,7 +20,8 @@ pub const DEEPEST: u8 = 32;
 const MOST_TRUTHS: usize = 16;
 
 const FUNCTIONS: [&str; 15] = [
-    "plus", "minus", "mod", "min", "max", "eq", "ne", "lt", "le", "gt", "ge", "and", "or", "not", "if",
+    "plus", "minus", "mod", "min", "max", "eq", "ne", "lt", "le", "gt", "ge", "and", "or", "not",
+    "if",
 ];
 
 // What a function is made of.
@@ -125,9 +126,9 @@ pub fn term_of(
         Some(members) => called(alloc, scope, at, words, deep - 1, members),
         None => {
             let shown = shown(alloc, element)?;
-            Err(fault(
-                format!(in alloc; "{at}: {shown} is no value. A value is nil, true, false, an integer, a name or a vector of a function."),
-            ))
+            Err(fault(format!(in alloc;
+                "{at}: {shown} is no value. A value is nil, true, false, an integer, a name or a vector of a function."
+            )))
         }
     }
 }
@@ -143,22 +144,22 @@ fn called(
     members: &[Edn],
 ) -> Result<(Term, Sort), Fault> {
     let Some((first, values)) = members.split_first() else {
-        return Err(fault(
-            format!(in alloc; "{at}: an empty vector stands where a function is wanted, as in [:plus :sum 1]."),
-        ));
+        return Err(fault(format!(in alloc;
+            "{at}: an empty vector stands where a function is wanted, as in [:plus :sum 1]."
+        )));
     };
     let Some(name) = first.as_keyword() else {
         let shown = shown(alloc, first)?;
-        return Err(fault(
-            format!(in alloc; "{at}: {shown} stands where a function is wanted, as in [:plus :sum 1]."),
-        ));
+        return Err(fault(format!(in alloc;
+            "{at}: {shown} stands where a function is wanted, as in [:plus :sum 1]."
+        )));
     };
     let Some(function) = function_named(name) else {
         let meant = meant(alloc, name, &FUNCTIONS)?;
         let keys = listed(alloc, &FUNCTIONS)?;
-        return Err(fault(
-            format!(in alloc; "{at}: there is no function :{name}{meant} The functions are {keys}."),
-        ));
+        return Err(fault(format!(in alloc;
+            "{at}: there is no function :{name}{meant} The functions are {keys}."
+        )));
     };
     let (least, most) = values_of(function);
     let many = values.len();
@@ -176,7 +177,14 @@ fn called(
         terms.push(term)?;
         sorts.push(sort)?;
     }
-    let sort = sort_of(alloc, at, name, function, terms.as_slice(), sorts.as_slice())?;
+    let sort = sort_of(
+        alloc,
+        at,
+        name,
+        function,
+        terms.as_slice(),
+        sorts.as_slice(),
+    )?;
     let term = made(alloc, function, terms)?;
     Ok((term, sort))
 }
@@ -205,15 +213,22 @@ fn made(alloc: Global, function: Function, mut terms: Vec<Term>) -> Result<Term,
 }
 
 // Tests that no value is of the sort that is not wanted.
-fn test_sorts(alloc: Global, at: &str, name: &str, wanted: Sort, refused: Sort, sorts: &[Sort]) -> Result<(), Fault> {
+fn test_sorts(
+    alloc: Global,
+    at: &str,
+    name: &str,
+    wanted: Sort,
+    refused: Sort,
+    sorts: &[Sort],
+) -> Result<(), Fault> {
     let mut number: usize = 0;
     for sort in sorts {
         number = number.saturating_add(1);
         if *sort == refused {
             let (wanted, sort) = (wanted.text(), refused.text());
-            return Err(fault(
-                format!(in alloc; "{at}: :{name} wants {wanted}, and value {number} is {sort}."),
-            ));
+            return Err(fault(format!(in alloc;
+                "{at}: :{name} wants {wanted}, and value {number} is {sort}."
+            )));
         }
     }
     Ok(())
@@ -257,9 +272,9 @@ fn sort_of(
 // The sort of a choice: that of both values, if they have one sort.
 fn sort_of_choice(alloc: Global, at: &str, sorts: &[Sort]) -> Result<Sort, Fault> {
     match sorts {
-        [Sort::Number, ..] => Err(fault(
-            format!(in alloc; "{at}: :if wants true or false first, and this is a number."),
-        )),
+        [Sort::Number, ..] => Err(fault(format!(in alloc;
+            "{at}: :if wants true or false first, and this is a number."
+        ))),
         [_, a, b] => Ok(if *a == *b { *a } else { Sort::Any }),
         _ => Ok(Sort::Any),
     }
@@ -268,9 +283,9 @@ fn sort_of_choice(alloc: Global, at: &str, sorts: &[Sort]) -> Result<Sort, Fault
 // Tests that values of these sorts may be the same.
 fn test_compared(alloc: Global, at: &str, name: &str, sorts: &[Sort]) -> Result<(), Fault> {
     match sorts {
-        [Sort::Number, Sort::Truth] | [Sort::Truth, Sort::Number] => Err(fault(
-            format!(in alloc; "{at}: :{name} compares a number with true or false, which are never the same."),
-        )),
+        [Sort::Number, Sort::Truth] | [Sort::Truth, Sort::Number] => Err(fault(format!(in alloc;
+            "{at}: :{name} compares a number with true or false, which are never the same."
+        ))),
         _ => Ok(()),
     }
 }

@@ -1,3 +1,4 @@
 mod Bounded
 mod Outcomes
 mod Reading
+mod Starting

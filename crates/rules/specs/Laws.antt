@@ -9,6 +9,10 @@ use Rattle.rules.specs.Meaning.{State, is_within, outcome_of}
 abbrev pub KeepsLimits : Rules → State → Type 0
 KeepsLimits rules state = (place : ℕ) (variable : VariableOf) (value : Option ℤ) → slice_get rules.variables.items place ≡ Some variable → slice_get state place ≡ Some value → is_within variable.limits value ≡ true
 
+-- each variable starts within its limits
+abbrev pub StartsWithin : Rules → Type 0
+StartsWithin rules = (place : ℕ) (variable : VariableOf) → slice_get rules.variables.items place ≡ Some variable → is_within variable.limits variable.start ≡ true
+
 -- each place at which no variable stands holds nil
 abbrev pub IsNilBeyond : Rules → State → Type 0
 IsNilBeyond rules state = (place : ℕ) (value : Option ℤ) → slice_get rules.variables.items place ≡ None → slice_get state place ≡ Some value → value ≡ None

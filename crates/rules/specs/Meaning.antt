@@ -123,8 +123,8 @@ case_outcome variables before given reads case =
     with_value (value_of case.when before given) (λ condition.
     with_value (truth_in condition) (λ truth.
     chosen truth (
-        with_value (state_after variables before given (if reads then [] else case.set.items) before) (λ after.
-        with_value (found_by case.answer before given) (λ found. Some (after, found)))
+    with_value (state_after variables before given (if reads then [] else case.set.items) before) (λ after.
+    with_value (found_by case.answer before given) (λ found. Some (after, found)))
     ) None))
 
 -- the first of the two, if there is one

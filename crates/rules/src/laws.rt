@@ -5,8 +5,8 @@ ghost use Rattle.std.specs.Ordering.{int_eq};
 ghost use Rattle.std.specs.Cmp.Lexicographic.{pointwise};
 ghost use Rattle.rules.specs.declared.finding.Found.{Found};
 ghost use Rattle.rules.specs.declared.rules.Rules.{Rules};
-ghost use Rattle.rules.specs.Meaning.{State, outcome_of, reads, read_name};
-ghost use Rattle.rules.specs.Laws.{KeepsLimits, IsNilBeyond, LeadsTo};
+ghost use Rattle.rules.specs.Meaning.{State, outcome_of, reads, read_name, start_of};
+ghost use Rattle.rules.specs.Laws.{KeepsLimits, IsNilBeyond, LeadsTo, StartsWithin};
 
 /// An operation of a name that reads leaves the state as it was; and `read` is such a name, whatever its cases set.
 pub fn reads_law()
@@ -24,6 +24,12 @@ pub fn limits_law()
         IsNilBeyond rules s → LeadsTo rules name given s t found → IsNilBeyond rules t }
     ensures places { (rules : Rules) (name : ℕ) (given : List ℤ) (s t : State) (found : Found) →
         LeadsTo rules name given s t found → length t ≡ length s }
+{}
+
+/// The state at first keeps the limits if each variable starts within its own, and it holds nil at each place without a variable.
+pub fn start_law()
+    ensures limits { (rules : Rules) → StartsWithin rules → KeepsLimits rules (start_of rules) }
+    ensures nil { (rules : Rules) → IsNilBeyond rules (start_of rules) }
 {}
 
 /// States that compare equal are the same state.

@@ -20,7 +20,7 @@ mod tests;
 mod value;
 
 pub use finding::{Found, fits};
-pub use laws::{limits_law, reads_law, states_law};
+pub use laws::{limits_law, reads_law, start_law, states_law};
 pub use rule::{Answer, Assignment, Case, Limits, Operation, READ, Variable};
 pub use rules::{MOST_VARIABLES, Rules, State};
 pub use term::{Operator, Term};

@@ -7,7 +7,9 @@ use std::alloc::{AllocError, Global};
 use std::test::Fail;
 
 const ACQUIRE: u8 = 8;
+
 const TRY_ACQUIRE: u8 = 9;
+
 const ADD: u8 = 7;
 
 fn always() -> Term {
@@ -27,7 +29,13 @@ fn moved(alloc: Global, operator: Operator, by: Term) -> Result<Vec<Assignment>,
 }
 
 // An operation of one case, or of two.
-fn operation(alloc: Global, name: u8, given: u8, first: Case, second: Option<Case>) -> Result<Operation, AllocError> {
+fn operation(
+    alloc: Global,
+    name: u8,
+    given: u8,
+    first: Case,
+    second: Option<Case>,
+) -> Result<Operation, AllocError> {
     let mut cases = Vec::new(alloc);
     cases.push(first)?;
     if let Some(case) = second {
@@ -41,7 +49,10 @@ fn semaphore(alloc: Global) -> Result<Rules, AllocError> {
     let mut variables = Vec::new(alloc);
     variables.push(Variable {
         start: Some(2),
-        limits: Some(Limits { least: 0, greatest: 2 }),
+        limits: Some(Limits {
+            least: 0,
+            greatest: 2,
+        }),
     })?;
     let acquired = Case {
         when: always(),
@@ -61,13 +72,19 @@ fn semaphore(alloc: Global) -> Result<Rules, AllocError> {
     let mut operations = Vec::new(alloc);
     operations.push(operation(alloc, ACQUIRE, 0, acquired, None)?)?;
     operations.push(operation(alloc, TRY_ACQUIRE, 0, tried, Some(none_free))?)?;
-    Ok(Rules { variables, operations })
+    Ok(Rules {
+        variables,
+        operations,
+    })
 }
 
 // A counter from 0: its adds must say nothing, and a read may answer nil.
 fn counter(alloc: Global) -> Result<Rules, AllocError> {
     let mut variables = Vec::new(alloc);
-    variables.push(Variable { start: Some(0), limits: None })?;
+    variables.push(Variable {
+        start: Some(0),
+        limits: None,
+    })?;
     let added = Case {
         when: always(),
         set: moved(alloc, Operator::Plus, Term::Given(0))?,
@@ -81,7 +98,10 @@ fn counter(alloc: Global) -> Result<Rules, AllocError> {
     let mut operations = Vec::new(alloc);
     operations.push(operation(alloc, ADD, 1, added, None)?)?;
     operations.push(operation(alloc, READ, 0, read, None)?)?;
-    Ok(Rules { variables, operations })
+    Ok(Rules {
+        variables,
+        operations,
+    })
 }
 
 // A state whose first variable is this integer.
@@ -93,12 +113,21 @@ fn holding(integer: i64) -> State {
 fn permits_run_out(rt: HostRuntime) -> Result<(), Fail> {
     let rules = semaphore(rt.alloc())?;
     assert_eq!(rt; rules.start(), holding(2));
-    assert_eq!(rt; rules.outcome(ACQUIRE, &[], &holding(2)), Some((holding(1), Found::Anything)));
+    assert_eq!(rt;
+        rules.outcome(ACQUIRE, &[], &holding(2)),
+        Some((holding(1), Found::Anything))
+    );
     assert_eq!(rt; rules.outcome(ACQUIRE, &[], &holding(0)), None);
     let taken = Found::Exactly(Some(1));
     let refused = Found::Exactly(Some(0));
-    assert_eq!(rt; rules.outcome(TRY_ACQUIRE, &[], &holding(1)), Some((holding(0), taken)));
-    assert_eq!(rt; rules.outcome(TRY_ACQUIRE, &[], &holding(0)), Some((holding(0), refused)));
+    assert_eq!(rt;
+        rules.outcome(TRY_ACQUIRE, &[], &holding(1)),
+        Some((holding(0), taken))
+    );
+    assert_eq!(rt;
+        rules.outcome(TRY_ACQUIRE, &[], &holding(0)),
+        Some((holding(0), refused))
+    );
     assert!(rt; fits(refused, Some(0)) && !fits(refused, None) && !fits(refused, Some(1)));
     Ok(())
 }
@@ -106,7 +135,10 @@ fn permits_run_out(rt: HostRuntime) -> Result<(), Fail> {
 #[test]
 fn sums_end_at_64_bits(rt: HostRuntime) -> Result<(), Fail> {
     let rules = counter(rt.alloc())?;
-    assert_eq!(rt; rules.outcome(ADD, &[-3], &holding(5)), Some((holding(2), Found::Anything)));
+    assert_eq!(rt;
+        rules.outcome(ADD, &[-3], &holding(5)),
+        Some((holding(2), Found::Anything))
+    );
     assert_eq!(rt; rules.outcome(ADD, &[1], &holding(i64::MAX)), None);
     assert_eq!(rt; rules.outcome(ADD, &[-1], &holding(i64::MIN)), None);
     Ok(())
@@ -116,7 +148,10 @@ fn sums_end_at_64_bits(rt: HostRuntime) -> Result<(), Fail> {
 fn reads_set_nothing(rt: HostRuntime) -> Result<(), Fail> {
     let rules = counter(rt.alloc())?;
     let found = Found::OrNil(5);
-    assert_eq!(rt; rules.outcome(READ, &[], &holding(5)), Some((holding(5), found)));
+    assert_eq!(rt;
+        rules.outcome(READ, &[], &holding(5)),
+        Some((holding(5), found))
+    );
     assert!(rt; fits(found, Some(5)) && fits(found, None) && !fits(found, Some(4)));
     assert!(rt; rules.reads(READ) && !rules.reads(ADD));
     Ok(())
