@@ -30,7 +30,7 @@ impl<T: Drop> From<AllocFailed<T>> for Fault {
 }
 
 /// The fault of this text, if there was memory for it.
-pub fn fault(text: Result<String, AllocError>) -> Fault {
+pub fn refused(text: Result<String, AllocError>) -> Fault {
     match text {
         Ok(text) => Fault::Refused(text),
         Err(_) => Fault::NoMemory,

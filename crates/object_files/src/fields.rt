@@ -1,6 +1,6 @@
 //! Maps with known keys.
 
-use crate::fault::{Fault, fault};
+use crate::fault::{Fault, refused};
 use crate::nearest::{listed, meant};
 use edn::Edn;
 use std::alloc::{AllocError, Global};
@@ -48,12 +48,14 @@ pub fn test_keys(
     for pair in pairs {
         let Some(name) = pair.0.as_keyword() else {
             let shown = shown(alloc, &pair.0)?;
-            return Err(fault(format!(in alloc; "{at}: {shown} stands where a keyword is wanted.")));
+            return Err(refused(format!(in alloc;
+                "{at}: {shown} stands where a keyword is wanted."
+            )));
         };
         if !is_known(name, known) {
             let meant = meant(alloc, name, known)?;
             let keys = listed(alloc, known)?;
-            return Err(fault(format!(in alloc;
+            return Err(refused(format!(in alloc;
                 "{at}: there is no key :{name}{meant} The keys are {keys}."
             )));
         }

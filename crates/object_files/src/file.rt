@@ -3,7 +3,7 @@ ghost use Rattle.std.specs.Prelude.{◌≤◌, length, IfOk};
 ghost use Rattle.std.specs.List.{All};
 ghost use Rattle.object_files.specs.Measures.{IsMeasured};
 
-use crate::fault::{Fault, fault};
+use crate::fault::{Fault, refused};
 use crate::names::{Names, names_of};
 use crate::object::{Object, object_of};
 use edn::{Edn, Refusal};
@@ -39,7 +39,7 @@ fn elements_of(alloc: Global, text: &[u8]) -> Result<Vec<Edn>, Fault> {
         Ok(elements) => Ok(elements),
         Err(Refusal::Unreadable(place)) => {
             let line = line_of(text, place);
-            Err(fault(format!(in alloc;
+            Err(refused(format!(in alloc;
                 "line {line}: the element that begins here can't be read. It is not closed, has a key twice, an integer outside 64 bits, more than 32 collections in one another, or a form that is not read here."
             )))
         }
@@ -58,19 +58,19 @@ pub fn read(alloc: Global, text: &[u8]) -> Result<File, Fault>
 {
     let bytes = text.len();
     if bytes > MOST_BYTES {
-        return Err(fault(format!(in alloc;
+        return Err(refused(format!(in alloc;
             "the file has {bytes} bytes. It may have {MOST_BYTES} at most."
         )));
     }
     let elements = elements_of(alloc, text)?;
     let many = elements.len();
     if many == 0 {
-        return Err(fault(format!(in alloc;
+        return Err(refused(format!(in alloc;
             "the file declares no object. An object is {{:object :name, :state {{..}}, :ops {{..}}}}."
         )));
     }
     if many > MOST_OBJECTS {
-        return Err(fault(format!(in alloc;
+        return Err(refused(format!(in alloc;
             "the file declares {many} objects. It may declare {MOST_OBJECTS} at most."
         )));
     }

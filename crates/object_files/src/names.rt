@@ -1,6 +1,6 @@
 //! The names of operations, and their numbers.
 
-use crate::fault::{Fault, fault};
+use crate::fault::{Fault, refused};
 use crate::fields::pairs_of;
 use edn::Edn;
 use std::alloc::Global;
@@ -154,7 +154,7 @@ fn note(alloc: Global, own: &mut Vec<OwnName>, name: &str, asks: bool) -> Result
         }
     }
     if own.len() >= MOST_NAMES {
-        return Err(fault(format!(in alloc;
+        return Err(refused(format!(in alloc;
             "the file has more than {MOST_NAMES} names of operations of its own."
         )));
     }

@@ -2,7 +2,7 @@
 ghost use Rattle.std.specs.Prelude.{◌<◌, ◌≤◌, length, IfOk, OnOk};
 ghost use Rattle.object_files.specs.Measures.{AllStartWithin, IsMeasured};
 
-use crate::fault::{Fault, fault};
+use crate::fault::{Fault, refused};
 use crate::fields::{pairs_of, shown, test_keys};
 use crate::names::Names;
 use crate::nearest::meant;
@@ -58,19 +58,19 @@ fn name_of(alloc: Global, number: usize, element: &Edn, made: &[Object]) -> Resu
         None => None,
     };
     let Some(name) = name else {
-        return Err(fault(format!(in alloc;
+        return Err(refused(format!(in alloc;
             "object {number}: its name is wanted, as :object :semaphore."
         )));
     };
     for kind in &KINDS {
         if *kind == name {
-            return Err(fault(format!(in alloc;
+            return Err(refused(format!(in alloc;
                 "object :{name}: this is a kind that the program has. Choose another name."
             )));
         }
     }
     if object_named(name, made).is_some() {
-        return Err(fault(format!(in alloc; "object :{name}: it is declared twice.")));
+        return Err(refused(format!(in alloc; "object :{name}: it is declared twice.")));
     }
     Ok(String::from_str(alloc, name)?)
 }
@@ -83,7 +83,7 @@ fn no_such(alloc: Global, at: &str, like: &Edn, made: &[Object]) -> Result<Fault
     }
     let shown = shown(alloc, like)?;
     let meant = meant(alloc, like.as_keyword().unwrap_or(""), known.as_slice())?;
-    Ok(fault(format!(in alloc; "{at}: there is no object {shown} before it{meant}")))
+    Ok(refused(format!(in alloc; "{at}: there is no object {shown} before it{meant}")))
 }
 
 // The variables of the object that it is like, if it is like one, and the element that declares their operations.
@@ -106,7 +106,7 @@ fn begun_like(
     };
     if element.get("ops").is_some() {
         let name = other.name.as_str();
-        return Err(fault(format!(in alloc;
+        return Err(refused(format!(in alloc;
             "{at}: it has the operations of :{name}. :ops are not wanted."
         )));
     }
@@ -135,9 +135,9 @@ fn variables_of(
         Some(state) => read_starts(alloc, at, state, is_like, &mut read)?,
         None if is_like => {}
         None => {
-            return Err(fault(
-                format!(in alloc; "{at}: :state {{:variable start ..}} is wanted."),
-            ));
+            return Err(refused(format!(in alloc;
+                "{at}: :state {{:variable start ..}} is wanted."
+            )));
         }
     }
     if let Some(limits) = element.get("limits") {
@@ -161,9 +161,9 @@ pub fn object_of(
     let element = &elements[place];
     let number = place.saturating_add(1);
     let Some(pairs) = pairs_of(element) else {
-        return Err(fault(
-            format!(in alloc; "element {number} is no map. An object is {{:object :name, :state {{..}}, :ops {{..}}}}."),
-        ));
+        return Err(refused(format!(in alloc;
+            "element {number} is no map. An object is {{:object :name, :state {{..}}, :ops {{..}}}}."
+        )));
     };
     let first = format!(in alloc; "object {number}")?;
     test_keys(alloc, first.as_str(), pairs, &OF_OBJECT)?;
@@ -221,7 +221,7 @@ fn test_measures(alloc: Global, at: &str, variables: usize, operations: usize) -
     ensures operations { OnOk result (operations ≤ 32) }
 {
     if variables > MOST_VARIABLES || operations > MOST_OPERATIONS {
-        return Err(fault(format!(in alloc;
+        return Err(refused(format!(in alloc;
             "{at}: it has more than {MOST_VARIABLES} variables or {MOST_OPERATIONS} operations."
         )));
     }

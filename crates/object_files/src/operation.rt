@@ -1,6 +1,6 @@
 //! Operations in a file.
 
-use crate::fault::{Fault, fault};
+use crate::fault::{Fault, refused};
 use crate::fields::{pairs_of, shown, test_keys};
 use crate::names::{Names, built_in_arguments, is_answering};
 use crate::nearest::meant;
@@ -38,11 +38,11 @@ pub fn operations_of(
         None => None,
     };
     let Some(pairs) = pairs else {
-        return Err(fault(format!(in alloc; "{at}: :ops {{:operation {{..}} ..}} is wanted.")));
+        return Err(refused(format!(in alloc; "{at}: :ops {{:operation {{..}} ..}} is wanted.")));
     };
     let many = pairs.len();
     if many == 0 || many > MOST_OPERATIONS {
-        return Err(fault(format!(in alloc;
+        return Err(refused(format!(in alloc;
             "{at}: 1 to {MOST_OPERATIONS} operations are wanted, not {many}."
         )));
     }
@@ -50,7 +50,7 @@ pub fn operations_of(
     for pair in pairs {
         let Some(name) = pair.0.as_keyword() else {
             let shown = shown(alloc, &pair.0)?;
-            return Err(fault(format!(in alloc; "{at}: :ops has {shown}, which is no keyword.")));
+            return Err(refused(format!(in alloc; "{at}: :ops has {shown}, which is no keyword.")));
         };
         let within = format!(in alloc; "{at}, operation :{name}")?;
         let operation = operation_of(
@@ -78,11 +78,11 @@ fn operation_of(
     variables: &[Variable],
 ) -> Result<Operation, Fault> {
     let Some(pairs) = pairs_of(element) else {
-        return Err(fault(format!(in alloc; "{at}: a map is wanted, as {{:set {{..}}}}.")));
+        return Err(refused(format!(in alloc; "{at}: a map is wanted, as {{:set {{..}}}}.")));
     };
     test_keys(alloc, at, pairs, &OF_OPERATION)?;
     let Some(number) = names.number(name) else {
-        return Err(fault(format!(in alloc; "{at}: there are too many names of operations.")));
+        return Err(refused(format!(in alloc; "{at}: there are too many names of operations.")));
     };
     let asks = names.asks(name);
     let arguments = arguments_of(alloc, at, name, element.get("args"), asks, texts)?;
@@ -119,19 +119,19 @@ fn arguments_of(
     let mut arguments: Vec<String> = Vec::new(alloc);
     if let Some(element) = element {
         let Some(members) = element.as_slice() else {
-            return Err(fault(format!(in alloc; "{at}: :args [:value ..] is wanted.")));
+            return Err(refused(format!(in alloc; "{at}: :args [:value ..] is wanted.")));
         };
         for member in members {
             let Some(argument) = member.as_keyword() else {
                 let shown = shown(alloc, member)?;
-                return Err(fault(format!(in alloc;
+                return Err(refused(format!(in alloc;
                     "{at}: :args are keywords, and {shown} is none."
                 )));
             };
             let is_taken = place_of(argument, texts).is_some()
                 || place_of(argument, arguments.as_slice()).is_some();
             if is_taken || argument == "client" {
-                return Err(fault(format!(in alloc;
+                return Err(refused(format!(in alloc;
                     "{at}: the argument :{argument} has the name of something else. Choose another name."
                 )));
             }
@@ -153,7 +153,7 @@ fn test_arguments(
 ) -> Result<(), Fault> {
     let most = if asks { MOST_GIVEN - 1 } else { MOST_GIVEN };
     if many > most {
-        return Err(fault(if asks {
+        return Err(refused(if asks {
             format!(in alloc;
                 "{at}: it has {many} arguments. An operation has 1 argument at most beside :client."
             )
@@ -166,7 +166,7 @@ fn test_arguments(
     match built_in_arguments(name) {
         Some(wanted) if wanted != many => {
             let plural = if wanted == 1 { "" } else { "s" };
-            Err(fault(format!(in alloc;
+            Err(refused(format!(in alloc;
                 "{at}: events of :{name} have {wanted} argument{plural}. For others choose another name."
             )))
         }
@@ -183,18 +183,18 @@ fn cases_of(alloc: Global, at: &str, scope: &Scope, element: &Edn) -> Result<Vec
         return Ok(cases);
     };
     let Some(members) = listed.as_slice() else {
-        return Err(fault(format!(in alloc; "{at}: :cases [{{..}} ..] is wanted.")));
+        return Err(refused(format!(in alloc; "{at}: :cases [{{..}} ..] is wanted.")));
     };
     for key in &OF_CASE {
         if element.get(key).is_some() {
-            return Err(fault(format!(in alloc;
+            return Err(refused(format!(in alloc;
                 "{at}: what it does stands in :cases, and not beside them too."
             )));
         }
     }
     let many = members.len();
     if many == 0 || many > MOST_CASES {
-        return Err(fault(format!(in alloc;
+        return Err(refused(format!(in alloc;
             "{at}: 1 to {MOST_CASES} cases are wanted, not {many}."
         )));
     }
@@ -221,14 +221,14 @@ fn listed_case(
     before: &[Case],
 ) -> Result<Case, Fault> {
     let Some(pairs) = pairs_of(member) else {
-        return Err(fault(format!(in alloc;
+        return Err(refused(format!(in alloc;
             "{at}: a map is wanted, as {{:when .., :set {{..}}}}."
         )));
     };
     test_keys(alloc, at, pairs, &OF_CASE)?;
     if let Some(last) = before.last() {
         if always_holds(last, scope.variables) {
-            return Err(fault(format!(in alloc;
+            return Err(refused(format!(in alloc;
                 "{at}: it is never reached, since the case before it always holds."
             )));
         }
@@ -258,7 +258,7 @@ fn case_of(alloc: Global, at: &str, scope: &Scope, element: &Edn) -> Result<Case
             Answer::OrNil(term)
         }
         (Some(_), Some(_)) => {
-            return Err(fault(format!(in alloc;
+            return Err(refused(format!(in alloc;
                 "{at}: :answer or :answer-or-nil is wanted, not both."
             )));
         }
@@ -276,7 +276,9 @@ fn condition_of(
 ) -> Result<Term, Fault> {
     let (term, sort) = term_of(alloc, scope, at, words, DEEPEST, element)?;
     if sort == Sort::Number {
-        return Err(fault(format!(in alloc; "{at}: :when is true or false, and this is a number.")));
+        return Err(refused(format!(in alloc;
+            "{at}: :when is true or false, and this is a number."
+        )));
     }
     Ok(term)
 }
@@ -290,7 +292,7 @@ fn assignments_of(
     element: &Edn,
 ) -> Result<Vec<Assignment>, Fault> {
     let Some(pairs) = pairs_of(element) else {
-        return Err(fault(format!(in alloc; "{at}: :set {{:variable value ..}} is wanted.")));
+        return Err(refused(format!(in alloc; "{at}: :set {{:variable value ..}} is wanted.")));
     };
     let mut assignments = Vec::new(alloc);
     for pair in pairs {
@@ -311,7 +313,7 @@ fn assignments_of(
 fn place_set(alloc: Global, at: &str, scope: &Scope, key: &Edn) -> Result<u8, Fault> {
     let name = key.as_keyword().unwrap_or("");
     if place_of(name, scope.arguments).is_some() {
-        return Err(fault(format!(in alloc;
+        return Err(refused(format!(in alloc;
             "{at}: :set has the argument :{name}. Only variables of the state are set."
         )));
     }
@@ -321,7 +323,7 @@ fn place_set(alloc: Global, at: &str, scope: &Scope, key: &Edn) -> Result<u8, Fa
             let shown = shown(alloc, key)?;
             let known = texts_of(alloc, scope.names)?;
             let meant = meant(alloc, name, known.as_slice())?;
-            Err(fault(format!(in alloc;
+            Err(refused(format!(in alloc;
                 "{at}: :set has {shown}, which is no variable of the state{meant}"
             )))
         }
@@ -347,7 +349,7 @@ fn test_constant(
     }
     let name = shown(alloc, &pair.0)?;
     let shown = shown(alloc, &pair.1)?;
-    Err(fault(format!(in alloc;
+    Err(refused(format!(in alloc;
         "{at}: {name} is set to {shown}, which is outside its limits, {least} to {greatest}."
     )))
 }
@@ -383,7 +385,7 @@ fn test_answers(alloc: Global, at: &str, cases: &[Case]) -> Result<(), Fault> {
         }
     }
     if silent > 0 && silent < cases.len() {
-        return Err(fault(format!(in alloc;
+        return Err(refused(format!(in alloc;
             "{at}: some of its cases answer and others do not, so that any answer would fit these. Let each of them answer, or none."
         )));
     }
@@ -402,18 +404,18 @@ fn test_built_in(
         return Ok(());
     }
     if asks {
-        return Err(fault(format!(in alloc;
+        return Err(refused(format!(in alloc;
             "{at}: events of :{name} do not say who did it, and it asks for :client. Choose another name, as :{name}-by."
         )));
     }
     for case in cases {
         if !is_answering(name) && !matches!(case.answer, Answer::Any) {
-            return Err(fault(format!(in alloc;
+            return Err(refused(format!(in alloc;
                 "{at}: the :ok of :{name} repeats its :invoke, so it has no answer. Choose another name, as :{name}?."
             )));
         }
         if name == "read" && !case.set.is_empty() {
-            return Err(fault(format!(in alloc;
+            return Err(refused(format!(in alloc;
                 "{at}: a :read leaves the state as it was, and this one sets a variable. Choose another name."
             )));
         }

@@ -1,6 +1,6 @@
 //! What the words of an operation may name.
 
-use crate::fault::{Fault, fault};
+use crate::fault::{Fault, refused};
 use crate::nearest::{listed, meant};
 use crate::sort::Sort;
 use rules::{Term, Variable};
@@ -64,7 +64,7 @@ impl<'a> Scope<'a> {
         }
         let meant = meant(alloc, name, known.as_slice())?;
         let keys = listed(alloc, known.as_slice())?;
-        Err(fault(format!(in alloc;
+        Err(refused(format!(in alloc;
             "{at}: there is no :{name}{meant} There are {keys} and :client."
         )))
     }

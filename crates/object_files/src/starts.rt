@@ -3,7 +3,7 @@ ghost use Rattle.std.specs.Prelude.{◌↔◌, IsTrue, OnOk};
 ghost use Rattle.object_files.specs.Measures.{StartsWithin, AllStartWithin};
 
 use crate::constants::constant;
-use crate::fault::{Fault, fault};
+use crate::fault::{Fault, refused};
 use crate::fields::{pairs_of, shown};
 use crate::nearest::meant;
 use crate::scope::{place_of, texts_of};
@@ -27,21 +27,23 @@ pub fn read_starts(
     read: &mut Variables,
 ) -> Result<(), Fault> {
     let Some(pairs) = pairs_of(state) else {
-        return Err(fault(format!(in alloc; "{at}: :state {{:variable start ..}} is wanted.")));
+        return Err(refused(format!(in alloc; "{at}: :state {{:variable start ..}} is wanted.")));
     };
     let many = pairs.len();
     if !is_like && (many == 0 || many > MOST_VARIABLES) {
-        return Err(fault(format!(in alloc;
+        return Err(refused(format!(in alloc;
             "{at}: 1 to {MOST_VARIABLES} variables are wanted, not {many}."
         )));
     }
     for pair in pairs {
         let Some(name) = pair.0.as_keyword() else {
             let shown = shown(alloc, &pair.0)?;
-            return Err(fault(format!(in alloc; "{at}: :state has {shown}, which is no keyword.")));
+            return Err(refused(format!(in alloc;
+                "{at}: :state has {shown}, which is no keyword."
+            )));
         };
         if name == "client" {
-            return Err(fault(format!(in alloc;
+            return Err(refused(format!(in alloc;
                 "{at}: :client is who did it, and names no variable."
             )));
         }
@@ -49,11 +51,11 @@ pub fn read_starts(
         if is_like && place.is_none() {
             let known = texts_of(alloc, read.names.as_slice())?;
             let meant = meant(alloc, name, known.as_slice())?;
-            return Err(fault(format!(in alloc; "{at}: there is no variable :{name}{meant}")));
+            return Err(refused(format!(in alloc; "{at}: there is no variable :{name}{meant}")));
         }
         let Some((start, _sort)) = constant(&pair.1) else {
             let shown = shown(alloc, &pair.1)?;
-            return Err(fault(format!(in alloc;
+            return Err(refused(format!(in alloc;
                 "{at}: :{name} starts as {shown}. A variable starts as nil, true, false or an integer."
             )));
         };
@@ -98,7 +100,7 @@ pub fn read_limits(
     read: &mut Variables,
 ) -> Result<(), Fault> {
     let Some(pairs) = pairs_of(limits) else {
-        return Err(fault(format!(in alloc;
+        return Err(refused(format!(in alloc;
             "{at}: :limits {{:variable [least greatest] ..}} is wanted."
         )));
     };
@@ -108,7 +110,7 @@ pub fn read_limits(
             let shown = shown(alloc, &pair.0)?;
             let known = texts_of(alloc, read.names.as_slice())?;
             let meant = meant(alloc, name, known.as_slice())?;
-            return Err(fault(format!(in alloc;
+            return Err(refused(format!(in alloc;
                 "{at}: :limits has {shown}, which is no variable{meant}"
             )));
         };
@@ -135,12 +137,12 @@ fn limits_of(alloc: Global, at: &str, name: &str, element: &Edn) -> Result<Limit
                     greatest: *greatest,
                 })
             } else {
-                Err(fault(format!(in alloc;
+                Err(refused(format!(in alloc;
                     "{at}: the limits of :{name} are two integers, the least first."
                 )))
             }
         }
-        _ => Err(fault(format!(in alloc;
+        _ => Err(refused(format!(in alloc;
             "{at}: the limits of :{name} are two integers, as [0 10]."
         ))),
     }
@@ -187,10 +189,10 @@ fn outside(alloc: Global, at: &str, name: &str, variable: Variable) -> Fault {
         None => (i64::MIN, i64::MAX),
     };
     match variable.start {
-        None => fault(format!(in alloc;
+        None => refused(format!(in alloc;
             "{at}: :{name} starts as nil, which is outside its limits, {least} to {greatest}."
         )),
-        Some(start) => fault(format!(in alloc;
+        Some(start) => refused(format!(in alloc;
             "{at}: :{name} starts as {start}, which is outside its limits, {least} to {greatest}."
         )),
     }

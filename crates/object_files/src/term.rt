@@ -1,7 +1,7 @@
 //! Terms in a file.
 
 use crate::constants::constant;
-use crate::fault::{Fault, fault};
+use crate::fault::{Fault, refused};
 use crate::fields::shown;
 use crate::nearest::{listed, meant};
 use crate::scope::Scope;
@@ -113,7 +113,9 @@ pub fn term_of(
     element: &Edn,
 ) -> Result<(Term, Sort), Fault> {
     if *words >= MOST_WORDS || deep == 0 {
-        return Err(fault(format!(in alloc; "{at}: its values have more than {MOST_WORDS} words.")));
+        return Err(refused(format!(in alloc;
+            "{at}: its values have more than {MOST_WORDS} words."
+        )));
     }
     *words += 1;
     if let Some(name) = element.as_keyword() {
@@ -126,7 +128,7 @@ pub fn term_of(
         Some(members) => called(alloc, scope, at, words, deep - 1, members),
         None => {
             let shown = shown(alloc, element)?;
-            Err(fault(format!(in alloc;
+            Err(refused(format!(in alloc;
                 "{at}: {shown} is no value. A value is nil, true, false, an integer, a name or a vector of a function."
             )))
         }
@@ -144,27 +146,27 @@ fn called(
     members: &[Edn],
 ) -> Result<(Term, Sort), Fault> {
     let Some((first, values)) = members.split_first() else {
-        return Err(fault(format!(in alloc;
+        return Err(refused(format!(in alloc;
             "{at}: an empty vector stands where a function is wanted, as in [:plus :sum 1]."
         )));
     };
     let Some(name) = first.as_keyword() else {
         let shown = shown(alloc, first)?;
-        return Err(fault(format!(in alloc;
+        return Err(refused(format!(in alloc;
             "{at}: {shown} stands where a function is wanted, as in [:plus :sum 1]."
         )));
     };
     let Some(function) = function_named(name) else {
         let meant = meant(alloc, name, &FUNCTIONS)?;
         let keys = listed(alloc, &FUNCTIONS)?;
-        return Err(fault(format!(in alloc;
+        return Err(refused(format!(in alloc;
             "{at}: there is no function :{name}{meant} The functions are {keys}."
         )));
     };
     let (least, most) = values_of(function);
     let many = values.len();
     if many < least || most < many {
-        return Err(fault(if least == most {
+        return Err(refused(if least == most {
             format!(in alloc; "{at}: :{name} is of {least} values, and has {many}.")
         } else {
             format!(in alloc; "{at}: :{name} is of {least} to {most} values, and has {many}.")
@@ -218,15 +220,15 @@ fn test_sorts(
     at: &str,
     name: &str,
     wanted: Sort,
-    refused: Sort,
+    unwanted: Sort,
     sorts: &[Sort],
 ) -> Result<(), Fault> {
     let mut number: usize = 0;
     for sort in sorts {
         number = number.saturating_add(1);
-        if *sort == refused {
-            let (wanted, sort) = (wanted.text(), refused.text());
-            return Err(fault(format!(in alloc;
+        if *sort == unwanted {
+            let (wanted, sort) = (wanted.text(), unwanted.text());
+            return Err(refused(format!(in alloc;
                 "{at}: :{name} wants {wanted}, and value {number} is {sort}."
             )));
         }
@@ -272,7 +274,7 @@ fn sort_of(
 // The sort of a choice: that of both values, if they have one sort.
 fn sort_of_choice(alloc: Global, at: &str, sorts: &[Sort]) -> Result<Sort, Fault> {
     match sorts {
-        [Sort::Number, ..] => Err(fault(format!(in alloc;
+        [Sort::Number, ..] => Err(refused(format!(in alloc;
             "{at}: :if wants true or false first, and this is a number."
         ))),
         [_, a, b] => Ok(if *a == *b { *a } else { Sort::Any }),
@@ -283,7 +285,7 @@ fn sort_of_choice(alloc: Global, at: &str, sorts: &[Sort]) -> Result<Sort, Fault
 // Tests that values of these sorts may be the same.
 fn test_compared(alloc: Global, at: &str, name: &str, sorts: &[Sort]) -> Result<(), Fault> {
     match sorts {
-        [Sort::Number, Sort::Truth] | [Sort::Truth, Sort::Number] => Err(fault(format!(in alloc;
+        [Sort::Number, Sort::Truth] | [Sort::Truth, Sort::Number] => Err(refused(format!(in alloc;
             "{at}: :{name} compares a number with true or false, which are never the same."
         ))),
         _ => Ok(()),
@@ -297,7 +299,7 @@ fn test_divisor(alloc: Global, at: &str, terms: &[Term]) -> Result<(), Fault> {
             return Ok(());
         }
     }
-    Err(fault(format!(in alloc; "{at}: :mod is by an integer above 0 that stands there.")))
+    Err(refused(format!(in alloc; "{at}: :mod is by an integer above 0 that stands there.")))
 }
 
 /// Whether the term has a value in every state. It may have one all the same.
