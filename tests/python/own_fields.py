@@ -1,4 +1,4 @@
-"""What stands in a file of objects: maps with known keys, vectors and constants, and a refusal where something else does."""
+"""Reads the parts of a file of objects: maps with known keys, vectors and constants. Anything else is refused."""
 from __future__ import annotations
 
 from typing import Dict, Iterable, List, NamedTuple, NoReturn, Optional, Sequence, Tuple
@@ -9,7 +9,7 @@ from .own_rules import Term
 
 
 class Refused(Exception):
-    """The file is refused: where, what is wrong, and what is wanted."""
+    """The file is refused: its place, the mistake and the remedy."""
 
 
 class Place(NamedTuple):

@@ -1,5 +1,5 @@
-"""Reads files of objects, as `crates/object_files` does: integers and nil, cases in order. A fault is refused by its place, what is wrong and
-what is wanted. What the rules mean is in own_rules.py."""
+"""Reads files of objects, as `crates/object_files` does: integers and nil, cases in order. A fault is refused with its place,
+the mistake and the remedy. own_rules.py has the meaning of the rules."""
 from __future__ import annotations
 
 from typing import Dict, FrozenSet, List, NamedTuple, Optional, Sequence, Tuple
@@ -165,7 +165,7 @@ def operations_of(ops: Optional[Element], variables: Tuple[str, ...], limits: Di
 
 
 class OfOperation:
-    """What the words of one operation may name."""
+    """One operation, and the names that its words may have."""
 
     def __init__(self, name: str, variables: Tuple[str, ...], limits: Dict[str, Tuple[int, int]], asks: bool, at: Place) -> None:
         self.name, self.variables, self.limits, self.asks, self.at = name, variables, limits, asks, at

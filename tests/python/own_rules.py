@@ -14,7 +14,7 @@ class Missing(Exception):
 
 
 class Term(NamedTuple):
-    """What is computed: a constant, the variable or the given integer of a place, or a word on other terms."""
+    """A term, which is computed: a constant, the variable or the given integer of a place, or a word on other terms."""
 
     word: str
     value: Value = None
@@ -41,7 +41,7 @@ class Rules(NamedTuple):
 
 
 class Found(NamedTuple):
-    """What an operation finds: it fits these answers, or any."""
+    """The answers that an operation finds, or any."""
 
     answers: Optional[FrozenSet[Value]]
 

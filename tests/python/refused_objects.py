@@ -1,4 +1,4 @@
-"""Files of objects that are refused, each with a part of what is said."""
+"""Files of objects that are refused, each with a part of the message."""
 from __future__ import annotations
 
 from typing import List, Tuple

@@ -1,4 +1,4 @@
-"""Objects of one's own: the examples are judged as they say, and each faulty file is refused by what is wrong with it."""
+"""Objects of one's own: the examples are judged as they say, and each faulty file is refused with its mistake."""
 from __future__ import annotations
 
 import pathlib
@@ -71,7 +71,7 @@ class Refusals(unittest.TestCase):
 
 
 class Laws(unittest.TestCase):
-    """What is proved of every file, tried on the examples: in each state that random operations lead to."""
+    """The laws that hold of every file, tried on the examples, in each state that random operations lead to."""
 
     def states(self, read: Object, numbers: random.Random) -> List[State]:
         states, rules = [read.rules.start], read.rules

@@ -7,7 +7,7 @@ use std::alloc::{AllocError, AllocFailed};
 /// Why a file of objects is refused.
 #[derive(Drop)]
 pub enum Fault {
-    /// The first fault of the file: its place, what is wrong, and what is wanted.
+    /// The first fault of the file: its place, the mistake, and the remedy.
     Refused(String),
     /// A growth in memory was refused.
     NoMemory,

@@ -1,7 +1,7 @@
 //! The reader of files of objects. A file declares objects by rules (the crate `rules`): their variables, and their operations as cases in order.
 //!
-//! [`read`] gives the objects of a file, or refuses it by its first fault: the place, what is wrong, and what is wanted. The faults are for the
-//! author of the file. No law of the rules depends on them, but that each object begins within its limits.
+//! [`read`] gives the objects of a file, or refuses it by its first fault: the place, the mistake and the remedy. The faults are for the author of
+//! the file. The laws of the rules hold without them. Only the law of the start asks that each variable starts within its limits.
 //!
 //! A call allocates only if its result can be `AllocError` or [`Fault::NoMemory`].
 #![tactic(auto)]

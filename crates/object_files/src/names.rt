@@ -91,7 +91,7 @@ impl Names {
     }
 }
 
-// Whether `:client` stands in the element, at most so many collections deep.
+// Whether `:client` stands in the element, at most `deep` collections deep.
 fn mentions_client(element: &Edn, deep: u8) -> bool {
     if deep == 0 {
         return false;

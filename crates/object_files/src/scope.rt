@@ -1,4 +1,4 @@
-//! What the words of an operation may name.
+//! The names that the words of an operation may have.
 
 use crate::fault::{Fault, refused};
 use crate::nearest::{listed, meant};

@@ -24,7 +24,7 @@ const FUNCTIONS: [&str; 15] = [
     "if",
 ];
 
-// What a function is made of.
+// The form of a function.
 #[derive(Clone, Copy)]
 enum Function {
     Both(Operator),
@@ -236,7 +236,7 @@ fn test_sorts(
     Ok(())
 }
 
-// The sort of the values of a function of values of these sorts.
+// The sort of a function's values, by those of its terms.
 fn sort_of(
     alloc: Global,
     at: &str,

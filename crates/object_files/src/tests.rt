@@ -24,7 +24,7 @@ fn holding(value: Option<i64>) -> State {
     [value, None, None, None, None, None, None, None]
 }
 
-// What the file is refused by, or a word.
+// The text by which the file is refused, or a word.
 fn refusal(alloc: Global, text: &[u8]) -> Result<String, Fail> {
     match read(alloc, text) {
         Ok(_file) => Ok(String::from_str(alloc, "accepted")?),

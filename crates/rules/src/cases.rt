@@ -9,7 +9,7 @@ use crate::rule::{Answer, Case, Variable};
 use crate::rules::State;
 use crate::value::value_of;
 
-// What is found if the answer may be nil as well.
+// The answer is this value, or nil as well.
 fn or_nil(value: Option<i64>) -> Found
     ensures { result ≡ or_nil value }
 {
@@ -19,7 +19,7 @@ fn or_nil(value: Option<i64>) -> Found
     }
 }
 
-// What is found by the answer, if its value exists.
+// The answer that is found, if its value exists.
 fn found_by(answer: &Answer, before: &[Option<i64>], given: &[i64]) -> Option<Found>
     ensures { result ≡ found_by answer.now before.now given.now }
 {

@@ -2,7 +2,7 @@
 ghost use Rattle.std.specs.Prelude.{◌↔◌, IsTrue};
 ghost use Rattle.rules.specs.Meaning.{Fits};
 
-/// What an operation finds where it takes place. Different ones fit different answers.
+/// The answers that an operation finds, if it takes place. Different ones fit different answers.
 #[derive(Clone, Copy, Debug, PartialEq, Eq, Hash)]
 pub enum Found {
     /// Nothing to tell: fits every answer.

@@ -1,10 +1,10 @@
 //! The rules of an object: its variables, its operations, and for each operation the cases that say what it does.
 //!
 //! The first case that holds is what the operation does ([`Rules::outcome`]). So an operation has at most one outcome: the state after it, and
-//! what it finds. The meaning is defined in `specs/Meaning.antt`. It is a function of every value of [`Rules`], accepted by a reader or not: a
+//! what it finds. `specs/Meaning.antt` defines the meaning, for every value of [`Rules`], accepted by a reader or not. A
 //! word that names nothing has no value, and a case with such a word does not hold.
 //!
-//! No call of this crate allocates, but for the tests.
+//! No call of this crate allocates, except for the tests.
 #![tactic(auto)]
 
 mod arithmetic;

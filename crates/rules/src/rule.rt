@@ -28,7 +28,7 @@ pub struct Assignment {
     pub value: Term,
 }
 
-/// What the ok of an operation must say.
+/// The answer that the ok of an operation must have.
 #[derive(Drop)]
 pub enum Answer {
     /// Anything.

@@ -10,7 +10,7 @@ use crate::rule::{Case, Operation, READ, Variable};
 /// The most variables of a state.
 pub const MOST_VARIABLES: usize = 8;
 
-/// What each variable holds: nil or an integer. A place without a variable holds nil.
+/// The value of each variable, nil or an integer. A place without a variable holds nil.
 pub type State = [Option<i64>; MOST_VARIABLES];
 
 /// Puts the value in this place, if it is there. Takes constant time.
@@ -22,7 +22,7 @@ pub fn put(state: &mut State, place: usize, value: Option<i64>)
     }
 }
 
-/// The rules of an object: its variables by their places, of which those from [`MOST_VARIABLES`] on are not there, and its operations. If
+/// The rules of an object: its variables by their places, and its operations. Variables from the place [`MOST_VARIABLES`] on have no value. If
 /// several have one name, the first counts.
 #[derive(Drop)]
 pub struct Rules {

@@ -44,7 +44,7 @@ fn operation(
     Ok(Operation { name, given, cases })
 }
 
-// Of two permits: acquire takes place while one is free, and try-acquire answers whether one was.
+// A semaphore with two permits: acquire takes place while one is free, and try-acquire answers whether one was.
 fn semaphore(alloc: Global) -> Result<Rules, AllocError> {
     let mut variables = Vec::new(alloc);
     variables.push(Variable {
