@@ -7,14 +7,17 @@
     register => 'wide-register', 'cas-register' => 'wide-cas-register', 'fifo-queue' => 'wide-fifo-queue',
     'unordered-queue' => 'wide-unordered-queue', set => 'wide-set'}).
 
-%% The path that is named, or that JEPMON names; else the program in a folder above this library; else jepmon on the PATH.
+%% The path that is named, or that JEPMON names; else the program in a folder above this library; else in one above the source from which it
+%% was compiled; else jepmon on the PATH.
 find(#{program := Path}) -> Path;
 find(_) ->
     case os:getenv("JEPMON", "") of
         "" ->
-            case above(filename:dirname(filename:absname(code:which(?MODULE)))) of
-                none -> case os:find_executable("jepmon") of false -> "jepmon"; Path -> Path end;
-                Path -> Path
+            Source = proplists:get_value(source, ?MODULE:module_info(compile), ""),
+            Folders = [filename:dirname(filename:absname(File)) || File <- [code:which(?MODULE), Source]],
+            case [Path || Folder <- Folders, Path <- [above(Folder)], Path =/= none] of
+                [Path | _] -> Path;
+                [] -> case os:find_executable("jepmon") of false -> "jepmon"; Path -> Path end
             end;
         Path -> Path
     end.
