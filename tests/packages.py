@@ -136,7 +136,7 @@ def run_bash() -> List[str]:
     (room() / "history.edn").write_text("")
     return (differing("commands", completed("jepmon", "c"), ["check", "confirm"])
             + differing("an option", completed("jepmon", "check", "--mo"), ["--model"])
-            + differing("a kind", completed("jepmon", "check", "--model", "wide"), ["wide-register", "wide-set"])
+            + differing("a kind", completed("jepmon", "check", "--model", "wide-f"), ["wide-fifo-queue"])
             + differing("an option of a tool", completed("jepmon-judge", "--by"), ["--by-ends"])
             + differing("a model of a tool", completed("jepmon-judge", "--model", "cas"), ["cas-register"])
             + differing("a file", completed("jepmon-judge", "hist"), ["history.edn"]))
