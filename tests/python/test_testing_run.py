@@ -10,7 +10,7 @@ import sys
 import tempfile
 import time
 import unittest
-from typing import Callable, List, Optional
+from typing import Any, Callable, List, Optional
 
 from jepmon.testing import ServerError, mounts, template
 from jepmon.testing.cli_options import given
@@ -63,6 +63,32 @@ class Mine(MyServer):
     strikes = {"touch": Strike("{node} is touched {times:g} times", touched, parameters={"times": Parameter(1, 3)})}
 """
 
+CLAIMS = """
+from jepmon.testing import Work
+class Client(MyClient):
+    def claim(self, key):
+        if self.read(key) is not None:
+            return False
+        self.write(key, 1)
+        return True
+class Claims(Work):
+    model, names, CHANGES = "mutex", ("acquire",), 2
+    def step(self, number, client, draws, changes):
+        return self.claim(client, draws.choice(self.handles))
+    def claim(self, client, at):
+        with at.acquire() as op:
+            if not client.claim(int(op.name)):
+                op.fail()
+        return op
+    def finish(self, ask):
+        for one in self.each_left():
+            ask(lambda client: self.claim(client, one))
+class Mine(MyServer):
+    objects, workloads, patience = {"claims": Client}, {"claims": Claims}, 20.0
+    def client(self, number):
+        return Client(self.nodes[0].at)
+"""
+
 
 class Runs(Monitored):
     def words(self, server: str, *words: str) -> List[str]:
@@ -100,8 +126,24 @@ class Runs(Monitored):
         return found
 
     def commands(self) -> List[str]:
-        """Of all processes."""
-        return subprocess.run(["ps", "-eo", "args"], stdout=subprocess.PIPE, universal_newlines=True).stdout.splitlines()
+        """Those of processes that have the folder of this test in their environment. Other tests may run on this machine."""
+        found = []
+        for path in pathlib.Path("/proc").glob("[0-9]*"):
+            try:
+                is_own = os.fsencode(self.room / "tmp") in (path / "environ").read_bytes()
+                words = (path / "cmdline").read_bytes().decode(errors="replace").replace("\0", " ")
+            except OSError:
+                continue
+            if is_own:
+                found.append(words)
+        return found
+
+    def begun(self, words: List[str], **other: Any) -> "subprocess.Popen[str]":
+        """A test that goes on beside this one, and that does not outlive it."""
+        test = subprocess.Popen(words, stdout=subprocess.PIPE, stderr=subprocess.PIPE, universal_newlines=True, env=self.environment(),
+                                cwd=self.room, **other)
+        self.addCleanup(lambda: test.poll() is None and test.kill())
+        return test
 
     def verdict_file(self) -> str:
         return (self.room / "runs" / "latest" / "verdict.txt").read_text().strip()
@@ -142,6 +184,12 @@ class TheTemplate(Runs):
         self.assertEqual(history.count('"n1 is touched 2 times [touch n1, other, times=2]"'), 2)
         self.assertEqual(history.count('"n1 is down, by kill -9 [kill n1, process; while touch n1]"'), 2)
 
+    def test_an_answer_that_is_no_ends_the_asking(self) -> None:
+        """At the end of a workload of its own most operations fail: each lock is held already."""
+        ran = self.ran(self.mine(CLAIMS), "--time", "2", "--clients", "1", "--min-ok", "1", "--nemesis", "none")
+        self.assertEqual((ran.returncode, ran.stderr), (0, ""), ran.stdout)
+        self.assertEqual(ran.stdout.splitlines()[-1], "legal")
+
     def test_it_is_short(self) -> None:
         """The user's files: all but the server that stands for the user's own."""
         self.assertLess(TEMPLATE.read_text().index("# --- The server"), len(TEMPLATE.read_text()))
@@ -179,8 +227,8 @@ class NoVerdict(Runs):
         self.refused(self.mine(NEVER_LISTENS), r"n1 was not ready for 0\.5 s \(.*; its log is ", log="")
 
     def test_one_that_never_answers(self) -> None:
-        self.refused(self.mine(NEVER_ANSWERS), "once the faults were over a client of n1 got no answer for 2 s; its log is ", "--nemesis",
-                     "none", log="")
+        self.refused(self.mine(NEVER_ANSWERS), "once the faults were over no operation of a client of n1 was ok for 2 s, and the last one timed "
+                     "out; its log is ", "--nemesis", "none", log="")
 
     def test_one_whose_disk_is_full(self) -> None:
         self.refused(self.mine(DISK_IS_FULL), "n1 has died by itself, with status 1; its log is .*No space left on device$",
@@ -240,8 +288,7 @@ class Orphans(Runs):
 class BrokenOff(Runs):
     def broken_off(self, number: signal.Signals) -> "tuple[int, str]":
         power = "" if mounts.why_not() else ",power@900"  # each node's folder is a mount, and nothing is lost
-        test = subprocess.Popen(self.words(str(TEMPLATE), "--time", "600", "--nemesis", f"kill@0.5+600{power}"), stdout=subprocess.PIPE, stderr=subprocess.PIPE,
-                                universal_newlines=True, env=self.environment(), cwd=self.room)
+        test = self.begun(self.words(str(TEMPLATE), "--time", "600", "--nemesis", f"kill@0.5+600{power}"))
         history = self.room / "runs" / "latest" / "part-0001" / "history.edn"
         end = time.monotonic() + PATIENCE
         while not (history.exists() and "begin-fault" in history.read_text()) and time.monotonic() < end:
@@ -264,8 +311,7 @@ class BrokenOff(Runs):
         (self.room / "mine.py").write_text(IMPORTS + LAYS_OUT)
         for number, status in ((signal.SIGINT, 130), (signal.SIGTERM, 143), (signal.SIGKILL, -9)):
             with self.subTest(number):
-                test = subprocess.Popen(self.words("./mine.py", "--time", "600"), stdout=subprocess.PIPE, stderr=subprocess.PIPE,
-                                        universal_newlines=True, env=self.environment(), cwd=self.room, start_new_session=True)
+                test = self.begun(self.words("./mine.py", "--time", "600"), start_new_session=True)
                 self.assertTrue(self.comes(lambda: len(self.sleeping()) == 1))
                 os.killpg(test.pid, number)
                 said = test.communicate(timeout=PATIENCE)[1]
