@@ -154,7 +154,7 @@ class TheTemplate(Runs):
         printed = subprocess.run(self.words("template"), stdout=subprocess.PIPE, env=self.environment())
         self.assertEqual((printed.returncode, printed.stdout), (0, TEMPLATE.read_bytes()))
         (self.room / "mine.py").write_bytes(printed.stdout)
-        ran = self.ran("./mine.py", "--time", "4", "--min-ok", "5", "--nemesis", "kill@1+0.3,pause@2+0.3,cut@3+0.3")
+        ran = self.ran("./mine.py", "--time", "4", "--min-ok", "1", "--nemesis", "kill@1+0.3,pause@2+0.3,cut@3+0.3")
         self.assertEqual((ran.returncode, ran.stderr), (0, ""), ran.stdout)
         self.assertEqual(ran.stdout.splitlines()[-1], "legal")
         history = (self.room / "runs" / "latest" / "part-0001" / "history.edn").read_text()
