@@ -3,7 +3,7 @@
     jepmon-test examples/python/tarantool_server.py
     jepmon-test examples/python/tarantool_server.py --inject-bug dirty
 
-One node writes its journal with fsync. Of several nodes the first one is the master, and a write waits for a majority. Tarantool 2.6.0
+One node writes its journal with fsync. If there are several nodes, the first one is the master, and a write waits for a majority. Tarantool 2.6.0
 shows a write to readers before the majority has it, and rolls the write back if the majority does not answer in time. So a plain read is
 dirty (`--inject-bug dirty`). The read here commits a write of its own, which waits for all writes before it.
 """

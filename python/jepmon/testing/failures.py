@@ -29,7 +29,7 @@ def failure_of(fatal: Event, events: Sequence[Event], faults: Sequence[Fault]) -
 
 
 def verdict_on_failure(failure: Failure, held: Any) -> str:
-    """What the nodes hold once all is mended says whether the operation took place. `held` is a value, None if there is none, or a set."""
+    """Says whether the operation took place, by the value that the nodes hold once all is mended: `held`, None if there is none, or a set."""
     is_set = isinstance(held, frozenset)
     if failure.value in held if is_set else held == failure.value:
         return (f"The {failure.what} was recorded as failed, and its value stays. So it took place: its error does not belong in `certain`, or "
