@@ -31,7 +31,7 @@ from jepmon.testing.strikes.known import STRIKES  # noqa: E402
 
 TIME = re.compile(r":time ([0-9]+)\}?$")
 RATE = re.compile(r"^([0-9,]+) operations a second were ok, ([0-9.]+) %", re.M)
-WORD = re.compile(r"\b(LOST or STALE|LOST|STALE|DIVERGED|EARLIER)\b")
+WORD = re.compile(r"\b(LOST or STALE|LOST|STALE|DIRTY|DIVERGED|EARLIER)\b")
 STRUCK = ("none", "all", "kill,pause", "cut,partition,slow", "loss,reorder,corrupt", "power,tear", "bump,strobe", "client-pause,client-crash")
 
 

@@ -2,12 +2,11 @@
 """Runs jepmon-test on real servers. Each runs under faults for 20 seconds, which must be legal; each under strikes on its clocks, if they
 can be set, and under its own strikes. Each planted fault runs until it is found, and each looser durability until a loss of power shows it.
 It ends with 'N passed, M failed', or 'N passed, M failed, K skipped' where a server is not installed (tests/setup installs them). With
-words, it runs the tests of these servers alone, as redis; a word like redis/lease runs one of them.
+arguments, it runs the tests of these servers alone, as redis; an argument like redis/lease names one test. OWN names files of examples/.
 """
 from __future__ import annotations
 
 import concurrent.futures
-import importlib
 import os
 import pathlib
 import shutil
@@ -20,7 +19,7 @@ TOP = pathlib.Path(__file__).resolve().parent.parent
 sys.path.insert(0, str(TOP / "python"))
 
 from jepmon.testing import Server, ServerError, clocks, disks, places  # noqa: E402
-from jepmon.testing.cli_options import SERVERS  # noqa: E402
+from jepmon.testing.cli_options import SERVERS, server_of  # noqa: E402
 from program import PROGRAM  # noqa: E402
 
 SECONDS, UNTIL_FOUND = 20, 120
@@ -32,6 +31,7 @@ COUNTED = [("rabbitmq", "early")]
 # beanstalkd syncs by its wall clock: once that was set back, it acknowledges what it has not synced, and a loss of power loses it.
 CLOCKED = {"beanstalkd": "kill,pause,cut,slow,bump,strobe"}
 FILES = {"redis": {"failover": "examples/python/redis_failover.py"}}  # servers that are wrong
+OWN = {"tarantool": str(TOP / "examples" / "python" / "tarantool_server.py")}  # servers whose file is a user's
 CLUSTERS = {"rabbitmq": "3"}  # servers that are one node, unless more are asked for
 AT_ONCE = 2  # tests; each of them mostly waits
 
@@ -51,8 +51,11 @@ class Test(NamedTuple):
 def tests(server: str) -> List[Test]:
     """Each object of the server under faults, in network namespaces where they can be had, its first one by the proxy, and each fault
     that is planted in it."""
-    kind = kind_of(server)
-    found = [Test(server, model, ["--object", model, "--time", str(SECONDS)], GOOD) for model in kind.objects]
+    kind, file = kind_of(server), OWN.get(server, "")
+    found = [Test(server, model, ["--object", model, "--time", str(SECONDS)], GOOD, file) for model in kind.objects]
+    planted = [Test(server, plant, ["--inject-bug", plant, "--time", str(seconds(server, plant))], (1,), file) for plant in kind.plants]
+    if file:
+        return found + planted
     found += [Test(server, "proxy", ["--network", "proxy", "--time", str(SECONDS)], GOOD)]
     if "bump" not in kind.cannot and not clocks.why_not():
         found += [Test(server, "clocks", ["--nemesis", CLOCKED.get(server, "all,bump,strobe"), "--time", str(SECONDS)], GOOD)]
@@ -64,7 +67,7 @@ def tests(server: str) -> List[Test]:
         found += [Test(server, name, ["--durability", name, "--nemesis", "power", "--nodes", "1", "--time", str(seconds(server, name))], (1,))
                   for name in list(kind.durabilities)[1:]]
     found += [Test(server, name, ["--time", str(UNTIL_FOUND)], (1,), str(TOP / path)) for name, path in FILES.get(server, {}).items()]
-    return found + [Test(server, plant, ["--inject-bug", plant, "--time", str(seconds(server, plant))], (1,)) for plant in kind.plants]
+    return found + planted
 
 
 def seconds(server: str, plant: str) -> int:
@@ -73,8 +76,7 @@ def seconds(server: str, plant: str) -> int:
 
 
 def kind_of(server: str) -> Type[Server]:
-    kind: Type[Server] = getattr(importlib.import_module(f"jepmon.testing.servers.{server}"), SERVERS[server])
-    return kind
+    return server_of(OWN.get(server, server))
 
 
 def missing(server: str) -> Optional[str]:
@@ -125,7 +127,7 @@ def tried(test: Test, room: pathlib.Path) -> Tuple[bool, int, str]:
 
 def main(wanted: List[str]) -> int:
     passed = failed = skipped = 0
-    for server in SERVERS:
+    for server in [*SERVERS, *OWN]:
         chosen = [test for test in tests(server) if not wanted or server in wanted or test.name in wanted]
         lacks = missing(server) if chosen else None
         if lacks is not None:

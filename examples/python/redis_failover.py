@@ -52,7 +52,7 @@ class FailingOver(Client):
 
 class RedisFailover(Redis):
     objects = {"register": FailingOver}
-    bears = {"register": ("kill", "slow")}
+    bears = {"register": ("kill", "partition", "slow")}
     plants = {}
     sizes = range(2, 3)
 

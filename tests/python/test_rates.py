@@ -8,7 +8,7 @@ import unittest
 from typing import List
 
 from jepmon import rates
-from jepmon.history.fault_notes import note_line
+from jepmon.history.fault_notes import OVER, note_line
 from jepmon.history.fault_texts import kind_of, nodes_of, plain
 from jepmon.history.line import event_line
 from jepmon.rates.charts import nice, ticks
@@ -58,6 +58,7 @@ class Gathers(unittest.TestCase):
         effect = effects(gathered, found.faults)[0]
         self.assertAlmostEqual(effect.without / SECOND, 2.6, delta=0.01)  # from the ok at 2.001 to that at 4.6
         self.assertAlmostEqual((effect.until_ok or 0) / SECOND, 0.6, delta=0.01)
+        self.assertEqual(effects(gathered, [Fault(OVER, 4700 * MS, 4700 * MS)]), [])
 
     def test_quantiles_are_exact_to_a_part_in_64(self) -> None:
         draws = random.Random(3)

@@ -17,6 +17,7 @@ from jepmon.testing.after import (Reading, listed, lost_members, lost_messages, 
                                   verdict_on_queue)
 from jepmon.testing.crashes import LogWatch, account, finding
 from jepmon.testing.errors import Died
+from jepmon.testing.failures import failure_of, verdict_on_failure
 from jepmon.testing.losses import Acknowledged, known_from, lines, many
 from jepmon.testing.messages import Missing
 from jepmon.testing.node import Node
@@ -130,6 +131,29 @@ class Verdicts(unittest.TestCase):
         self.assertEqual(self.on(62, [*events, *later], n1=62), "A write is LOST: the wrong answer stays. The write of 70 was acknowledged at "
                          '0.70 s, 1.30 s before "n1 is down, by kill -9" began.')
 
+    def test_of_a_failed_write_that_was_read(self) -> None:
+        """The write of 7 fails after a read of 7, or before it; 5 was there before. Then the nodes hold 5, nothing, 7 or 9."""
+        write = [event(2, "invoke", "write", 7, 2.0, 1), event(5, "fail", "write", 7, 2.3, 1)]
+        read = [event(3, "invoke", "read", None, 2.1, 2), event(4, "ok", "read", 7, 2.2, 2)]
+        cas = [event(2, "invoke", "cas", (5, 7), 2.0, 1), event(5, "fail", "cas", (5, 7), 2.3, 1)]
+        for fatal, events in ((write[1], [*write, *read]), (event(6, "ok", "read", 7, 2.4, 3), write), (cas[1], [*cas, *read])):
+            failure = failure_of(fatal, sorted([*self.WRITES, *events, fatal], key=lambda one: one.index), [])
+            assert failure is not None
+            self.assertIn(failure.what, ("write of 7", "cas of 7"))
+            for held, said in ((5, f"The read of 7 was DIRTY: the {failure.what} failed, and its value is gone."),
+                               (None, "its value is gone"), (7, f"The {failure.what} was recorded as failed, and its value stays. So it took place"),
+                               (9, f"The read of 7 was DIRTY, or the {failure.what} took place")):
+                self.assertIn(said, verdict_on_failure(failure, held))
+            self.assertIn("DIRTY", verdict_on(fatal, {"n1": Reading(5)}, Acknowledged([]), -1, failure))
+        self.assertIsNone(failure_of(read[1], [*self.WRITES, *read], []))
+
+    def test_of_a_failed_add_that_was_read(self) -> None:
+        add = [event(2, "invoke", "add", 7, 2.0), event(5, "fail", "add", 7, 2.3)]
+        failure = failure_of(add[1], add, [])
+        assert failure is not None
+        self.assertIn("its value is gone", verdict_on_failure(failure, frozenset({5})))
+        self.assertIn("its value stays", verdict_on_failure(failure, frozenset({5, 7})))
+
     def test_of_a_set(self) -> None:
         adds = [event(index, "ok", "add", index, 1.9 + index / 10) for index in range(3)]
         acknowledged = Acknowledged.of(adds, 9, [KILL])
@@ -205,6 +229,8 @@ class Crashes(unittest.TestCase):
                                    ("write: No space left on device\n", "has died by itself, with status 1", None),
                                    ("error of before\n--- started again\nready\n", "has died by itself, with status 1",
                                     "crashed n1: it has died by itself, with status 1; its log says: ready"),
+                                   ("error of before\nSegmentation fault\n" + "r15 0x0\n" * 40 + "#1 sig_fatal_cb\n", "has died by itself, by signal 6",
+                                    "crashed n1: it has died by itself, by signal 6; its log says: Segmentation fault"),
                                    ("ready\n", "has died by itself, by signal 9", None)):
                 node.log.write_text(log)
                 self.assertEqual(finding(Died("n1", how, node.log)), said)
@@ -229,6 +255,8 @@ class Crashes(unittest.TestCase):
                 self.assertEqual(found[1:], [f"Its log, n1.log, {'says around that line' if 'says' in how else 'ends'}:", "    one", "    panic: no head",
                                              "    two"])
             self.assertEqual(account(Died("n1", "has died", pathlib.Path(room, "none")), []), ["n1 has died."])
+            path.write_text("Segmentation fault\n" + "r15 0x0\n" * 40)
+            self.assertEqual(account(Died("n1", "has died", path), [])[1], 'Its log, n1.log, says "Segmentation fault", and ends:')
 
     def test_what_postgresql_says(self) -> None:
         """Its first process goes on, and starts the one that has crashed again."""

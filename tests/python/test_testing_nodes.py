@@ -202,13 +202,13 @@ class Undisturbed(Room):
         self.assertEqual((done, signal.getsignal(signal.SIGINT)), ([1], signal.default_int_handler))
 
     def test_a_program_that_is_run_to_its_end_ends_with_all_that_it_started(self) -> None:
-        node, sleep = self.node("true"), f"sleep 600.{os.getpid()}"  # of this process alone: the same tests may run elsewhere on the machine
+        node, length = self.node("true"), f"600.{os.getpid()}"  # of this test alone
         timer = threading.Timer(0.5, lambda: os.kill(os.getpid(), signal.SIGINT))
         timer.start()
         with self.assertRaises(KeyboardInterrupt):
-            node.completed(["sh", "-c", f"{sleep} & wait"])
+            node.completed(["sh", "-c", f"sleep {length} & wait"])
         timer.join()
-        self.assertTrue(wait_for(lambda: not any(sleep in words for words in commands())))
+        self.assertTrue(wait_for(lambda: not any(length in words for words in commands())))
 
     def test_one_that_ends_otherwise_names_its_log(self) -> None:
         with self.assertRaisesRegex(ServerError, "^sh ended with status 3; its log is .*n1.log, which ends: no room$"):

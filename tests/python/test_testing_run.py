@@ -10,7 +10,7 @@ import sys
 import tempfile
 import time
 import unittest
-from typing import Callable, List, Optional
+from typing import Any, Callable, List, Optional
 
 from jepmon.testing import ServerError, mounts, template
 from jepmon.testing.cli_options import given
@@ -41,13 +41,12 @@ CLIENT_IS_WRONG = ("class Client(MyClient):\n    def read(self, key):\n        r
 LOGS = ("import logging, warnings\nclass Client(MyClient):\n    def read(self, key):\n        logging.getLogger('pool').warning('a connection was "
         "lost')\n        warnings.warn('old')\n        return super().read(key)\nclass Mine(MyServer):\n    objects = {'register': Client}\n"
         "    def client(self, number):\n        return Client(self.nodes[0].at)\n")
-SLEEP = f"sleep 600.{os.getpid()}"  # of this process alone: the same tests may run elsewhere on the machine
-LEAVES_ORPHANS = (f"class Mine(MyServer):\n    def command(self, node):\n        code = \"(setsid sh -c '({SLEEP} &)'); {{}}\"\n"
+LEAVES_ORPHANS = ("class Mine(MyServer):\n    def command(self, node):\n        code = \"(setsid sh -c '(sleep 600.25 &)'); {}\"\n"
                   "        return ['sh', '-c', code, 'sh', *super().command(node)]\n")
 UPGRADES = ("class Mine(MyServer):\n    def command(self, node):\n"
             "        return ['sh', '-c', f'echo version {min(node.starts, 1) + 1}; exec \"$@\"', 'sh', *super().command(node)]\n")
 LAYS_OUT = ("class Mine(MyServer):\n    def prepare(self, node):\n"
-            f"        node.completed(['sh', '-c', 'while :; do : > x; {SLEEP} & wait; done'])\n")
+            "        node.completed(['sh', '-c', 'while :; do : > x; sleep 600.125 & wait; done'])\n")
 HAS_ITS_OWN = """
 import contextlib
 from jepmon.testing import Parameter, Strike
@@ -62,6 +61,32 @@ class Writes(Registers):
 class Mine(MyServer):
     objects, workloads = {"writes": MyClient}, {"writes": Writes}
     strikes = {"touch": Strike("{node} is touched {times:g} times", touched, parameters={"times": Parameter(1, 3)})}
+"""
+
+CLAIMS = """
+from jepmon.testing import Work
+class Client(MyClient):
+    def claim(self, key):
+        if self.read(key) is not None:
+            return False
+        self.write(key, 1)
+        return True
+class Claims(Work):
+    model, names, CHANGES = "mutex", ("acquire",), 2
+    def step(self, number, client, draws, changes):
+        return self.claim(client, draws.choice(self.handles))
+    def claim(self, client, at):
+        with at.acquire() as op:
+            if not client.claim(int(op.name)):
+                op.fail()
+        return op
+    def finish(self, ask):
+        for one in self.each_left():
+            ask(lambda client: self.claim(client, one))
+class Mine(MyServer):
+    objects, workloads, patience = {"claims": Client}, {"claims": Claims}, 20.0
+    def client(self, number):
+        return Client(self.nodes[0].at)
 """
 
 
@@ -100,10 +125,25 @@ class Runs(Monitored):
                 found.append(words)
         return found
 
-    def sleeping(self) -> List[str]:
-        """The processes that servers here have left asleep, of all on the machine."""
-        ran = subprocess.run(["ps", "-eo", "args"], stdout=subprocess.PIPE, universal_newlines=True)
-        return [words for words in ran.stdout.splitlines() if words == SLEEP]
+    def commands(self) -> List[str]:
+        """Those of processes that have the folder of this test in their environment. Other tests may run on this machine."""
+        found = []
+        for path in pathlib.Path("/proc").glob("[0-9]*"):
+            try:
+                is_own = os.fsencode(self.room / "tmp") in (path / "environ").read_bytes()
+                words = (path / "cmdline").read_bytes().decode(errors="replace").replace("\0", " ")
+            except OSError:
+                continue
+            if is_own:
+                found.append(words)
+        return found
+
+    def begun(self, words: List[str], **other: Any) -> "subprocess.Popen[str]":
+        """A test that goes on beside this one, and that does not outlive it."""
+        test = subprocess.Popen(words, stdout=subprocess.PIPE, stderr=subprocess.PIPE, universal_newlines=True, env=self.environment(),
+                                cwd=self.room, **other)
+        self.addCleanup(lambda: test.poll() is None and test.kill())
+        return test
 
     def verdict_file(self) -> str:
         return (self.room / "runs" / "latest" / "verdict.txt").read_text().strip()
@@ -114,7 +154,7 @@ class TheTemplate(Runs):
         printed = subprocess.run(self.words("template"), stdout=subprocess.PIPE, env=self.environment())
         self.assertEqual((printed.returncode, printed.stdout), (0, TEMPLATE.read_bytes()))
         (self.room / "mine.py").write_bytes(printed.stdout)
-        ran = self.ran("./mine.py", "--time", "4", "--min-ok", "5", "--nemesis", "kill@1+0.3,pause@2+0.3,cut@3+0.3")
+        ran = self.ran("./mine.py", "--time", "4", "--min-ok", "1", "--nemesis", "kill@1+0.3,pause@2+0.3,cut@3+0.3")
         self.assertEqual((ran.returncode, ran.stderr), (0, ""), ran.stdout)
         self.assertEqual(ran.stdout.splitlines()[-1], "legal")
         history = (self.room / "runs" / "latest" / "part-0001" / "history.edn").read_text()
@@ -143,6 +183,12 @@ class TheTemplate(Runs):
         history = (self.room / "runs" / "latest" / "part-0001" / "history.edn").read_text()
         self.assertEqual(history.count('"n1 is touched 2 times [touch n1, other, times=2]"'), 2)
         self.assertEqual(history.count('"n1 is down, by kill -9 [kill n1, process; while touch n1]"'), 2)
+
+    def test_an_answer_that_is_no_ends_the_asking(self) -> None:
+        """At the end of a workload of its own most operations fail: each lock is held already."""
+        ran = self.ran(self.mine(CLAIMS), "--time", "2", "--clients", "1", "--min-ok", "1", "--nemesis", "none")
+        self.assertEqual((ran.returncode, ran.stderr), (0, ""), ran.stdout)
+        self.assertEqual(ran.stdout.splitlines()[-1], "legal")
 
     def test_it_is_short(self) -> None:
         """The user's files: all but the server that stands for the user's own."""
@@ -181,8 +227,8 @@ class NoVerdict(Runs):
         self.refused(self.mine(NEVER_LISTENS), r"n1 was not ready for 0\.5 s \(.*; its log is ", log="")
 
     def test_one_that_never_answers(self) -> None:
-        self.refused(self.mine(NEVER_ANSWERS), "once the faults were over a client of n1 got no answer for 2 s; its log is ", "--nemesis",
-                     "none", log="")
+        self.refused(self.mine(NEVER_ANSWERS), "once the faults were over no operation of a client of n1 was ok for 2 s, and the last one timed "
+                     "out; its log is ", "--nemesis", "none", log="")
 
     def test_one_whose_disk_is_full(self) -> None:
         self.refused(self.mine(DISK_IS_FULL), "n1 has died by itself, with status 1; its log is .*No space left on device$",
@@ -236,14 +282,13 @@ class Orphans(Runs):
         self.assertIn("died by itself, with status 4", ran.stderr)
 
     def left(self) -> List[str]:
-        return [*super().left(), *self.sleeping()]
+        return [*super().left(), *(word for word in self.commands() if word.startswith("sleep 600.25"))]
 
 
 class BrokenOff(Runs):
     def broken_off(self, number: signal.Signals) -> "tuple[int, str]":
         power = "" if mounts.why_not() else ",power@900"  # each node's folder is a mount, and nothing is lost
-        test = subprocess.Popen(self.words(str(TEMPLATE), "--time", "600", "--nemesis", f"kill@0.5+600{power}"), stdout=subprocess.PIPE, stderr=subprocess.PIPE,
-                                universal_newlines=True, env=self.environment(), cwd=self.room)
+        test = self.begun(self.words(str(TEMPLATE), "--time", "600", "--nemesis", f"kill@0.5+600{power}"))
         history = self.room / "runs" / "latest" / "part-0001" / "history.edn"
         end = time.monotonic() + PATIENCE
         while not (history.exists() and "begin-fault" in history.read_text()) and time.monotonic() < end:
@@ -266,14 +311,16 @@ class BrokenOff(Runs):
         (self.room / "mine.py").write_text(IMPORTS + LAYS_OUT)
         for number, status in ((signal.SIGINT, 130), (signal.SIGTERM, 143), (signal.SIGKILL, -9)):
             with self.subTest(number):
-                test = subprocess.Popen(self.words("./mine.py", "--time", "600"), stdout=subprocess.PIPE, stderr=subprocess.PIPE,
-                                        universal_newlines=True, env=self.environment(), cwd=self.room, start_new_session=True)
+                test = self.begun(self.words("./mine.py", "--time", "600"), start_new_session=True)
                 self.assertTrue(self.comes(lambda: len(self.sleeping()) == 1))
                 os.killpg(test.pid, number)
                 said = test.communicate(timeout=PATIENCE)[1]
                 self.assertEqual((test.returncode, "Traceback" in said), (status, False), said)
                 self.assertTrue(self.comes(lambda: not self.sleeping() and not os.listdir(self.room / "tmp")))
                 self.nothing_is_left()
+
+    def sleeping(self) -> List[str]:
+        return [path for path in self.commands() if path.startswith("sleep 600.125")]
 
     def comes(self, what: Callable[[], bool]) -> bool:
         end = time.monotonic() + PATIENCE

@@ -78,6 +78,11 @@ class Block:
         """The former name of recorded."""
         return self.recorded
 
+    @property
+    def was_answered_no(self) -> bool:
+        """Whether the client called op.fail(), so that the store has answered."""
+        return self._said == "fail"
+
     def fail(self) -> None:
         """The operation certainly did not take place."""
         self.__dict__.update(_said="fail")

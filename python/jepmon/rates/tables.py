@@ -5,6 +5,7 @@ import collections
 import html
 from typing import Dict, Iterable, List, NamedTuple, Optional, Sequence, Tuple
 
+from ..history.fault_notes import OVER
 from ..history.fault_texts import kind_of
 from .gathered import OUTCOMES, Gathered
 from .given import KeyRow
@@ -39,8 +40,11 @@ def latencies(gathered: Gathered) -> str:
 
 
 def effects(gathered: Gathered, faults: Sequence[Fault]) -> List[Effect]:
+    """Of each fault. The note that all faults are over is not one."""
     found = []
     for fault in faults:
+        if fault.text == OVER:
+            continue
         after = gathered.oks.after(fault.end)
         found.append(Effect(fault, gathered.oks.longest_gap(fault.begin, fault.end), None if after is None else max(0, after - fault.end)))
     return found

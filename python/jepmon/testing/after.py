@@ -1,6 +1,6 @@
 """After a finding: the servers are whole again, the bad key is read once more at every node, and the nodes' data are kept.
 
-These reads tell a lost write from a stale read and from nodes that differ. It is found by reading, and not proved.
+These reads tell a lost write from a stale read, from a dirty one, and from nodes that differ. It is found by reading, and not proved.
 """
 from __future__ import annotations
 
@@ -22,6 +22,7 @@ from ..rates.run import Statuses
 from .cluster import Cluster
 from .crashes import finding
 from .errors import Died
+from .failures import Failure, failure_of, verdict_on_failure
 from .losses import Acknowledged, One, known_from, line, many, told
 from .node import Node
 from .server import Server
@@ -98,7 +99,8 @@ def _read_again(cluster: Cluster, illegal: Illegal, part: pathlib.Path) -> List[
         asked = {cluster.server.node_of(number).name for number in range(2 * len(cluster.nodes))}
         by_clients = {name: reading for name, reading in readings.items() if name in asked}
         sentences += [f"Once all faults were ended, key {key} was read again: {listed(readings)}.",
-                      verdict_on(fatal, by_clients, acknowledged, known_from(events, begun, fatal.value)), others_that_differ(readings, by_clients)]
+                      verdict_on(fatal, by_clients, acknowledged, known_from(events, begun, fatal.value), failure_of(fatal, events, faults)),
+                      others_that_differ(readings, by_clients)]
         lost = lost_members(readings, acknowledged)
     elif hasattr(client, "dequeue"):
         mend(cluster)
@@ -193,14 +195,16 @@ def others_that_differ(readings: Dict[str, Reading], by_clients: Dict[str, Readi
     return f"Another value is still at {', '.join(names)}: DIVERGED from the nodes that clients ask." if names and held else ""
 
 
-def verdict_on(fatal: Event, readings: Dict[str, Reading], acknowledged: Acknowledged, known: int) -> str:
-    """Says lost, stale or diverged. `acknowledged` holds the writes before the operation began, and `known` is the event that first shows the
-    answer in the key, or -1."""
+def verdict_on(fatal: Event, readings: Dict[str, Reading], acknowledged: Acknowledged, known: int, failure: Optional[Failure] = None) -> str:
+    """Says lost, stale, dirty or diverged. `acknowledged` holds the writes before the operation began. `known` is the event that first shows
+    the answer in the key, or -1. `failure` is the failed operation that brought the answer, if there is one."""
     values = [reading.value for reading in readings.values() if not reading.fault]
     if not values:
         return "No node answered, so nobody knows whether something is lost."
     if any(value != values[0] for value in values):
         return "Nodes DIVERGED: they still hold different values."
+    if failure is not None:
+        return verdict_on_failure(failure, values[0])
     if isinstance(values[0], frozenset):
         return verdict_on_set(fatal, values[0], acknowledged)
     if fatal.name != "read":

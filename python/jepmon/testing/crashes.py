@@ -17,7 +17,9 @@ from .errors import Died, ServerError
 from .node import AGAIN, TELLING, Node
 
 WORDS = re.compile(r"panic|assert|segmentation|segfault|sanitizer|fatal|abort|core dumped|corrupt|traceback|exception|error", re.I)
+HARD = re.compile(r"\b(?:panic|assert|segmentation|segfault|core dumped|SIG(?:SEGV|ABRT|BUS|ILL|FPE)\b)|sanitizer", re.I)  # not "sig_fatal_cb"
 LAST = 30  # lines of a log that are searched for what ended the server
+TRACE = 200  # lines that are searched for HARD: registers and a stack may follow it
 LONGEST = 240  # characters of a line that are shown
 SHOWN, BEFORE = 12, 2  # lines of a log in the account of a crash; of them before the line that says it
 PARTS = 2  # the newest ones, whose faults it names
@@ -64,7 +66,7 @@ def finding(died: Died) -> Optional[str]:
     lines = last_lines(died.log)
     if died.how.endswith(KILLED) or any(words in line.lower() for line in lines for words in TELLING):
         return None
-    line = telling(lines)
+    line = hard(died.log) or telling(lines)
     return f"crashed {died.node}: it {died.how}" + (f"; its log says: {line}" if line else "")
 
 
@@ -92,10 +94,13 @@ def account(died: Died, faults: Sequence[Fault]) -> List[str]:
 
 
 def log_about(died: Died) -> List[str]:
-    """The log around the line that says it, else the end of the log."""
+    """The log around the line that says it, else the end of the log, and what it said of a crash before."""
     lines = lines_of(died.log)
     place = next((place for place, line in enumerate(lines) if died.how == SAYS + line[:LONGEST]), None)
     shown, where = (lines[-SHOWN:], "ends") if place is None else (lines[max(0, place - BEFORE):][:SHOWN], "says around that line")
+    said = hard(died.log)
+    if place is None and said and said not in (line[:LONGEST] for line in shown):
+        where = f'says "{said}", and ends'
     return [f"Its log, {died.log.name}, {where}:", *(f"    {line[:LONGEST]}" for line in shown)] if shown else []
 
 
@@ -118,6 +123,11 @@ def lines_of(log: pathlib.Path) -> List[str]:
     except OSError:
         return []
     return [line.strip() for line in text.rpartition(AGAIN)[2].split("\n") if line.strip()]
+
+
+def hard(log: pathlib.Path) -> str:
+    """The line that names a crash of the program itself, before its registers and its stack; empty if there is none."""
+    return next((line[:LONGEST] for line in lines_of(log)[-TRACE:] if HARD.search(line)), "")
 
 
 def telling(lines: Sequence[str]) -> str:

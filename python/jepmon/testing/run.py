@@ -214,14 +214,15 @@ class Test:
                 while True:
                     number = next(turn) % len(clients)
                     op = attempt(clients[number])
-                    if op.outcome == "ok" or op.value is None or not op.recorded:
+                    if op.outcome == "ok" or op.value is None or op.was_answered_no or not op.recorded:
                         return op
                     with noted(monitor):
                         cluster.test_alive()
                     if time.monotonic() > end:
                         node = cluster.server.node_of(number)
-                        raise ServerError(f"once the faults were over a client of {node.name} got no answer for "
-                                          f"{cluster.server.patience:g} s{node.said()}")
+                        last = "failed" if op.outcome == "fail" else "timed out"
+                        raise ServerError(f"once the faults were over no operation of a client of {node.name} was ok for "
+                                          f"{cluster.server.patience:g} s, and the last one {last}{node.said()}")
                     time.sleep(PAUSE)
 
             work.finish(ask)

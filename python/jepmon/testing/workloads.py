@@ -15,11 +15,12 @@ if TYPE_CHECKING:
     from .server import Server
 
 Attempt = Callable[[Any], "LongOperation"]  # an operation by a client
-Asked = Callable[[Attempt], "LongOperation"]  # tries it until it is ok, by one client after the other
+Asked = Callable[[Attempt], "LongOperation"]  # tries it by one client after the other, until it is ok or op.fail() says that it is not
 
 
 class Work:
-    """`step` does an operation, or the two of a lock, by a client. `finish` asks at the end. `names` are the operations of which some
+    """`step` does an operation, or the two of a lock, by a client. `finish` asks at the end, when all is mended: `ask(attempt)` tries an
+    operation until the server has answered it. `names` are the operations of which some
     must be ok before anything is said. An object is left after CHANGES, for a new one; its key is the number that is its name."""
 
     names: Tuple[str, ...] = ()
