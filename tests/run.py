@@ -436,6 +436,13 @@ WORDS = [
     ("history.edn", (), b"", 3, b"error: history.edn is no command; jepmon check history.edn judges it\n"),
     ("./history", (), b"", 3, b"error: ./history is no command; jepmon check ./history judges it\n"),
     ("chek", (), b"", 3, b"error: unrecognized subcommand 'chek'\n"),
+    ("help chek", (), b"", 3, b"error: unrecognized subcommand 'chek'\n"),
+    ("help help script", (), b"", 3, b"error: "),
+    ("--", (), b"", 3, b"error: no command was given\n"),
+    ("-- script", (), b"", 3, b"error: unexpected argument 'script' found\n"),
+    ("script --strict --strict", (), b"", 3, b"error: "),
+    ("check x.edn --budget 5 --budget 6", (), b"", 3, b"error: "),
+    ("scrip", (), b"", 3, b"error: unrecognized subcommand 'scrip'\n"),
     ("script --concurrency -1", (), b"", 3, b"error: --concurrency takes a number, 1 to 64\n"),
     ("script --concurrency=-1", (), b"", 3, b"refused 10 BadConcurrency\n"),
     ("check x.edn --workers -1", (), b"", 3, b"error: --workers takes a number, 1 to 64\n"),
@@ -480,7 +487,7 @@ def run_words():
         begins = ran.stderr.startswith(errors) if errors else not ran.stderr
         if (ran.stdout, ran.returncode) != (want, status) or not begins:
             faults.append(f"{words!r} ended with {(ran.returncode, ran.stdout, ran.stderr[:200])!r}")
-    for words in ("--help", "script --help"):
+    for words in ("--help", "script --help", "help", "help script"):
         ran = subprocess.run([str(PROGRAM)] + words.split(), stdin=subprocess.DEVNULL, stdout=subprocess.PIPE,
                              stderr=subprocess.PIPE, timeout=60)
         if ran.returncode != 0 or b"script" not in ran.stdout or ran.stderr:
