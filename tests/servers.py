@@ -28,6 +28,8 @@ GOOD = (0, 2)  # on a busy machine so many operations may time out at once that 
 PATIENT = ["--min-ok", "3", "--startup-timeout", "600"]
 PATIENCE = 1800.0  # seconds, on a busy machine
 COUNTED = [("rabbitmq", "early")]
+# Found only if a client reads at a server that is cut off and does not know it yet: seldom, where operations are slow.
+SELDOM = [("zookeeper", "own")]
 # beanstalkd syncs by its wall clock: once that was set back, it acknowledges what it has not synced, and a loss of power loses it.
 CLOCKED = {"beanstalkd": "kill,pause,cut,slow,bump,strobe"}
 FILES = {"redis": {"failover": "examples/python/redis_failover.py"}}  # servers that are wrong
@@ -72,7 +74,9 @@ def tests(server: str) -> List[Test]:
 
 def seconds(server: str, plant: str) -> int:
     """Counting at the end finds losses: such a run ends by itself."""
-    return 2 * SECONDS if (server, plant) in COUNTED or server == "beanstalkd" else UNTIL_FOUND
+    if (server, plant) in COUNTED or server == "beanstalkd":
+        return 2 * SECONDS
+    return 3 * UNTIL_FOUND if (server, plant) in SELDOM else UNTIL_FOUND
 
 
 def kind_of(server: str) -> Type[Server]:
