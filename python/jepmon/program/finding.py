@@ -65,7 +65,7 @@ def _wide_kinds(name: str) -> FrozenSet[str]:
 
 
 def _said(words: List[str], raw: bytes = b"") -> Optional[str]:
-    """What the program prints, if it can be run and ends."""
+    """The text that the program prints; None if it can't be run, or does not end in time."""
     try:
         return subprocess.run(words, input=raw, stdout=subprocess.PIPE, stderr=subprocess.DEVNULL, timeout=PROMPT).stdout.decode("utf-8", "replace")
     except (OSError, subprocess.TimeoutExpired):

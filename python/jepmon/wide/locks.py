@@ -1,6 +1,6 @@
 """Locks. The search lets operations take place only when one returns, and then as few as possible; if one of several must take place, it
-takes the one that returns first. Both rules lose no order: a delayed operation may still take place until it returns, and the other one of
-two open operations may take its place later."""
+takes the one that returns first. Both rules lose no order: a delayed operation may still take place until it returns, and of two open
+operations the one that returns later may take place later."""
 from __future__ import annotations
 
 import heapq
