@@ -1,7 +1,7 @@
 #!/usr/bin/env python3
 """Checks the documents without running anything. Each link to a file or a heading of this repository leads there. docs/DECISIONS.md is as
-its first lines say. Its index has each heading once and in order. An entry has at most 120 words, link targets left out, and says why not
-another way and what would change it (tables after an entry do not count).
+its first lines say. Its index has each heading once and in order. It has at most 50 entries. An entry has at most 120 words, link targets
+left out, and says what was measured, tried or shown, why not another way, and what would change it (tables after an entry do not count).
 
     tests/links.py             prints what is wrong, and 'N passed, M failed': one for each document, one for the decisions, one for the layers
     tests/links.py --index     writes the index of docs/DECISIONS.md from its headings
@@ -20,6 +20,9 @@ DECISIONS = TOP / "docs" / "DECISIONS.md"
 LINK = re.compile(r"\]\(([^()\s]+)\)")
 INDEX = re.compile(r"(?:^- .*\n)+", re.M)
 MOST_WORDS = 120
+MOST_ENTRIES = 50
+WANTED = ((r"\*\*(Measured|Tried|Shown)\*\*", "what was measured, tried or shown"), (r"\*\*(Not|Nor|not)\*\*", "why not another way"),
+          (r"\*\*Would\s+change\*\*", "what would change it"))
 
 
 def outside_of_fences(text: str) -> Iterator[str]:
@@ -113,9 +116,12 @@ def of_decisions() -> List[str]:
         words = len(shown.split())
         if words > MOST_WORDS:
             faults.append(f"'{name}' has {words} words, more than {MOST_WORDS}")
-        for wanted in () if is_section else ((r"\*\*(Not|Nor|not)\*\*", "why not another way"), (r"\*\*Would\s+change\*\*", "what would change it")):
-            if not re.search(wanted[0], shown):
-                faults.append(f"'{name}' does not say {wanted[1]}")
+        for wanted, fact in () if is_section else WANTED:
+            if not re.search(wanted, shown):
+                faults.append(f"'{name}' does not say {fact}")
+    entries = sum(not one.is_section for one in every)
+    if entries > MOST_ENTRIES:
+        faults.append(f"{entries} entries, more than {MOST_ENTRIES}")
     return faults
 
 

@@ -48,7 +48,7 @@ class Models(unittest.TestCase):
 
     def test_which_of_two_was_taken(self) -> None:
         self.assertEqual(self.chosen(of_names("enqueue", "dequeue")).reason, "by its operations: dequeue, enqueue; the stricter of two: "
-                         "where no order was promised, say --model unordered-queue")
+                         "if no order was promised, pass --model unordered-queue")
 
     def test_what_is_said(self) -> None:
         self.assertEqual(self.chosen(of_names("enqueue"), "unordered-queue").common, "unordered-queue")

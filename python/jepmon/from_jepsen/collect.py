@@ -184,7 +184,7 @@ class Collector:
             self.rows = []
 
     def take_odd(self, row: Row) -> None:
-        """Takes an event of a run of which there is more to be said."""
+        """Takes an event of a run by the general way: `invoke` and `complete`."""
         kind, process, name, key, part, index, line, _ = row
         value = value_of(part)
         if self.lone_key is None:

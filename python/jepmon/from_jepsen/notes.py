@@ -68,7 +68,7 @@ def notes_of_nil(history: History, sets: Set[Value]) -> Iterator[str]:
     elif count > 0:
         yield f"reads answered by nil (it fits whatever a register holds): {count} of {whole}"
     if count > 0:
-        yield "where nil is what a missing key answers, say --nil-is-absent, and they are judged"
+        yield "if a missing key answers nil, pass --nil-is-absent to have these reads judged"
 
 
 def notes_of_absent(history: History, writer: Writer) -> Iterator[str]:

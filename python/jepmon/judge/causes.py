@@ -18,8 +18,8 @@ from ..wide import Decided
 from .judging import Task
 from .words import NAME
 
-BY_PART = ("Proved is what jepmon was asked, and of each sort of removal that a key is illegal where what is left of it is so. That this part "
-           "is left by such removals is tested, and not proved.")
+BY_PART = ("The answers of jepmon are proved. So is this of each sort of removal: if the rest of a key is illegal, so is the key. That the tool makes "
+           "only such removals is tested, and not proved.")
 BY_ORDER = ("The verdict is jepmon's, and proved, and so is the order: jepmon confirm says that it is one of the operations of this key. The "
             "other sentences are not proved.")
 WIDTH = 130  # columns, where standard error is no terminal

@@ -107,10 +107,10 @@ def _of_order(history: Recorded, task: Task, key: int) -> Iterator[str]:
 
 
 def of_order(key: int, model: str, events: Sequence[Event], options: Options) -> Iterator[str]:
-    """Reports that an illegal key of this model is legal without an order, if it is."""
+    """Names the laxer model with the same operations (`unordered-queue` for `fifo-queue`), if an illegal key is legal by it."""
     other = ALIKE.get(model)
     if other is not None and is_legal_as(other, events, options):
-        yield f"key {key} is judged as a {model}, and is legal as an {other}: where no order was promised, say --model {other}"
+        yield f"key {key} is judged as a {model}, and is legal as an {other}: if no order was promised, pass --model {other}"
 
 
 def _of_nil(history: Recorded, task: Task, given: Given) -> Iterator[str]:
@@ -130,4 +130,4 @@ def of_nil_reads(reads: int, of_nil: int, is_unknown: bool) -> Iterator[str]:
     else:
         yield f"reads answered by nil, which fits whatever a register holds: {of_nil} of {reads}"
     if not is_unknown:
-        yield "where nil is what a missing key answers, say --nil-is-absent, and they are judged"
+        yield "if a missing key answers nil, pass --nil-is-absent to have these reads judged"

@@ -70,7 +70,7 @@ def _reason(facts: Facts, common: str, given: Optional[str], stated: Mapping[int
 def by_operations(model: str, names: Sequence[str]) -> str:
     """Why it is this model."""
     other = ALIKE.get(model)
-    more = f"; the stricter of two: where no order was promised, say --model {other}" if other else ""
+    more = f"; the stricter of two: if no order was promised, pass --model {other}" if other else ""
     return f"by its operations: {', '.join(names)}{more}"
 
 

@@ -1,4 +1,4 @@
-"""Where a history comes from: a file that stands as it is, or what is written to a file first: bytes, a pipe, texts that are made."""
+"""The file of a history: the given one, or a temporary one with the given bytes, a pipe's data, or texts that are made from other forms."""
 from __future__ import annotations
 
 import os
