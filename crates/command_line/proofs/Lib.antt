@@ -1,3 +1,4 @@
 pub mod Adding
 pub mod Named
 pub mod Parsed
+pub mod Spelled

@@ -1,9 +1,10 @@
 -- Promise: the alternatives to an order
-use Rattle.std.specs.Prelude.{◌≡◌, ◌⊎◌}
+use Rattle.std.specs.Prelude.{◌≡◌, ◌⊎◌, ℕ, Bool, false, List, Option}
 use Rattle.clap.specs.Words.{kind_of}
 use Rattle.clap.specs.declared.error.kind.ErrorKind.{ErrorKind}
 use Rattle.clap.specs.declared.error.kind.ErrorKind.TheVariants.{DisplayHelp, DisplayVersion}
 use Rattle.edn.specs.declared.refusal.Refusal.TheVariants.{NoMemory}
+use Rattle.checks.specs.Checks.{IsPut}
 use Rattle.run_plans.specs.declared.options.Misspelled.{Misspelled}
 use Rattle.run_plans.specs.declared.options.Misspelled.TheVariants.{Unread, Refused as IsRefused}
 use Rattle.command_line.specs.declared.order.Stop.{Stop}
@@ -27,3 +28,19 @@ IsUsageFault (Refused why) = why ≡ NoMemory
 abbrev pub IsStopBy : Misspelled → Stop → Type 0
 IsStopBy (Unread option) stop = IsUsageFault stop
 IsStopBy (IsRefused why) stop = stop ≡ Refused why
+
+-- nothing was written, and the status is 3
+abbrev pub IsUnwritten : Option (List ℕ) → Option (List ℕ) → Bool → ℕ → Type 0
+IsUnwritten before after has_failed status = (after ≡ before) × (has_failed ≡ false) × (status ≡ 3)
+
+-- a text was written, with status 0, or the writer failed; or memory ran out before. Which text it is, `clap` does not say
+abbrev pub IsPutOrNoMemory : Option (List ℕ) → Option (List ℕ) → Bool → Bool → ℕ → Type 0
+IsPutOrNoMemory before after has_failed is_flushed status =
+    ((text : List ℕ) × IsPut text 0 before after has_failed is_flushed status)
+    ⊎ IsUnwritten before after has_failed status
+
+-- the output and the exit status without an order: a text if help or the version was asked for, else nothing
+abbrev pub EndsWithoutOrder : Stop → Option (List ℕ) → Option (List ℕ) → Bool → Bool → ℕ → Type 0
+EndsWithoutOrder stop before after has_failed is_flushed status =
+    (IsHelp stop × IsPutOrNoMemory before after has_failed is_flushed status)
+    ⊎ IsUnwritten before after has_failed status

@@ -1,15 +1,25 @@
 -- Promise: the order in the words of the command line, by clap's definitions of a parse
-use Rattle.std.specs.Prelude.{◌≡◌, ◌⊎◌, List, [], map, Option, Some, None, Result, Err, String, string_bytes}
+use Rattle.std.specs.Prelude.{◌≡◌, ◌≢◌, ◌⊎◌, false, List, [], ◌∷◌, map, drop, Option, Some, None, Result, Ok, Err, String, string_bytes}
+use Rattle.std.specs.Vec.Iter.{into_iter_items}
+use Rattle.std.specs.IoError.{error_kind}
 use Rattle.std.specs.declared.alloc.Global.{Global}
+use Rattle.std.specs.declared.vec.IntoIter.{IntoIter}
+use Rattle.std.specs.declared.io.Error.{Error as IoError}
+use Rattle.std.specs.declared.io.ErrorKind.{ErrorKind as IoKind}
+use Rattle.std.specs.declared.io.ErrorKind.TheVariants.{OutOfMemory}
 use Rattle.edn.specs.declared.refusal.Refusal.TheVariants.{NoMemory}
 use Rattle.clap.specs.Words.{IsAmong, Kinds, Row, Text, fault_of, kind_of, rows_of, subcommand_of}
 use Rattle.clap.specs.declared.error.Error.{Error}
 use Rattle.clap.specs.declared.error.kind.ErrorKind.{ErrorKind}
 use Rattle.clap.specs.declared.parser.matches.Found.{Found}
+use Rattle.harness.specs.declared.config.Config.{Config}
+use Rattle.harness.specs.Setups.{setup_of}
+use Rattle.run_plans.specs.Options.{default_setup}
 use Rattle.command_line.specs.Commands.{program_app}
 use Rattle.command_line.specs.Orders.{IsOrderBy}
 use Rattle.command_line.specs.Stops.{IsRequest, IsUsageFault}
 use Rattle.command_line.specs.declared.order.Order.{Order}
+use Rattle.command_line.specs.declared.order.Order.TheVariants.{Script}
 use Rattle.command_line.specs.declared.order.Stop.{Stop}
 use Rattle.command_line.specs.declared.order.Stop.TheVariants.{Words, Refused}
 
@@ -38,3 +48,17 @@ abbrev pub IsOrderIn : List Text → Result Order Stop → Type 0
 IsOrderIn words result =
     ((fault_of program_app words ≡ []) × NamesOrder (subcommand_of program_app words) result)
     ⊎ (StopsFor (fault_of program_app words) result ⊎ (result ≡ Err (Refused NoMemory)))
+
+-- no words are `script` with its defaults
+abbrev pub IsOrderOf : List Text → Result Order Stop → Type 0
+IsOrderOf [] result = (config : Config) × (result ≡ Ok (Script config false)) × (setup_of config ≡ default_setup)
+IsOrderOf (word ∷ words) result = IsOrderIn (word ∷ words) result
+
+-- why there is no order if the words could not be had: memory was refused for them, else a usage fault
+abbrev pub HasNoWords : IoKind → Stop → Type 0
+HasNoWords kind stop = (kind ≡ OutOfMemory → stop ≡ Refused NoMemory) × (kind ≢ OutOfMemory → IsUsageFault stop)
+
+-- the order in the words that a process got, without the first, its name; or memory ran out; or why there are no words
+abbrev pub IsOrderGiven : Result (IntoIter (String Global) Global) IoError → Result Order Stop → Type 0
+IsOrderGiven (Ok words) result = IsOrderOf (drop 1 (words_of (into_iter_items words))) result ⊎ (result ≡ Err (Refused NoMemory))
+IsOrderGiven (Err error) result = (stop : Stop) × (result ≡ Err stop) × HasNoWords (error_kind error) stop

@@ -1,16 +1,17 @@
 //! The exit status where a script has ended, and if there is no order.
-ghost use Rattle.std.specs.Prelude.{◌≡◌, ◌⊎◌, MatchOption, MatchResult};
-ghost use Rattle.command_line.specs.Stops.{IsHelp};
+ghost use Rattle.std.specs.Prelude.{◌≡◌, false, MatchOption, MatchResult};
+ghost use Rattle.command_line.specs.Stops.{EndsWithoutOrder, IsPutOrNoMemory};
 ghost use Rattle.checks.specs.ExitStatus.{status_of};
 
 use crate::order::Stop;
-use checks::{REFUSED, status_of_verdict};
+use checks::{REFUSED, put_text, status_of_verdict};
 use edn::Refusal;
-use line_loop::{Failed, refusal_text};
+use line_loop::{Failed, Flushes, refusal_text};
 use linspec::Verdict;
 use onlookers::Onlooker;
 use std::alloc::Global;
-use std::io::{Eprint, Print};
+use std::io::{Eprint, Write};
+use std::sync::Wait;
 
 /// The exit status after a script: 0 legal, 1 illegal, 2 unknown, 3 for a script that its first refusal closed, and 3 for a
 /// refusal of the whole, whose line goes to standard error. It may wait for that; if there is no memory for the line, or an
@@ -48,33 +49,56 @@ pub fn say_unwritten<P: Eprint, W: Failed, L: Onlooker>(
     }
 }
 
-/// The exit status if there is no order: 0 for help and the version, which go to standard output, else 3, and 3 too
-/// if they can't be written, which is then said. A usage fault and a refusal line go to standard error, whose errors are
-/// passed over. It may wait for either.
-pub fn status_of_stop<P: Print + Eprint, L: Onlooker>(
-    rt: &P,
+/// The exit status if there is no order. The text of help or of the version is written and flushed, with 0. If that fails, it is said, with
+/// 3; so it is if there is no memory for the text. For any other stop nothing is written, with 3: a usage fault or the line of a refusal
+/// goes to standard error, whose errors are passed over. It may wait for the writer and for standard error.
+pub fn status_of_stop<X: Wait + Eprint, W: Write + Failed + Flushes, L: Onlooker>(
+    rt: &X,
     alloc: Global,
     stop: &Stop,
+    writer: &mut W,
     onlooker: &L,
 ) -> u8
-    ensures { (result ≡ 3) ⊎ ((result ≡ 0) × IsHelp stop.now) }
+    requires { W.has_failed writer.old ≡ false }
+    ensures { EndsWithoutOrder stop.now (W.contents writer.old) (W.contents writer.new)
+        (W.has_failed writer.new) (W.is_flushed writer.new) result }
 {
     match stop {
         Stop::Words(error) => {
-            let printed = error.print(rt);
             if error.use_stderr() {
-                return REFUSED;
-            }
-            match printed {
-                Ok(()) => 0,
-                Err(_) => {
-                    print_refusal(rt, alloc, &Refusal::WriteFailed, onlooker);
-                    REFUSED
-                }
+                let _ = rt.eprint(error);
+                REFUSED
+            } else {
+                put_request(rt, alloc, error, writer, onlooker)
             }
         }
         Stop::Refused(refusal) => {
             print_refusal(rt, alloc, refusal, onlooker);
+            REFUSED
+        }
+    }
+}
+
+// Writes and flushes the text of help or of the version, and gives the exit status.
+fn put_request<X: Wait + Eprint, W: Write + Failed + Flushes, L: Onlooker>(
+    rt: &X,
+    alloc: Global,
+    request: &clap::Error,
+    writer: &mut W,
+    onlooker: &L,
+) -> u8
+    requires { W.has_failed writer.old ≡ false }
+    ensures { IsPutOrNoMemory (W.contents writer.old) (W.contents writer.new)
+        (W.has_failed writer.new) (W.is_flushed writer.new) result }
+{
+    match format!(in alloc; "{request}") {
+        Ok(text) => {
+            let status = put_text(rt, text.as_bytes(), 0, writer);
+            say_unwritten(rt, alloc, writer, onlooker);
+            status
+        }
+        Err(_) => {
+            print_refusal(rt, alloc, &Refusal::NoMemory, onlooker);
             REFUSED
         }
     }

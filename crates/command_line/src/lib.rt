@@ -5,8 +5,10 @@
 mod commands;
 mod exit_status;
 mod help;
+mod laws;
 mod order;
 
 pub use exit_status::{say_unwritten, status_after, status_of_stop};
 pub use help::TYPED;
-pub use order::{Order, Stop, no_text, order_by, order_of, stop_at};
+pub use laws::help_shows_the_defaults;
+pub use order::{Order, Stop, no_text, order_by, order_given, order_of, stop_at};

@@ -1,13 +1,12 @@
 //! The words of the command line.
-ghost use Rattle.std.specs.Prelude.{◌≡◌, ◌≤◌, length, IfOk, IfSome, Ok, false, codes, string_bytes};
+ghost use Rattle.std.specs.Prelude.{◌≡◌, ◌≤◌, [], IfOk, IfSome, Ok, codes, drop, string_bytes};
+ghost use Rattle.std.specs.Vec.Iter.{into_iter_items};
 ghost use Rattle.harness.specs.Setups.{setup_of, IsSetup};
-ghost use Rattle.harness.specs.declared.config.Config.{Config};
 ghost use Rattle.clap.specs.Words.{found_of, kind_of, subcommand_rows_of};
 ghost use Rattle.clap.specs.declared.error.kind.ErrorKind.TheVariants.{OutOfMemory};
-ghost use Rattle.run_plans.specs.Options.{default_setup};
 ghost use Rattle.command_line.specs.Orders.{AfterJudging, AreJudgingTexts, AreRunTexts, ChecksAsFound, ConfirmsAsFound, IsWithinLimits, JudgesAsFound, RunsAsFound, ScriptsAsFound, text_found, workers_found};
 ghost use Rattle.command_line.specs.Stops.{IsRequest, IsStopBy, IsUsageFault};
-ghost use Rattle.command_line.specs.Words.{IsOrderIn, NamesOrder, words_of};
+ghost use Rattle.command_line.specs.Words.{HasNoWords, IsOrderGiven, IsOrderIn, IsOrderOf, NamesOrder, words_of};
 
 use crate::{commands, help};
 use clap::error::ErrorKind;
@@ -18,6 +17,8 @@ use harness::Config;
 use models::ModelKind;
 use run_plans::{JudgingTexts, Misspelled, OptionName, RunTexts, workers_in};
 use std::alloc::{AllocError, Global};
+use std::env::Args;
+use std::io;
 
 // The message of a text that does not spell the number of workers.
 const NO_WORKERS: &str = "--workers takes a number, 1 to 64";
@@ -65,6 +66,42 @@ pub enum Stop {
     Refused(Refusal),
 }
 
+/// The order in the words that a process got. The first word is the program's name, and the words behind it give the order. It takes memory
+/// for these words, and as [`order_of`] does.
+///
+/// # Errors
+///
+/// Those of [`order_of`]. If the words could not be had: `Refused` with `NoMemory` if memory was refused for them, else [`no_text`].
+pub fn order_given(alloc: Global, given: io::Result<Args>) -> Result<Order, Stop>
+    ensures within { IfOk result IsWithinLimits }
+    ensures given { IsOrderGiven given result }
+{
+    match given {
+        Ok(words) => match words_behind_name(alloc, words) {
+            Ok(words) => order_of(alloc, words.as_slice()),
+            Err(_) => Err(Stop::Refused(Refusal::NoMemory)),
+        },
+        Err(error) => Err(no_words(alloc, error.kind())),
+    }
+}
+
+// The words behind the program's name.
+fn words_behind_name(alloc: Global, words: Args) -> Result<Vec<String>, AllocError>
+    ensures { IfOk result (λ rest. rest.items ≡ drop 1 (into_iter_items words)) }
+{
+    words.skip(1).collect(alloc)
+}
+
+// Why there is no order if the words could not be had, by the kind of the error.
+fn no_words(alloc: Global, kind: io::ErrorKind) -> Stop
+    ensures { HasNoWords kind result }
+{
+    match kind {
+        io::ErrorKind::OutOfMemory => Stop::Refused(Refusal::NoMemory),
+        _ => no_text(alloc),
+    }
+}
+
 /// The order that the words after the program's name give. If there are none, it is `script` with its defaults, and takes no memory; else
 /// it takes memory for the table of the options and for their values.
 ///
@@ -75,17 +112,32 @@ pub enum Stop {
 /// workers, out of its limits. `Refused` for another number out of its limits: `BadBudget` first, then `BadConcurrency`, which `run` has
 /// above 63 too, then `NoSuchReplica`; and with `NoMemory` if memory is refused.
 pub fn order_of(alloc: Global, words: &[String]) -> Result<Order, Stop>
-    ensures defaults { length words.now ≡ 0 → (config : Config)
-        × (result ≡ Ok (Order.Script config false)) × (setup_of config ≡ default_setup) }
     ensures within { IfOk result IsWithinLimits }
-    ensures spelled { 1 ≤ length words.now → IsOrderIn (words_of words.now) result }
+    ensures spelled { IsOrderOf (words_of words.now) result }
 {
     if words.is_empty() {
-        return Ok(Order::Script {
-            config: Config::to_judge(alloc, 2, ModelKind::Register, 4096),
-            is_strict: false,
-        });
+        order_without_words(alloc)
+    } else {
+        order_parsed(alloc, words)
     }
+}
+
+// The order if there are no words: a script with its defaults.
+fn order_without_words(alloc: Global) -> Result<Order, Stop>
+    ensures within { IfOk result IsWithinLimits }
+    ensures default { IsOrderOf [] result }
+{
+    Ok(Order::Script {
+        config: Config::to_judge(alloc, 2, ModelKind::Register, 4096),
+        is_strict: false,
+    })
+}
+
+// The order in words, by a parse of them.
+fn order_parsed(alloc: Global, words: &[String]) -> Result<Order, Stop>
+    ensures within { IfOk result IsWithinLimits }
+    ensures spelled { IsOrderIn (words_of words.now) result }
+{
     let Ok(mut command) = commands::program(alloc) else {
         return Err(Stop::Refused(Refusal::NoMemory));
     };
@@ -329,9 +381,8 @@ fn usage(command: &mut Command, message: &str) -> Stop
 
 /// The meaning of an error in these words for the program: itself for help and the version; else a usage fault.
 ///
-/// If script was given a file, the message says that it takes none. If a number below zero follows an option of numbers, the message says
-/// which it takes. If the name of a file stands in place of a command, the message says how to check this file. It takes memory for its
-/// message.
+/// If script was given a file, the message says that it takes none. If the name of a file stands in place of a command, the message says how
+/// to check this file. It takes memory for its message.
 pub fn stop_at(alloc: Global, words: &[String], error: clap::Error) -> Stop
     ensures asked { IsRequest (kind_of error) → result ≡ Stop.Words error }
     ensures fault { (¬ IsRequest (kind_of error)) → IsUsageFault result }
@@ -350,76 +401,12 @@ fn fault_at(alloc: Global, words: &[String], error: clap::Error) -> Stop
     ensures fault { IsUsageFault result }
     ensures memory { kind_of error ≡ OutOfMemory → result ≡ Stop.Refused Refusal.NoMemory }
 {
-    if error.kind() == ErrorKind::UnknownArgument {
-        return stray_at(alloc, words, error);
-    }
-    match words.first() {
-        Some(first) if error.kind() == ErrorKind::InvalidSubcommand && is_path(first) => {
-            path_alone(alloc, first)
+    match (error.kind(), words.first()) {
+        (ErrorKind::UnknownArgument, _) if is_script_with_file(words) => {
+            usage_of(alloc, "script", help::NO_FILE)
         }
+        (ErrorKind::InvalidSubcommand, Some(first)) if is_path(first) => path_alone(alloc, first),
         _ => fault_of(error),
-    }
-}
-
-// The usage fault of a word that the command does not take: a number below zero, a file for a script, or another word.
-fn stray_at(alloc: Global, words: &[String], error: clap::Error) -> Stop
-    requires { kind_of error ≡ ErrorKind.UnknownArgument }
-    ensures { IsUsageFault result }
-{
-    if is_script_with_file(words) {
-        return usage_of(alloc, "script", help::NO_FILE);
-    }
-    let Ok(text) = format!(in alloc; "{error}") else {
-        return Stop::Refused(Refusal::NoMemory);
-    };
-    match (words.first(), below_zero(words)) {
-        (Some(name), Some(message)) if is_command(name.as_str()) && is_of_number(text.as_str()) => {
-            usage_of(alloc, name.as_str(), message)
-        }
-        _ => Stop::Words(error),
-    }
-}
-
-// Whether a word names a command.
-fn is_command(word: &str) -> bool {
-    word == "script" || word == "check" || word == "confirm" || word == "run"
-}
-
-// Whether the text of an error says that a number below zero was not expected.
-fn is_of_number(text: &str) -> bool {
-    match text.strip_prefix("error: unexpected argument '") {
-        Some(rest) => is_below_zero(rest),
-        None => false,
-    }
-}
-
-// The message of the option that the first number below zero follows, if the option takes a number.
-fn below_zero(words: &[String]) -> Option<&'static str> {
-    for pair in words.windows(2) {
-        if is_below_zero(pair[1].as_str()) {
-            return number_taken_by(pair[0].as_str());
-        }
-    }
-    None
-}
-
-// Whether a text begins with a minus before a digit.
-fn is_below_zero(text: &str) -> bool {
-    let bytes = text.as_bytes();
-    bytes.len() >= 2 && bytes[0] == b'-' && bytes[1].is_ascii_digit()
-}
-
-// The message of the option of this spelling, if it takes a number.
-fn number_taken_by(option: &str) -> Option<&'static str> {
-    match option {
-        "--budget" => Some(taken_by(OptionName::Budget)),
-        "--concurrency" => Some(taken_by(OptionName::Concurrency)),
-        "--seed" => Some(taken_by(OptionName::Seed)),
-        "--ops" => Some(taken_by(OptionName::Operations)),
-        "--keys" => Some(taken_by(OptionName::Keys)),
-        "--replicas" => Some(taken_by(OptionName::Replicas)),
-        "--workers" => Some(NO_WORKERS),
-        _ => None,
     }
 }
 

@@ -1,5 +1,8 @@
 -- Promise: the input, the output and the exit status of an order of the command line
-use Rattle.std.specs.Prelude.{◌≡◌, ◌≢◌, ◌⊎◌, ℕ, Bool, true, false, List, codes, Option, Result, Err, MatchOption, MatchResult, IfErr, IsErrAnd, IfOk, OnOk, string_bytes}
+use Rattle.std.specs.Prelude.{◌≡◌, ◌≢◌, ◌⊎◌, ℕ, Bool, true, false, List, codes, Option, Result, Err, MatchOption, MatchResult, IfErr, IsErrAnd, IfOk, OnOk, String, string_bytes}
+use Rattle.std.specs.declared.alloc.Global.{Global}
+use Rattle.std.specs.declared.vec.IntoIter.{IntoIter}
+use Rattle.std.specs.declared.io.Error.{Error}
 use Rattle.edn.specs.declared.refusal.Refusal.{Refusal}
 use Rattle.edn.specs.declared.refusal.Refusal.TheVariants.{ReadFailed, WriteFailed}
 use Rattle.models.specs.declared.model_kind.ModelKind.{ModelKind}
@@ -15,7 +18,8 @@ use Rattle.checks.specs.ExitStatus.{status_of}
 use Rattle.checks.specs.Checks.{Checks, ChecksFile, IsPut}
 use Rattle.confirms.specs.Confirms.{ConfirmsFiles, ConfirmsInput}
 use Rattle.runs.specs.RunText.{MaySay}
-use Rattle.command_line.specs.Stops.{IsHelp}
+use Rattle.command_line.specs.Stops.{EndsWithoutOrder}
+use Rattle.command_line.specs.Words.{IsOrderGiven}
 use Rattle.command_line.specs.declared.order.Order.{Order}
 use Rattle.command_line.specs.declared.order.Order.TheVariants as order
 use Rattle.command_line.specs.declared.order.Stop.{Stop}
@@ -95,9 +99,14 @@ IsCarriedOut holds (order.Confirm path order_path concurrency kind) input output
     IsConfirmation holds (string_bytes path) (string_bytes order_path) concurrency kind input output status
 IsCarriedOut holds (order.Run config) input output status = IsUnread input × IsARun (setup_of config) output status
 
--- the end of the program. If there is no order nothing is read, and the status is 3, or 0 for help and the version
+-- the end of the program. If there is no order nothing is read, and the output and the status are those of the alternative
 abbrev pub EndsAs : (List ℕ → Option (List ℕ)) → Result Order Stop → Input → Output → ℕ → Type 0
 EndsAs holds given input output status =
     MatchResult given
     (λ asked. IsCarriedOut holds asked input output status)
-    (λ stop. IsUnread input × (output.after ≡ output.before) × ((status ≡ 3) ⊎ ((status ≡ 0) × IsHelp stop)))
+    (λ stop. IsUnread input × EndsWithoutOrder stop output.before output.after output.has_failed output.is_flushed status)
+
+-- the words that the process got give an order, or its alternative, and the program ends as this says
+abbrev pub EndsByWords : (List ℕ → Option (List ℕ)) → Result (IntoIter (String Global) Global) Error → Input → Output → ℕ → Type 0
+EndsByWords holds words input output status =
+    (given : Result Order Stop) × IsOrderGiven words given × EndsAs holds given input output status

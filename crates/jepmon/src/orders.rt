@@ -3,11 +3,11 @@ ghost use Rattle.std.specs.Prelude.{◌≡◌, ◌≤◌, None, false, IfOk};
 ghost use Rattle.std.specs.Process.{exit_status};
 ghost use Rattle.harness.specs.Setups.{setup_of};
 ghost use Rattle.command_line.specs.Orders.{IsWithinLimits};
-ghost use Rattle.jepmon.specs.Ends.{EndsAs, IsARun, IsCarriedOut, IsCheck, IsConfirmation, IsScript};
+ghost use Rattle.jepmon.specs.Ends.{EndsAs, EndsByWords, IsARun, IsCarriedOut, IsCheck, IsConfirmation, IsScript};
 
 use crate::run_line::RunLine;
 use checks::{Opens, SeenFile, check_file, check_text};
-use command_line::{Order, Stop, TYPED, say_unwritten, status_after, status_of_stop};
+use command_line::{Order, Stop, TYPED, order_given, say_unwritten, status_after, status_of_stop};
 use confirms::{confirm_file, confirm_input};
 use harness::Config;
 use line_loop::{Failed, Flushes, ReadsBeside};
@@ -16,7 +16,8 @@ use onlookers::OnStandardError;
 use runs::run_store;
 use scripts::run_script;
 use std::alloc::Global;
-use std::io::{Eprint, IsTerminal, Print, Read, Write};
+use std::env::Args;
+use std::io::{self, Eprint, IsTerminal, Read, Write};
 use std::process::ExitCode;
 use std::rt::Clock;
 use std::sync::Wait;
@@ -195,19 +196,20 @@ pub fn run<'a, X: Wait + Threads + Sync + Clock + Eprint, W: Write + Failed + Fl
     status
 }
 
-/// Carries out the order in the words, or its alternative, and gives the exit status. This reader is standard input, and this writer is
-/// standard output. Whether somebody has to type the input, its handle says.
+/// Carries out the order in the words that the process got, or its alternative, and gives the exit status. The words are the result of
+/// `std::env::args`, this reader is standard input, and this writer is standard output. Whether somebody has to type the input, its handle
+/// says.
 pub fn ended<
     'a,
     'b,
-    X: Wait + Threads + Opens + Sync + Clock + Print + Eprint,
+    X: Wait + Threads + Opens + Sync + Clock + Eprint,
     T: IsTerminal,
     R: ReadsBeside<W>,
     W: Write + Failed + Flushes,
 >(
     rt: &X,
     alloc: Global,
-    given: Result<Order, Stop>,
+    words: io::Result<Args>,
     input: &T,
     reader: &mut SeenFile<'b, R, OnStandardError<'a, X>>,
     writer: &mut W,
@@ -215,8 +217,7 @@ pub fn ended<
 ) -> ExitCode
     requires reads { R.has_failed reader.old.file ≡ false }
     requires writes { W.has_failed writer.old ≡ false }
-    requires within { IfOk given IsWithinLimits }
-    ensures { EndsAs (X.holds rt.now) given
+    ensures { EndsByWords (X.holds rt.now) words
         (record {
           had = R.remaining reader.old.file;
           left = R.remaining reader.new.file;
@@ -232,15 +233,16 @@ pub fn ended<
         })
         (exit_status result) }
 {
+    let given = order_given(alloc, words);
     let status = status_given(rt, alloc, given, input, reader, writer, aside);
     ExitCode::from(status)
 }
 
-// The same, or the status of the alternative to an order.
+// Carries out the order, or its alternative, and gives the status.
 fn status_given<
     'a,
     'b,
-    X: Wait + Threads + Opens + Sync + Clock + Print + Eprint,
+    X: Wait + Threads + Opens + Sync + Clock + Eprint,
     T: IsTerminal,
     R: ReadsBeside<W>,
     W: Write + Failed + Flushes,
@@ -274,7 +276,7 @@ fn status_given<
 {
     match given {
         Ok(order) => carried_out(rt, alloc, order, input, reader, writer, aside),
-        Err(stop) => status_of_stop(rt, alloc, &stop, aside),
+        Err(stop) => status_of_stop(rt, alloc, &stop, writer, aside),
     }
 }
 
@@ -282,7 +284,7 @@ fn status_given<
 fn carried_out<
     'a,
     'b,
-    X: Wait + Threads + Opens + Sync + Clock + Print + Eprint,
+    X: Wait + Threads + Opens + Sync + Clock + Eprint,
     T: IsTerminal,
     R: ReadsBeside<W>,
     W: Write + Failed + Flushes,

@@ -5,3 +5,4 @@ pub mod Scripts
 pub mod Listed
 pub mod Tapes
 pub mod Shown
+pub mod Runs

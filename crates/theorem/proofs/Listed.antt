@@ -17,7 +17,7 @@ use Rattle.checks.specs.Recorded.{TakesAll, AdmitsAll, RefusesElement, ComesTo}
 use Rattle.checks.specs.declared.recorded.Findings.{Findings}
 use Rattle.checks.specs.declared.recorded.Findings.TheVariants.{Judged, RefusedEvent, Refused}
 use Rattle.checks.proofs.Recording.{machine_with}
-use Rattle.theorem.specs.Theorem.{IsJudgedSo, recorded}
+use Rattle.theorem.specs.Histories.{IsJudgedSo, recorded}
 use Rattle.theorem.specs.Bridges.{SaysOf}
 use Rattle.theorem.proofs.Verdicts.{right}
 

@@ -4,7 +4,7 @@ use Rattle.models.specs.declared.model_kind.ModelKind.{ModelKind}
 use Rattle.witness.specs.declared.confirming.Confirmation.TheVariants.{Linearizable}
 use Rattle.confirms.specs.Found.{ComesTo}
 use Rattle.confirms.specs.declared.found.Found.TheVariants.{Shown}
-use Rattle.theorem.specs.Theorem.{IsShownSo}
+use Rattle.theorem.specs.Histories.{IsShownSo}
 
 pub shown : (c : ℕ) (kind : ModelKind) (budget : ℕ) (bytes order : List ℕ) → ComesTo c kind bytes order (Shown Linearizable) → IsShownSo c kind budget bytes
 shown c kind budget bytes order h = (h.0, h.1, h.2.2.1)

@@ -1,16 +1,20 @@
 -- Promise: from the definitions of the calls to those of the page (this project's own)
-use Rattle.std.specs.Prelude.{◌≡◌, ℕ, List, Ok}
+use Rattle.std.specs.Prelude.{◌≡◌, ◌⊎◌, ℕ, List, Ok}
+use Rattle.edn.specs.declared.refusal.Refusal.{Refusal}
 use Rattle.linspec.specs.declared.verdict.Verdict.{Verdict}
 use Rattle.machine.specs.declared.command.Command.{Command}
 use Rattle.machine.specs.declared.command.Command.TheVariants.{Append, Rewind, SetModel, SetBudget, Verdict as Ask}
 use Rattle.machine.specs.declared.command.Reply.TheVariants.{Verdict as Says}
-use Rattle.machine.specs.Machine.{Machine, MayStep}
+use Rattle.machine.specs.Machine.{Machine, Setup, MayStep, opening}
 use Rattle.scripts.specs.Reply.{Script}
 use Rattle.checks.specs.declared.recorded.Findings.{Findings}
 use Rattle.checks.specs.declared.recorded.Findings.TheVariants.{Judged}
 use Rattle.board.specs.Tape.{Leads}
 use Rattle.board.specs.CoreTape.{CoreReply, CoreTape}
+use Rattle.clients.specs.Runs.{HasNoRun, IsRun}
+use Rattle.runs.specs.RunText.{IsRefusalText}
 use Rattle.theorem.specs.Theorem.{Session, IsRight}
+use Rattle.theorem.specs.Histories.{IsReportedSo, recorded}
 
 -- a line can spell the command: it is not a draw, a ticket or a fault
 abbrev pub IsOfHistory : Command → Type 0
@@ -42,3 +46,15 @@ StepsRight old command reply new = MayStep old command reply new × SaysRight ne
 -- each reply on the tape is right, in turn, and the last leads to this machine
 abbrev pub IsRightTape : CoreTape → Machine → Type 0
 IsRightTape tape m = Leads StepsRight tape m
+
+-- the machine to which clients and the nemesis lead has this history, with the settings of the opening alone, and it is reported so
+pub record IsReportOf (setup : Setup) (m : Machine) (text : List ℕ) (status : ℕ) : Type 0 where
+  pub run : IsRun setup.concurrency (opening setup) m
+  pub settings : m.judged ≡ recorded setup.concurrency setup.kind setup.budget m.judged.events
+  pub reported : IsReportedSo setup.mode setup.concurrency setup.kind setup.budget m.judged.events text status
+
+-- the text of a run is a report; or the line of a refusal, with 3
+abbrev pub SaysOfRun : Setup → List ℕ → ℕ → Type 0
+SaysOfRun setup text status =
+    ((m : Machine) × IsReportOf setup m text status)
+    ⊎ ((why : Refusal) × HasNoRun setup why × IsRefusalText why text × (status ≡ 3))

@@ -1,9 +1,9 @@
--- Promise: the whole theorem on one page, from bytes to the linearizability of Herlihy and Wing (this project's own)
+-- Promise: the theorem on one page, from the bytes of a script to the linearizability of Herlihy and Wing (this project's own). `Histories`
+-- says the same of whole histories
 use Rattle.std.specs.Prelude.{◌≡◌, ◌⊎◌, ◌<◌, ◌≤◌, ◌&&◌, ℕ, Bool, true, false, List, [], length, Option, Some, None, Result, Ok, Err}
 use Rattle.edn.specs.declared.refusal.Refusal.{Refusal}
 use Rattle.edn.specs.declared.refusal.Refusal.TheVariants.{NoSuchIndex, BadBudget, TooLong}
 use Rattle.models.specs.declared.model_kind.ModelKind.{ModelKind}
-use Rattle.events.specs.declared.event.Event.{Event}
 use Rattle.events.specs.Events.{marks}
 use Rattle.history.specs.WellFormed.{IsWellFormed, Refuses}
 use Rattle.linspec.specs.Orders.{IsLinearizable, product}
@@ -21,8 +21,6 @@ use Rattle.scripts.specs.declared.command.LineCommand.TheVariants.{Hello, Step}
 use Rattle.scripts.specs.Command.{Asks}
 use Rattle.scripts.specs.Hello.{hello_line}
 use Rattle.report.specs.VerdictLine.{verdict_line}
-use Rattle.report.specs.Report.{IsReport}
-use Rattle.checks.specs.Reading.{IsRead}
 
 -- 1. The meaning of a verdict
 
@@ -96,25 +94,3 @@ Answers old line text new =
 abbrev pub EndsBy : Session → Option Verdict → Type 0
 EndsBy end (Some verdict) = IsRight end.history verdict × (end.is_closed ≡ false)
 EndsBy end None = end.is_closed ≡ true
-
--- 4. Recorded histories
-
--- a history of these events, of one kind and one budget
-abbrev pub recorded : ℕ → ModelKind → ℕ → List Event → JudgedHistory
-recorded concurrency kind budget events = record (opening_of concurrency kind budget) { events = events }
-
--- the bytes spell events, each of which is well-formed after the events before it. The verdict on them is right, and the text is their
--- report
-abbrev pub IsJudgedSo : ℕ → ModelKind → ℕ → List ℕ → Verdict → List ℕ → Type 0
-IsJudgedSo concurrency kind budget bytes verdict text =
-    (events : List Event) × IsRead bytes concurrency [] events None
-    × IsRight (recorded concurrency kind budget events) verdict
-    × IsReport (recorded concurrency kind budget events) text
-
--- 5. An order that is shown
-
--- the bytes spell events, each of which is well-formed after the events before it. The operations of all keys together, each an object of
--- this kind, have a legal order
-abbrev pub IsShownSo : ℕ → ModelKind → ℕ → List ℕ → Type 0
-IsShownSo concurrency kind budget bytes =
-    (events : List Event) × IsRead bytes concurrency [] events None × Means (recorded concurrency kind budget events) Legal

@@ -20,8 +20,13 @@ ghost use Rattle.witness.specs.declared.confirming.Confirmation.{Confirmation};
 ghost use Rattle.confirms.specs.Found.{ComesTo as Confirms};
 ghost use Rattle.confirms.specs.declared.found.Found.{Found};
 ghost use Rattle.board.specs.CoreTape.{CoreTape, LeadsTo, opening_tape};
-ghost use Rattle.theorem.specs.Theorem.{Answers, Changes, Declines, EndsBy, IsJudgedSo, IsShownSo, opened};
-ghost use Rattle.theorem.specs.Bridges.{IsOfHistory, IsRightTape, SaysOf, session_of};
+ghost use Rattle.clients.specs.Runs.{IsRun};
+ghost use Rattle.runs.specs.RunText.{MaySay};
+ghost use Rattle.theorem.specs.Theorem.{Answers, Changes, Declines, EndsBy, Means, opened};
+ghost use Rattle.theorem.specs.Histories.{IsJudgedSo, IsShownSo};
+ghost use Rattle.theorem.specs.Bridges.{IsOfHistory, IsRightTape, SaysOf, SaysOfRun, session_of};
+
+use clients::laws::no_false_alarm_in_a_run;
 
 /// The bytes of a script. `scripts::run_script` promises its reply text over the one-thread object; this law promises the same over
 /// histories alone, by `Answers`. Each verdict in the text is right by the definition of Herlihy and Wing.
@@ -70,6 +75,20 @@ pub fn tape_law()
     ensures { (setup : Setup) (tape : CoreTape) (m : Machine) →
         IsPrefix (opening_tape (opening setup)) tape → LeadsTo tape m → IsRightTape tape m }
 {}
+
+/// The text and the exit status of a run: `runs::run_store` promises them by `MaySay`. If they report a history, it is the one that the
+/// clients left, and the verdict on it is right by the definition of Herlihy and Wing. So 0 means that it is linearizable, and 1 that it is
+/// not. A strict store's history is linearizable.
+pub fn run_law()
+    ensures says { (setup : Setup) (text : List ℕ) (status : ℕ) →
+        MaySay setup text status → SaysOfRun setup text status }
+    ensures legal { (setup : Setup) (text : List ℕ) → MaySay setup text 0
+        → (m : Machine) × IsRun setup.concurrency (opening setup) m × Means m.judged Verdict.Legal }
+    ensures illegal { (setup : Setup) (text : List ℕ) → MaySay setup text 1
+        → (m : Machine) × IsRun setup.concurrency (opening setup) m × ¬ Means m.judged Verdict.Legal }
+{
+    no_false_alarm_in_a_run();
+}
 
 /// The five commands that a line can spell change the history of the one-thread object as `Changes` says, and are refused as `Declines`
 /// says.

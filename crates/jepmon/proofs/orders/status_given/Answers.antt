@@ -5,4 +5,4 @@ pub returns-in-Ok : goal.returns-in-Ok
 returns-in-Ok g c = rw c.in-Ok.is c.carried_out.ensures
 
 pub returns-in-Err : goal.returns-in-Err
-returns-in-Err g c = rw c.in-Err.is (refl, refl, c.status_of_stop.ensures)
+returns-in-Err g c = rw c.in-Err.is (refl, c.status_of_stop.ensures)

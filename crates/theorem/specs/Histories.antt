@@ -1,0 +1,48 @@
+-- Promise: the theorem for whole histories, of a file or of a run, by the page of scripts (this project's own)
+use Rattle.std.specs.Prelude.{◌≡◌, ℕ, List, [], None}
+use Rattle.models.specs.declared.model_kind.ModelKind.{ModelKind}
+use Rattle.events.specs.declared.event.Event.{Event}
+use Rattle.history.specs.WellFormed.{IsHistoryOf}
+use Rattle.linspec.specs.JudgedHistory.{JudgedHistory, opening_of}
+use Rattle.linspec.specs.declared.verdict.Verdict.{Verdict}
+use Rattle.linspec.specs.declared.verdict.Verdict.TheVariants.{Legal}
+use Rattle.test_store.specs.declared.outcome.Mode.{Mode}
+use Rattle.test_store.specs.declared.outcome.Mode.TheVariants.{Strict}
+use Rattle.report.specs.Report.{IsReport}
+use Rattle.checks.specs.ExitStatus.{status_of}
+use Rattle.checks.specs.Reading.{IsRead}
+use Rattle.theorem.specs.Theorem.{Means, IsRight}
+
+-- 1. Recorded histories
+
+-- a history of these events, of one kind and one budget
+abbrev pub recorded : ℕ → ModelKind → ℕ → List Event → JudgedHistory
+recorded concurrency kind budget events = record (opening_of concurrency kind budget) { events = events }
+
+-- the bytes spell events, each of which is well-formed after the events before it. The verdict on them is right, and the text is their
+-- report
+abbrev pub IsJudgedSo : ℕ → ModelKind → ℕ → List ℕ → Verdict → List ℕ → Type 0
+IsJudgedSo concurrency kind budget bytes verdict text =
+    (events : List Event) × IsRead bytes concurrency [] events None
+    × IsRight (recorded concurrency kind budget events) verdict
+    × IsReport (recorded concurrency kind budget events) text
+
+-- 2. An order that is shown
+
+-- the bytes spell events, each of which is well-formed after the events before it. The operations of all keys together, each an object of
+-- this kind, have a legal order
+abbrev pub IsShownSo : ℕ → ModelKind → ℕ → List ℕ → Type 0
+IsShownSo concurrency kind budget bytes =
+    (events : List Event) × IsRead bytes concurrency [] events None × Means (recorded concurrency kind budget events) Legal
+
+-- 3. A run of clients
+
+-- the events that clients left are well-formed, each after those before it. The verdict on them is right, the text is their report, and the
+-- status is that of the verdict. If the store is strict, they are linearizable, even if the verdict is unknown
+pub record IsReportedSo (mode : Mode) (concurrency : ℕ) (kind : ModelKind) (budget : ℕ) (events : List Event) (text : List ℕ) (status : ℕ) : Type 0 where
+  pub well_formed : IsHistoryOf concurrency events
+  pub verdict : Verdict
+  pub right : IsRight (recorded concurrency kind budget events) verdict
+  pub report : IsReport (recorded concurrency kind budget events) text
+  pub ends : status ≡ status_of verdict
+  pub strict : mode ≡ Strict → Means (recorded concurrency kind budget events) Legal
