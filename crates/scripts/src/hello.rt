@@ -4,11 +4,11 @@ ghost use Rattle.scripts.specs.Hello.{hello_line};
 
 use models::{ModelKind, each_kind};
 
-/// The program's version: `with_version!(callback; args)` is `callback!(args; "1.6.0")`.
+/// The program's version: `with_version!(callback; args)` is `callback!(args; "1.6.1")`.
 #[macro_export]
 macro_rules! with_version {
     ($callback:ident; $($args:tt)*) => {
-        $callback! { $($args)*; "1.6.0" }
+        $callback! { $($args)*; "1.6.1" }
     };
 }
 
