@@ -43,11 +43,11 @@ def whole(call, standard_input):
     return used.ru_utime + used.ru_stime, used.ru_maxrss / 1024, os.waitstatus_to_exitcode(status)
 
 
-def replies(text, call):
-    """The median and the greatest time from a line to its reply, in milliseconds."""
+def replies(lines, call):
+    """The seconds from each line to its reply, the shortest first."""
     process = subprocess.Popen(call, stdin=subprocess.PIPE, stdout=subprocess.PIPE, bufsize=0)
     times = []
-    for line in text.read_bytes().splitlines(True):
+    for line in lines:
         begin = time.perf_counter()
         process.stdin.write(line)
         reply = b""
@@ -56,7 +56,12 @@ def replies(text, call):
         times.append(time.perf_counter() - begin)
     process.stdin.close()
     process.wait()
-    times.sort()
+    return sorted(times)
+
+
+def middle_and_last(text, call):
+    """The median and the greatest time from a line of the file to its reply, in milliseconds."""
+    times = replies(text.read_bytes().splitlines(True), call)
     return times[len(times) // 2] * 1e3, times[-1] * 1e3
 
 
@@ -84,8 +89,8 @@ def main():
         script = words("script", model, clients, budget)
         seconds, peak, status = min(whole(script, text) for _ in range(runs))
         recorded, _, _ = min(whole([*words("check", model, clients, budget), str(text)], "/dev/null") for _ in range(runs))
-        median, slowest = min((replies(text, script) for _ in range(runs)), key=lambda pair: pair[1])
-        pipes = min(replies(text, ["cat"])[0] for _ in range(runs))
+        median, slowest = min((middle_and_last(text, script) for _ in range(runs)), key=lambda pair: pair[1])
+        pipes = min(middle_and_last(text, ["cat"])[0] for _ in range(runs))
         print(f"| {load}, {clients}, {budget:,} | {events:,} | {status} | {seconds:.3f} s | {round(events / max(seconds, 0.001), -3):,.0f} | {peak:.0f} MiB "
               f"| {recorded:.3f} s | {median * 1e3:.1f} us | {pipes * 1e3:.1f} us | {slowest:.1f} ms |", flush=True)
         text.unlink()

@@ -19,11 +19,11 @@ def words(path: pathlib.Path) -> List[str]:
     return [word for word in read(path).decode().split("\n") if word]
 
 
-def given(case: pathlib.Path, name: str) -> bytes:
-    """The input of a case by this name: its file NAME.edn, or the output of its script NAME.py."""
-    script = case / f"{name}.py"
+def given(path: pathlib.Path) -> bytes:
+    """The bytes of a file of a case, or what the script of its name prints, if it is a script, NAME.py."""
+    script = path.with_suffix(".py")
     if not script.exists():
-        return read(case / f"{name}.edn")
+        return read(path)
     printed = io.BytesIO()
     with contextlib.redirect_stdout(io.TextIOWrapper(printed, "utf-8", write_through=True)) as stream:
         runpy.run_path(str(script), run_name="__main__")

@@ -30,7 +30,7 @@ def explained(arguments: List[str], text: bytes = b"", program: str = PROGRAM) -
 
 
 def run_case(case: pathlib.Path) -> List[str]:
-    text = given(case, "history")
+    text = given(case / "history.edn")
     ran = explained(["-"] + words(case / "args"), text)
     options = [word for word in words(case / "args") if word != "--by-ends"]
     plain = subprocess.run([PROGRAM, "check", "/dev/stdin"] + options, input=text, stdout=subprocess.PIPE,

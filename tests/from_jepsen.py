@@ -28,7 +28,7 @@ SCRIPT = re.compile(rb"judge it by jepmon script (.*?), these lines before it:\n
 def turned(case: pathlib.Path) -> "subprocess.CompletedProcess[bytes]":
     """Runs the filter where the history is called input.edn, so that what it says is the same everywhere."""
     with tempfile.TemporaryDirectory() as folder:
-        (pathlib.Path(folder) / "input.edn").write_bytes(given(case, "input"))
+        (pathlib.Path(folder) / "input.edn").write_bytes(given(case / "input.edn"))
         return forked.ran([str(FILTER), "input.edn"] + words(case / "args"), folder=folder)
 
 
@@ -66,7 +66,7 @@ def run_example() -> List[str]:
 def run_standard_input() -> List[str]:
     """A history comes by standard input as by a file."""
     case = CASES / "maps"
-    ran = forked.ran([str(FILTER)], given(case, "input"))
+    ran = forked.ran([str(FILTER)], given(case / "input.edn"))
     return differing("standard output", ran.stdout, read(case / "stdout"))
 
 

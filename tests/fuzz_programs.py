@@ -14,6 +14,7 @@ from typing import Any, Dict, Iterator, List, NamedTuple, Tuple
 TOP = pathlib.Path(__file__).resolve().parents[1]
 sys.path[:0] = [str(TOP), str(TOP / "python"), str(TOP / "tests")]
 
+from jepmon.history.line import event_line, part_text  # noqa: E402
 from program import PROGRAM  # noqa: E402
 from tests.python.shard_histories import OPERATIONS, Store  # noqa: E402
 
@@ -29,14 +30,6 @@ class Moment(NamedTuple):
     processes: Tuple[int, ...]
     running: Dict[int, Tuple[str, int, Any]]
     states: Dict[int, Any]
-
-
-def spelled(part: Any) -> str:
-    if part is None:
-        return "nil"
-    if isinstance(part, frozenset):
-        return "#{" + " ".join(map(str, sorted(part))) + "}"
-    return f"[{part[0]} {part[1]}]" if isinstance(part, tuple) else str(part)
 
 
 class Script:
@@ -58,7 +51,7 @@ class Script:
 
     def event(self, kind: str, process: int, name: str, key: int, part: Any, moment: Moment) -> str:
         self.moments.append(moment)
-        return f"{{:type :{kind}, :process {process}, :f :{name}, :value [{key} {spelled(part)}]}}"
+        return event_line(kind, process, name, key, part_text(part))
 
     def invoke(self, thread: int, name: str, key: int) -> str:
         now, value = self.moments[-1], self.chance.randrange(self.values)

@@ -22,10 +22,8 @@ from collections.abc import Iterator
 from typing import NamedTuple
 
 import bad_inputs as bad
-import run as cases
 from bad_inputs import done, event, pairs
-
-PROGRAM = os.environ.get("JEPMON", str(cases.PROGRAM))
+from program import PROGRAM
 
 # Two values whose numbers in an earlier hash differed in the upper half alone, so that all orders of their pairs had few hashes.
 CHOSEN = (-6352474062820459772, -1994686264887664066)

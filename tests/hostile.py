@@ -11,7 +11,6 @@ usage: hostile.py [--lines N] [--commands N] [--files N] [--megabytes N] [--keys
 the peak of memory of the last two; the last line is how many passed and failed.
 """
 import argparse
-import os
 import pathlib
 import random
 import subprocess
@@ -21,9 +20,8 @@ import threading
 import time
 
 import grammar
-import run as cases
+from program import PROGRAM
 
-PROGRAM = os.environ.get("JEPMON", cases.PROGRAM)
 PIECES = [piece.encode() for piece in (
     "nil", "true", "false", "0", "-1", "+7", "12", "9223372036854775807", "-9223372036854775808", ":a", ":type", ":x-1?", '"a"', '"\\n"',
     '"', "\\", "[", "]", "{", "}", "#{", "#_", ";", " ", ",", "\t", "#", ":", "-", "é", "'", "(", "/", "1.5")]

@@ -79,7 +79,7 @@ def run_cases_of_check() -> List[str]:
     for case in sorted((TOP / "tests" / "cases").iterdir()) + sorted((TOP / "tests" / "explain").iterdir()):
         given = words(case / "args")
         if case.parent.name == "explain":
-            history, want = histories.given(case, "history"), read(case / "stdout").splitlines(True)[-1:]
+            history, want = histories.given(case / "history.edn"), read(case / "stdout").splitlines(True)[-1:]
         elif given[:1] == ["check"] and len(given) > 1 and (TOP / given[1]).is_file() and not (case / "memory").exists():
             history, want, given = read(TOP / given[1]), read(case / "stdout").splitlines(True), given[2:]
         else:

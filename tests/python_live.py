@@ -7,7 +7,7 @@ import faulthandler
 import os
 import signal
 import sys
-from typing import List
+from typing import Callable
 
 IS_LONG = "--long" in sys.argv
 if IS_LONG:
@@ -19,32 +19,19 @@ import live_many
 import live_objects
 import live_outcomes
 import live_program
+from case_loop import Case, run_cases
 
 LIMIT = 7200 if IS_LONG else 1200  # seconds for all of them, on a machine that does much else
 TESTS = [*live_objects.TESTS, *live_outcomes.TESTS, *live_program.TESTS, *live_long.TESTS, *live_many.TESTS,
          *live_examples.TESTS]
 
 
-def main(names: List[str]) -> int:
-    """Runs the tests of these names, or all where none is named."""
-    unknown = sorted(set(names) - {test.__name__ for test in TESTS})
-    failed = len(unknown)
-    for name in unknown:
-        print(f"python {name}: there is no such test")
-    tests = [test for test in TESTS if not names or test.__name__ in names]
-    for test in tests:
-        try:
-            test()
-            print(f"python {test.__name__}: ok")
-        except Exception as fault:  # whatever it is, the test has failed
-            print(f"python {test.__name__}: FAILED\n  {fault!r}")
-            failed += 1
-    print(f"{len(tests) + len(unknown) - failed} passed, {failed} failed")
-    return 1 if failed else 0
+def case(test: Callable[[], None]) -> Case:
+    return test.__name__, lambda: test() or []  # type: ignore[func-returns-value]
 
 
 if __name__ == "__main__":
     signal.signal(signal.SIGINT, signal.default_int_handler)  # it may be ignored here, as for a job in the background, and so in children
     faulthandler.dump_traceback_later(LIMIT, exit=True)
     names = [word for word in sys.argv[1:] if word != "--long"]
-    sys.exit(main(names or [test.__name__ for test in live_many.TESTS] if IS_LONG else names))
+    sys.exit(run_cases("python", list(map(case, TESTS)), names or [test.__name__ for test in live_many.TESTS] if IS_LONG else names))

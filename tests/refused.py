@@ -17,7 +17,8 @@ import pathlib
 import sys
 
 import refuse
-import run as cases
+from case_loop import given, words
+from program import PROGRAM, TOP
 
 # Cases of tests/cases, each with the least number of allocations that are refused.
 SCRIPTS = {
@@ -32,7 +33,7 @@ CHECKS = {"check_finds_a_stale_read": 50, "check_of_failed_and_crashed": 50, "co
 RUNS = {"run --ops 4 --concurrency 1": 50, "run --ops 10 --concurrency 1 --faults on --model set": 50}
 
 # The arguments of the program of single calls.
-CALLS_PROGRAM = pathlib.Path(os.environ.get("REFUSALS", cases.TOP / "crates/refusals/out/refusals"))
+CALLS_PROGRAM = pathlib.Path(os.environ.get("REFUSALS", TOP / "crates/refusals/out/refusals"))
 CALLS = {"texts": 100, "events": 80, "models": 60, "budgets": 80, "rewinds": 80, "board": 80, "load": 50, "trial": 60}
 
 
@@ -67,15 +68,15 @@ def refused_in_turn(program, words, given, is_refused):
 
 
 def of_case(name, is_refused):
-    case = cases.TOP / "tests" / "cases" / name
-    return cases.PROGRAM, cases.words(case), cases.stream(case, "stdin"), is_refused
+    case = TOP / "tests" / "cases" / name
+    return PROGRAM, words(case / "args"), given(case / "stdin"), is_refused
 
 
 def all_runs():
     """Each run by its name: its arguments for `refused_in_turn`, and how many refusals there are at least."""
     runs = {f"case {name}": (of_case(name, is_script_cut_short), least) for name, least in SCRIPTS.items()}
     runs |= {f"case {name}": (of_case(name, is_line_of_no_memory), least) for name, least in CHECKS.items()}
-    runs |= {words: ((cases.PROGRAM, words.split(), b"", is_line_of_no_memory), least) for words, least in RUNS.items()}
+    runs |= {words: ((PROGRAM, words.split(), b"", is_line_of_no_memory), least) for words, least in RUNS.items()}
     runs |= {f"calls of {name}": ((CALLS_PROGRAM, [name], b"", is_call_made_again), least) for name, least in CALLS.items()}
     return runs
 
@@ -92,7 +93,7 @@ def tried(run):
 
 
 def main():
-    os.chdir(cases.TOP)
+    os.chdir(TOP)
     if not CALLS_PROGRAM.exists():
         print(f"{CALLS_PROGRAM} is not there: the gate builds it, and so does rt run in crates/refusals")
         print("0 passed, 1 failed")

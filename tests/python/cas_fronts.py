@@ -2,11 +2,9 @@
 short enough to be compared with it line by line. The tests compare the program's kind wide-cas-register with it."""
 from __future__ import annotations
 
-from typing import Dict, Iterator, List, NamedTuple, Optional, Tuple, Union
+from typing import Iterator, List, NamedTuple, Optional
 
-from .lean_ends import START, Ids, LeanEnd, without
-
-Part = Union[None, int, Tuple[int, int]]  # of a read, a write and a cas
+from .lean_ends import LeanEnd, Register, without
 
 
 class Front(NamedTuple):
@@ -16,53 +14,20 @@ class Front(NamedTuple):
     writes: bool
 
 
-class CasRegister:
+class CasRegister(Register):
     """One register's history: its ends, and `alive`, `dead I` or `over I`."""
 
-    def __init__(self, budget: int) -> None:
-        self.budget, self.status = budget, "alive"
-        self.ends = [START]
-        self.opened: Dict[int, Tuple[str, Part]] = {}
-        self.changes: Dict[int, Part] = {}  # open and crashed writes and cas operations
-        self.reads: Ids = frozenset()  # open ones
-
-    def invoke(self, op: int, name: str, value: Part) -> None:
-        if self.status != "alive":
-            return
-        self.opened[op] = name, value
-        if name != "read":
-            self.changes[op] = value
-            return
-        self.reads |= {op}
-        self.leave([end._replace(finds=end.finds | {(op, end.state)}) if end.state is not None else end for end in self.ends])
-
-    def complete(self, index: int, op: int, kind: str, answer: Optional[int]) -> None:
-        if self.status != "alive":
-            return
+    def made(self, op: int, kind: str, answer: Optional[int]) -> Optional[List[LeanEnd]]:
         fronts = self.fronts() if kind == "ok" else []
         if len(fronts) > self.budget:
-            self.status = f"over {index}"
-            return
+            return None
         made = [end for before in self.ends for end in self.after(before, op, kind, answer)]
-        made += [end for front in fronts for end in self.behind(front, op, answer)]
-        if self.opened.pop(op)[0] == "read":
-            self.reads -= {op}
-        elif kind != "info":
-            del self.changes[op]
-        self.leave(made)
-        if not self.ends:
-            self.status = f"dead {index}"
+        return made + [end for front in fronts for end in self.behind(front, op, answer)]
 
     # --- What comes of one end, without a walk, and of a front ---
 
-    def after(self, end: LeanEnd, op: int, kind: str, answer: Optional[int]) -> Iterator[LeanEnd]:
-        name, value = self.opened[op]
-        if kind == "info":
-            yield without(end, op) if name == "read" else end
-        elif kind == "fail":
-            if op not in end.needed:
-                yield without(end, op)
-        elif name != "read" and op in end.needed or name == "read" and (op, answer) in end.finds:
+    def after_ok(self, end: LeanEnd, op: int, name: str, answer: Optional[int]) -> Iterator[LeanEnd]:
+        if name != "read" and op in end.needed or name == "read" and (op, answer) in end.finds:
             yield without(end, op)
         elif name == "write" and op in end.door:
             yield without(self.before(end, op), op)
@@ -78,15 +43,6 @@ class CasRegister:
                 yield without(front.end, op)
         else:
             yield from (without(next.end, op) for next in self.next_by(front, op))
-
-    def writes_of(self, value: Optional[int]) -> Iterator[int]:
-        return (op for op, part in self.changes.items() if isinstance(part, int) and part == value)
-
-    def before(self, end: LeanEnd, write: int) -> LeanEnd:
-        """The write takes place just before the last one."""
-        value = self.changes[write]
-        assert isinstance(value, int)
-        return LeanEnd(end.state, end.needed | {write}, end.door - {write}, end.finds | {(read, value) for read in self.reads & end.door})
 
     # --- Fronts ---
 
@@ -119,23 +75,5 @@ class CasRegister:
             writes = frozenset(each for each, value in self.changes.items() if isinstance(value, int))
             yield Front(LeanEnd(part, needed, (self.reads | writes) - needed, self.found(end, part)), True)
 
-    def found(self, end: LeanEnd, value: int) -> "frozenset[Tuple[int, int]]":
-        return end.finds | {(read, value) for read in self.reads}
-
-    # --- What is left ---
-
-    def leave(self, made: List[LeanEnd]) -> None:
-        """Keeps the ends that are at most no other one."""
-        left: List[LeanEnd] = []
-        for end in dict.fromkeys(made):
-            if not any(self.is_at_most(end, other) for other in left):
-                left = [other for other in left if not self.is_at_most(other, end)] + [end]
-        self.ends = left
-
     def is_less(self, front: Front, other: Front) -> bool:
         return self.is_at_most(front.end, other.end) and (front.writes or not other.writes)
-
-    def is_at_most(self, end: LeanEnd, other: LeanEnd) -> bool:
-        opened = frozenset(self.opened)
-        return (end.state == other.state and other.needed <= end.needed and end.needed & opened <= other.needed
-                and end.door <= other.door and end.finds <= other.finds)

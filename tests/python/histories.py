@@ -8,14 +8,9 @@ from jepmon.history import Event
 from jepmon.history.line import event_line, part_text
 from jepmon.objects import START, rule
 
-NAMES = {
-    "register": ("read", "write"),
-    "cas-register": ("read", "write", "cas", "cas"),
-    "mutex": ("acquire", "release"),
-    "fifo-queue": ("enqueue", "dequeue"),
-    "unordered-queue": ("enqueue", "dequeue"),
-    "set": ("add", "read"),
-}
+from .shard_histories import OPERATIONS
+
+NAMES = {**OPERATIONS, "cas-register": ("read", "write", "cas", "cas")}
 
 
 class Way(NamedTuple):

@@ -2,7 +2,9 @@
 from __future__ import annotations
 
 import random
-from typing import Dict, FrozenSet, Iterator, List, NamedTuple, Optional, Tuple, Union
+from typing import Dict, FrozenSet, Iterator, List, NamedTuple, Tuple, Union
+
+from jepmon.history.line import event_line, part_text
 
 Value = Union[None, int, FrozenSet[int], Tuple[int, ...]]  # of a cas its two numbers, and of a queue all that it holds
 OPERATIONS = {  # of each model, the one that answers first
@@ -50,7 +52,7 @@ class Event(NamedTuple):
     value: Value
 
     def __str__(self) -> str:
-        return f"{{:type :{self.kind}, :process {self.process}, :f :{self.name}, :value [{self.key} {spelled(self.value)}]}}"
+        return event_line(self.kind, self.process, self.name, self.key, part_text(self.value))
 
 
 Line = Union[Event, int]  # an event, or how many events a rewind keeps
@@ -61,14 +63,6 @@ class Moment(NamedTuple):
     running: Dict[int, Open]
     lurking: Tuple[Open, ...]  # changes that have crashed and not yet taken place
     states: Dict[int, Value]
-
-
-def spelled(value: Value) -> str:
-    if isinstance(value, frozenset):
-        return "#{" + " ".join(map(str, sorted(value))) + "}"
-    if isinstance(value, tuple):
-        return "[" + " ".join(map(str, value)) + "]"
-    return "nil" if value is None else str(value)
 
 
 def spelled_line(line: Line) -> str:

@@ -7,14 +7,7 @@ from typing import Any, Dict, List, Optional, Tuple
 
 from jepmon.history.line import event_line, part_text
 
-NAMES = {
-    "register": ("read", "write"),
-    "cas-register": ("read", "write", "cas"),
-    "mutex": ("acquire", "release"),
-    "fifo-queue": ("enqueue", "dequeue"),
-    "unordered-queue": ("enqueue", "dequeue"),
-    "set": ("add", "read"),
-}
+from .shard_histories import OPERATIONS
 
 
 class Store:
@@ -88,7 +81,7 @@ def made(model: str, clients: int, count: int, seed: int = 1, wrong_from: Option
         if client not in open_:
             if begun < count and draw.random() > pause:
                 begun += 1
-                name = draw.choice(NAMES[model])
+                name = draw.choice(OPERATIONS[model])
                 number = draw.randrange(values) if values else begun
                 part: Any = number if name in ("write", "enqueue", "add") else None
                 if name == "cas":

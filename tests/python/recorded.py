@@ -4,12 +4,12 @@ from __future__ import annotations
 
 import re
 import shlex
-import subprocess
-import sys
-from typing import Dict, Iterator, List, NamedTuple, Optional, Tuple
+from typing import Dict, Iterator, List, NamedTuple, Tuple
 
 from jepmon.history import Event, HistoryError, read_history
 from jepmon.history.kinds import MODELS
+
+from tests import case_loop
 
 from . import TOP
 
@@ -40,28 +40,16 @@ def options(words: List[str]) -> Tuple[int, str, int]:
     return int(given.get("--concurrency", 2)), given.get("--model", "register"), int(given.get("--budget", 4096))
 
 
-def printed(folder: str, name: str) -> Optional[bytes]:
-    """A file of a case: its bytes, or what its script prints; None without it."""
-    path = TOP / folder / name
-    script = path.with_suffix(".py")
-    if path.exists():
-        return path.read_bytes()
-    if script.exists():
-        return subprocess.run([sys.executable, str(script)], stdout=subprocess.PIPE, check=True).stdout
-    return None
-
-
 def checks() -> Iterator[Judged]:
     """Each history that a case gives to `jepmon check`."""
     for case in sorted((TOP / "tests" / "cases").iterdir()):
-        words = (case / "args").read_text().split("\n") if (case / "args").exists() else []
+        words = case_loop.words(case / "args")
         if words[:1] == ["check"] and len(words) > 1 and (TOP / words[1]).is_file() and not (case / "memory").exists():
             raw = (TOP / words[1]).read_bytes()
             yield from judged(case.name, raw, words[2:], (case / "stdout").read_text())
     for case in sorted((TOP / "tests" / "explain").iterdir()):
-        raw_or_none = printed(f"tests/explain/{case.name}", "history.edn")
-        words = (case / "args").read_text().split() if (case / "args").exists() else []
-        yield from judged(f"explain/{case.name}", raw_or_none or b"", words, (case / "stdout").read_text())
+        words = case_loop.words(case / "args")
+        yield from judged(f"explain/{case.name}", case_loop.given(case / "history.edn"), words, (case / "stdout").read_text())
     for case in sorted((TOP / "tests" / "from-jepsen").iterdir()):
         said = re.search(r"judge it by: jepmon check FILE (.*?)(?: \(or .*)?\n", (case / "stderr").read_text(errors="replace"))
         if said:
@@ -87,10 +75,9 @@ def scripts() -> Iterator[Judged]:
     """The accepted events after replies that a case of `jepmon script` expects. They are taken after each reply of a short case, after the
     last one, and before a command that changes earlier events."""
     for case in sorted((TOP / "tests" / "cases").iterdir()):
-        words = (case / "args").read_text().split("\n") if (case / "args").exists() else []
-        given = printed(f"tests/cases/{case.name}", "stdin")
-        expected = printed(f"tests/cases/{case.name}", "stdout")
-        if words[:1] != ["script"] or given is None or expected is None or len(given) > 100_000 or b"Usage" in expected:
+        words = case_loop.words(case / "args")
+        given, expected = case_loop.given(case / "stdin"), case_loop.given(case / "stdout")
+        if words[:1] != ["script"] or len(given) > 100_000 or b"Usage" in expected:
             continue
         concurrency, model, budget = options(words)
         events: List[Event] = []

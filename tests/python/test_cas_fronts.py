@@ -6,22 +6,15 @@ from typing import List, Optional, Tuple
 
 from jepmon import history
 
-from .cas_fronts import CasRegister, Part
+from .cas_fronts import CasRegister
 from .equal_values import Queue
-
-Row = Tuple[int, str, str, Part]  # operation, type, name, part or answer
+from .lean_ends import Part, Row, judged
 
 WRITTEN: List[Row] = [(0, "invoke", "write", 1), (0, "ok", "write", 1)]
 
 
-def judged(rows: List[Row], budget: int = 99) -> CasRegister:
-    register = CasRegister(budget)
-    for index, (op, kind, name, value) in enumerate(rows):
-        if kind == "invoke":
-            register.invoke(op, name, value)
-        else:
-            register.complete(index, op, kind, value if kind == "ok" and isinstance(value, int) else None)
-    return register
+def after(rows: List[Row], budget: int = 99) -> CasRegister:
+    return judged(CasRegister(budget), rows)
 
 
 def opened(name: str, parts: List[Part], first: int = 1) -> List[Row]:
@@ -30,7 +23,7 @@ def opened(name: str, parts: List[Part], first: int = 1) -> List[Row]:
 
 class Fronts(unittest.TestCase):
     def count(self, rows: List[Row]) -> int:
-        return len(judged(rows).fronts())
+        return len(after(rows).fronts())
 
     def test_each_open_write_makes_one(self) -> None:
         self.assertEqual(self.count(WRITTEN), 1)
@@ -47,13 +40,13 @@ class Fronts(unittest.TestCase):
 
     def test_the_budget(self) -> None:
         rows = WRITTEN + opened("write", [2, 3, 4]) + [(4, "invoke", "read", None), (4, "ok", "read", 1)]
-        self.assertEqual((judged(rows, 3).status, judged(rows, 4).status), ("over 6", "alive"))
+        self.assertEqual((after(rows, 3).status, after(rows, 4).status), ("over 6", "alive"))
 
     def test_illegal(self) -> None:
         done: List[Row] = [(1, "invoke", "cas", (1, 2)), (1, "ok", "cas", None), (2, "invoke", "read", None)]
-        self.assertEqual(judged(WRITTEN + done + [(2, "ok", "read", 2)]).status, "alive")
-        self.assertEqual(judged(WRITTEN + done + [(2, "ok", "read", 1)]).status, "dead 5")
-        self.assertEqual(judged(WRITTEN + [(1, "invoke", "cas", (2, 3)), (1, "ok", "cas", None)]).status, "dead 3")
+        self.assertEqual(after(WRITTEN + done + [(2, "ok", "read", 2)]).status, "alive")
+        self.assertEqual(after(WRITTEN + done + [(2, "ok", "read", 1)]).status, "dead 5")
+        self.assertEqual(after(WRITTEN + [(1, "invoke", "cas", (2, 3)), (1, "ok", "cas", None)]).status, "dead 3")
 
 
 class Queues(unittest.TestCase):

@@ -1,10 +1,8 @@
 """The lean ends of small histories, counted by hand."""
 import unittest
-from typing import List, Optional, Tuple
+from typing import List
 
-from .lean_ends import Register
-
-Row = Tuple[int, str, str, Optional[int]]  # operation, type, name, value
+from .lean_ends import Register, Row, judged
 
 STALE: List[Row] = [(0, "invoke", "write", 5), (0, "ok", "write", 5), (1, "invoke", "write", 6), (1, "ok", "write", 6),
                     (2, "invoke", "read", None), (2, "ok", "read", 5)]
@@ -16,31 +14,25 @@ LATE: List[Row] = [(0, "invoke", "read", None), (1, "invoke", "write", 5), (1, "
                    (2, "info", "write", 6), (0, "ok", "read", 6), (3, "invoke", "read", None), (3, "ok", "read", 5)]
 
 
-def judged(rows: List[Row], budget: int = 9) -> Register:
-    register = Register(budget)
-    for index, (op, kind, name, value) in enumerate(rows):
-        if kind == "invoke":
-            register.invoke(op, name, value)
-        else:
-            register.complete(index, op, kind, value if kind == "ok" else None)
-    return register
+def after(rows: List[Row], budget: int = 9) -> Register:
+    return judged(Register(budget), rows)
 
 
 class LeanEnds(unittest.TestCase):
     def test_illegal(self) -> None:
-        self.assertEqual(judged(STALE).status, "dead 5")
-        self.assertEqual(judged(TWO + [(0, "fail", "write", 5)]).status, "dead 5")
-        self.assertEqual(judged(LATE).status, "dead 7")
+        self.assertEqual(after(STALE).status, "dead 5")
+        self.assertEqual(after(TWO + [(0, "fail", "write", 5)]).status, "dead 5")
+        self.assertEqual(after(LATE).status, "dead 7")
 
     def test_counts(self) -> None:
-        self.assertEqual(len(judged(STALE[:4]).ends), 1)
-        self.assertEqual({end.state for end in judged(TWO).ends}, {5, 6})
-        self.assertEqual(judged(TWO + [(0, "ok", "write", 5)], 1).status, "over 5")
-        self.assertEqual(judged(TWO + [(0, "ok", "write", 5)], 2).status, "alive")
+        self.assertEqual(len(after(STALE[:4]).ends), 1)
+        self.assertEqual({end.state for end in after(TWO).ends}, {5, 6})
+        self.assertEqual(after(TWO + [(0, "ok", "write", 5)], 1).status, "over 5")
+        self.assertEqual(after(TWO + [(0, "ok", "write", 5)], 2).status, "alive")
 
     def test_open_and_timed_out_writes_are_one_end(self) -> None:
         rows = [(op, kind, "write", op) for op in range(20) for kind in ("invoke", "info" if op % 2 else "none")]
-        register = judged([row for row in rows if row[1] != "none"], 1)
+        register = after([row for row in rows if row[1] != "none"], 1)
         self.assertEqual((register.status, len(register.ends)), ("alive", 1))
 
     def test_writes_that_return_one_after_another(self) -> None:

@@ -15,6 +15,7 @@ from . import TOP
 
 READ_FIRST = ("python/jepmon/__init__.py", "python/jepmon/__main__.py")
 AS_OLD = "import sys; sys.version_info = (3, 8, 18, 'final', 0); sys.argv[0] = {!r}; import jepmon"
+TOOLS = ("judge", "test", "shards", "from-json", "runs")
 SAID = "jepmon needs Python 3.9 or later, and this is 3.8: "
 
 
@@ -47,14 +48,14 @@ class Launchers(unittest.TestCase):
         with tempfile.TemporaryDirectory() as folder:
             for name in ("bash", "env", "dirname", "readlink", "sed"):
                 pathlib.Path(folder, name).symlink_to(shutil.which(name) or name)
-            for tool in ("judge", "test", "shards", "from-json"):
+            for tool in TOOLS:
                 ran = self.ran([str(TOP / f"jepmon-{tool}"), "FILE"], folder)
                 self.assertEqual((ran.returncode, ran.stdout), (3, ""))
                 self.assertEqual(ran.stderr, f"jepmon-{tool}: it needs Python 3.9 or later, and there is no python3 on the PATH\n")
 
     def test_each_tool_has_its_version_and_help(self) -> None:
-        for words in ([f"./jepmon-{tool}", "--version"] for tool in ("judge", "test", "shards", "from-json")):
-            ran = subprocess.run(words, capture_output=True, text=True, cwd=TOP, env={**os.environ, "JEPMON": "/bin/true"})
+        for tool in TOOLS:
+            ran = subprocess.run([f"./jepmon-{tool}", "--version"], capture_output=True, text=True, cwd=TOP, env={**os.environ, "JEPMON": "/bin/true"})
             self.assertEqual(ran.returncode, 0, ran.stderr)
             self.assertRegex(ran.stdout, r"^jepmon \(Python\) \d+\.\d+\.\d+\n$")
         for name in ("explain", "from-jepsen"):

@@ -45,7 +45,7 @@ def came(case: pathlib.Path) -> Tuple[int, str, str]:
     with tempfile.TemporaryDirectory() as folder:
         files = [file for file in sorted(case.iterdir()) if file.name not in ("args", "stdout", "stderr", "status", "verdict")]
         path = pathlib.Path(folder, files[0].name if case.parent.name == "judge" else "history.edn")
-        path.write_bytes(files[0].read_bytes() if case.parent.name == "judge" else case_loop.given(case, "input"))
+        path.write_bytes(files[0].read_bytes() if case.parent.name == "judge" else case_loop.given(case / "input.edn"))
         output, error = io.StringIO(), io.StringIO()
         with contextlib.redirect_stdout(output), contextlib.redirect_stderr(error):
             status = judge.main([str(path), "--no-cause", "--min-ok", "0"])

@@ -5,7 +5,7 @@ from __future__ import annotations
 import collections
 from typing import Callable, Counter, Deque, Dict, Optional, Set, Tuple, cast
 
-from . import Found, Part, State
+from . import START, Found, Part, State, rule
 
 Wanted = Optional[Tuple[Found]]  # the answer that a read or a dequeue has to find; None: any one
 Taken = Optional[Tuple[Found]]  # what was found; None where the operation can't take place so
@@ -27,40 +27,21 @@ def fits(found: Found, wanted: Wanted) -> bool:
     return wanted is None or wanted[0] == found
 
 
-class Register(Object):
-    def __init__(self, has_cas: bool) -> None:
-        self._has_cas = has_cas
-        self._value: Optional[int] = None
+class ByRules(Object):
+    """An object whose states are small, so that it takes them from jepmon.objects."""
+
+    def __init__(self, model: str) -> None:
+        self._model, self._state = model, START[model]
 
     def take(self, name: str, part: Part, wanted: Wanted = None) -> Taken:
-        if name == "read":
-            return (self._value,) if fits(self._value, wanted) else None
-        if name == "write":
-            self._value = cast(int, part)
-            return (None,)
-        if name == "cas" and self._has_cas and self._value is not None:
-            old, new = cast(Tuple[int, int], part)
-            if self._value == old:
-                self._value = new
-                return (None,)
+        for state, found in rule(self._model, name)(self._state, part):
+            if fits(found, wanted):
+                self._state = state
+                return (found,)
         return None
 
     def state(self) -> State:
-        return self._value
-
-
-class Mutex(Object):
-    def __init__(self) -> None:
-        self._is_held = False
-
-    def take(self, name: str, part: Part, wanted: Wanted = None) -> Taken:
-        if name != ("release" if self._is_held else "acquire"):
-            return None
-        self._is_held = not self._is_held
-        return (None,)
-
-    def state(self) -> State:
-        return self._is_held
+        return self._state
 
 
 class FifoQueue(Object):
@@ -121,9 +102,9 @@ class MemberSet(Object):
 
 
 OBJECTS: Dict[str, Callable[[], Object]] = {
-    "register": lambda: Register(False),
-    "cas-register": lambda: Register(True),
-    "mutex": Mutex,
+    "register": lambda: ByRules("register"),
+    "cas-register": lambda: ByRules("cas-register"),
+    "mutex": lambda: ByRules("mutex"),
     "fifo-queue": FifoQueue,
     "unordered-queue": UnorderedQueue,
     "set": MemberSet,
