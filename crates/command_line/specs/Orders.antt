@@ -1,5 +1,5 @@
 -- Promise: the order in the words of the command line
-use Rattle.std.specs.Prelude.{◌≡◌, ◌≤◌, ◌⊎◌, ℕ, Bool, true, false, List, codes, Option, Some, None, option_and_then, unwrap_or, Result, Ok, Err, IsOk, MatchResult, String, string_bytes}
+use Rattle.std.specs.Prelude.{◌≡◌, ◌≢◌, ◌≤◌, ◌⊎◌, ℕ, Bool, true, false, List, codes, Option, Some, None, option_and_then, unwrap_or, Result, Ok, Err, IsOk, IsErrAnd, MatchResult, String, string_bytes}
 use Rattle.std.specs.declared.alloc.Global.{Global}
 use Rattle.edn.specs.declared.refusal.Refusal.TheVariants.{NoMemory}
 use Rattle.clap.specs.declared.parser.matches.Found.{Found}
@@ -121,10 +121,15 @@ RunsAsFound found result =
     × ((run_spelled texts ≡ Err why) ⊎ ((why ≡ Refused NoMemory) × IsOk (run_spelled texts)))
     × IsStopBy why stop))
 
--- the order of the command of this name, from the found options
+-- no command has this name
+abbrev pub IsNoCommand : List ℕ → Type 0
+IsNoCommand name = (name ≢ codes "run") × (name ≢ codes "check") × (name ≢ codes "confirm") × (name ≢ codes "script")
+
+-- the order of the command of this name, from the found options; a usage fault, if no command has it
 abbrev pub IsOrderBy : List ℕ → Found → Result Order Stop → Type 0
 IsOrderBy name found result =
     (name ≡ codes "run" → RunsAsFound found result)
     × (name ≡ codes "check" → AfterJudging found (ChecksAsFound found) result)
     × (name ≡ codes "confirm" → AfterJudging found (ConfirmsAsFound found) result)
     × (name ≡ codes "script" → AfterJudging found (ScriptsAsFound found) result)
+    × (IsNoCommand name → IsErrAnd result IsUsageFault)

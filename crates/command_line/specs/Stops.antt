@@ -33,14 +33,14 @@ IsStopBy (IsRefused why) stop = stop ≡ Refused why
 abbrev pub IsUnwritten : Option (List ℕ) → Option (List ℕ) → Bool → ℕ → Type 0
 IsUnwritten before after has_failed status = (after ≡ before) × (has_failed ≡ false) × (status ≡ 3)
 
--- a text was written, with status 0, or the writer failed; or memory ran out before. Which text it is, `clap` does not say
-abbrev pub IsPutOrNoMemory : Option (List ℕ) → Option (List ℕ) → Bool → Bool → ℕ → Type 0
-IsPutOrNoMemory before after has_failed is_flushed status =
+-- a text was written, with status 0, or the writer failed; or nothing was written, with 3. Which text it is, `clap` does not say
+abbrev pub IsPutOrUnwritten : Option (List ℕ) → Option (List ℕ) → Bool → Bool → ℕ → Type 0
+IsPutOrUnwritten before after has_failed is_flushed status =
     ((text : List ℕ) × IsPut text 0 before after has_failed is_flushed status)
     ⊎ IsUnwritten before after has_failed status
 
 -- the output and the exit status without an order: a text if help or the version was asked for, else nothing
 abbrev pub EndsWithoutOrder : Stop → Option (List ℕ) → Option (List ℕ) → Bool → Bool → ℕ → Type 0
 EndsWithoutOrder stop before after has_failed is_flushed status =
-    (IsHelp stop × IsPutOrNoMemory before after has_failed is_flushed status)
+    (IsHelp stop × IsPutOrUnwritten before after has_failed is_flushed status)
     ⊎ IsUnwritten before after has_failed status

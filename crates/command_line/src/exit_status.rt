@@ -1,6 +1,6 @@
 //! The exit status where a script has ended, and if there is no order.
 ghost use Rattle.std.specs.Prelude.{◌≡◌, false, MatchOption, MatchResult};
-ghost use Rattle.command_line.specs.Stops.{EndsWithoutOrder, IsPutOrNoMemory};
+ghost use Rattle.command_line.specs.Stops.{EndsWithoutOrder, IsPutOrUnwritten};
 ghost use Rattle.checks.specs.ExitStatus.{status_of};
 
 use crate::order::Stop;
@@ -88,7 +88,7 @@ fn put_request<X: Wait + Eprint, W: Write + Failed + Flushes, L: Onlooker>(
     onlooker: &L,
 ) -> u8
     requires { W.has_failed writer.old ≡ false }
-    ensures { IsPutOrNoMemory (W.contents writer.old) (W.contents writer.new)
+    ensures { IsPutOrUnwritten (W.contents writer.old) (W.contents writer.new)
         (W.has_failed writer.new) (W.is_flushed writer.new) result }
 {
     match format!(in alloc; "{request}") {

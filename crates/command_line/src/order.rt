@@ -1,10 +1,10 @@
 //! The words of the command line.
-ghost use Rattle.std.specs.Prelude.{◌≡◌, ◌≤◌, [], IfOk, IfSome, Ok, codes, drop, string_bytes};
+ghost use Rattle.std.specs.Prelude.{◌≡◌, ◌≤◌, [], IfOk, IfSome, IsErrAnd, Ok, codes, drop, string_bytes};
 ghost use Rattle.std.specs.Vec.Iter.{into_iter_items};
 ghost use Rattle.harness.specs.Setups.{setup_of, IsSetup};
 ghost use Rattle.clap.specs.Words.{found_of, kind_of, subcommand_rows_of};
 ghost use Rattle.clap.specs.declared.error.kind.ErrorKind.TheVariants.{OutOfMemory};
-ghost use Rattle.command_line.specs.Orders.{AfterJudging, AreJudgingTexts, AreRunTexts, ChecksAsFound, ConfirmsAsFound, IsWithinLimits, JudgesAsFound, RunsAsFound, ScriptsAsFound, text_found, workers_found};
+ghost use Rattle.command_line.specs.Orders.{AfterJudging, AreJudgingTexts, AreRunTexts, ChecksAsFound, ConfirmsAsFound, IsNoCommand, IsWithinLimits, JudgesAsFound, RunsAsFound, ScriptsAsFound, text_found, workers_found};
 ghost use Rattle.command_line.specs.Stops.{IsRequest, IsStopBy, IsUsageFault};
 ghost use Rattle.command_line.specs.Words.{HasNoWords, IsOrderGiven, IsOrderIn, IsOrderOf, NamesOrder, words_of};
 
@@ -158,7 +158,7 @@ fn order_in(alloc: Global, command: &mut Command, matches: &ArgMatches) -> Resul
     }
 }
 
-/// The order of the command with this name, from the found options: `run`, `check`, `confirm`, else `script`. It takes memory for
+/// The order of the command with this name, from the found options: `run`, `check`, `confirm` or `script`. It takes memory for
 /// the parts of a run, for the path of a file, and for a usage fault.
 ///
 /// # Errors
@@ -173,10 +173,27 @@ pub fn order_by(alloc: Global, name: &str, options: &ArgMatches) -> Result<Order
         → AfterJudging (found_of options.now) (ConfirmsAsFound (found_of options.now)) result }
     ensures script { name.now ≡ codes "script"
         → AfterJudging (found_of options.now) (ScriptsAsFound (found_of options.now)) result }
+    ensures other { IsNoCommand name.now → IsErrAnd result IsUsageFault }
 {
     if name == "run" {
-        return run_of(alloc, options);
+        run_of(alloc, options)
+    } else if name == "check" || name == "confirm" || name == "script" {
+        judging_order_by(alloc, name, options)
+    } else {
+        Err(no_command(alloc))
     }
+}
+
+// The order of the command with this name, `check`, `confirm`, else `script`, from the found options.
+fn judging_order_by(alloc: Global, name: &str, options: &ArgMatches) -> Result<Order, Stop>
+    ensures within { IfOk result IsWithinLimits }
+    ensures check { name.now ≡ codes "check"
+        → AfterJudging (found_of options.now) (ChecksAsFound (found_of options.now)) result }
+    ensures confirm { name.now ≡ codes "confirm"
+        → AfterJudging (found_of options.now) (ConfirmsAsFound (found_of options.now)) result }
+    ensures script { name.now ≡ codes "script"
+        → AfterJudging (found_of options.now) (ScriptsAsFound (found_of options.now)) result }
+{
     match config_of(alloc, name, options) {
         Ok(config) => {
             if name == "check" {
@@ -188,6 +205,16 @@ pub fn order_by(alloc: Global, name: &str, options: &ArgMatches) -> Result<Order
             }
         }
         Err(stop) => Err(stop),
+    }
+}
+
+// Why a name that no command has gives no order.
+fn no_command(alloc: Global) -> Stop
+    ensures { IsUsageFault result }
+{
+    match commands::program(alloc) {
+        Ok(mut command) => usage(&mut command, "there is no such command"),
+        Err(_) => Stop::Refused(Refusal::NoMemory),
     }
 }
 

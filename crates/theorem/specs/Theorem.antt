@@ -24,8 +24,8 @@ use Rattle.report.specs.VerdictLine.{verdict_line}
 
 -- 1. The meaning of a verdict
 
--- Legal: the operations of all keys together have a legal order. Illegal: they have none. Unknown: more outcomes than the budget of
--- this key are possible just before the ok at this index
+-- Legal: the operations of all keys together have a legal order. Illegal: they have none. Unknown: just before the ok at this index, what
+-- the kind of this key counts exceeds its budget
 abbrev pub Means : JudgedHistory → Verdict → Type 0
 Means h Legal = IsLinearizable (product (kind_of h)) (marks (entries_in h))
 Means h (Illegal key index) = ¬ IsLinearizable (product (kind_of h)) (marks (entries_in h))

@@ -11,4 +11,4 @@ returns-in-Some-clause-named c =
     pair_of _ _ _ (c.in-Some.ensures.name ∙ sym (first_of_pairs _ _ _)) c.in-Some.ensures.rows in
     let by = c.order_by.ensures in
     subst (λ o. NamesOrder o c.order_by.result) (sym e)
-    (found_of c.in-Some.options.now, refl, (by.run, by.check, by.confirm, by.script))
+    (found_of c.in-Some.options.now, refl, (by.run, by.check, by.confirm, by.script, by.other))
