@@ -77,7 +77,7 @@ def scripts() -> Iterator[Judged]:
     for case in sorted((TOP / "tests" / "cases").iterdir()):
         words = case_loop.words(case / "args")
         given, expected = case_loop.given(case / "stdin"), case_loop.given(case / "stdout")
-        if words[:1] != ["script"] or len(given) > 100_000 or b"Usage" in expected:
+        if words[:1] != ["script"] or not expected or len(given) > 100_000 or b"Usage" in expected:
             continue
         concurrency, model, budget = options(words)
         events: List[Event] = []
