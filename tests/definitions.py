@@ -16,7 +16,7 @@ import sys
 TOP = pathlib.Path(__file__).resolve().parent.parent
 CRATES = [line.split(":")[0].split()[0] for line in (TOP / "crates.txt").read_text().splitlines()
           if line.strip() and not line.startswith("#")]
-INNER = ["buckets", "words", "rows", "products", "interned", "moves", "ends", "product_ends"]
+INNER = ["buckets", "words", "rows", "products", "interner", "moves", "ends", "product_ends"]
 # A file of definitions, and not a type within one, whose variants go by their type's name.
 IMPORT = re.compile(r"ghost use Rattle\.(\w+)\.specs\.(?!declared|contracts)\w+\.\{([^}]*)\};")
 WORD = re.compile(r"[A-Za-z_][A-Za-z0-9_]*")

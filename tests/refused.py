@@ -5,7 +5,7 @@ For each n from 1 to the last allocation a run is made again in which the nth on
 beginning of the replies and ended with status 3. `check`, `confirm` and `run` have written the line of out of memory, or nothing if even
 that line had none. Or the run was as with memory, where the program can do without.
 
-The program `refusals` makes the calls that the program does not make one by one. After a refused allocation it makes the call once more,
+The program `allocation_failure_tests` makes the calls that the program does not make one by one. After a refused allocation it makes the call once more,
 compares the visible state, and goes on. So it writes the same as with memory, and one line more.
 
 No run ends otherwise, and where fewer were refused than is known of the case it has failed. The last line is how many passed and
@@ -33,7 +33,7 @@ CHECKS = {"check_finds_a_stale_read": 50, "check_of_failed_and_crashed": 50, "co
 RUNS = {"run --ops 4 --concurrency 1": 50, "run --ops 10 --concurrency 1 --faults on --model set": 50}
 
 # The arguments of the program of single calls.
-CALLS_PROGRAM = pathlib.Path(os.environ.get("REFUSALS", TOP / "crates/refusals/out/refusals"))
+CALLS_PROGRAM = pathlib.Path(os.environ.get("REFUSALS", TOP / "crates/allocation_failure_tests/out/allocation_failure_tests"))
 CALLS = {"texts": 100, "events": 80, "models": 60, "budgets": 80, "rewinds": 80, "board": 80, "load": 50, "trial": 60}
 
 
@@ -95,7 +95,7 @@ def tried(run):
 def main():
     os.chdir(TOP)
     if not CALLS_PROGRAM.exists():
-        print(f"{CALLS_PROGRAM} is not there: the gate builds it, and so does rt run in crates/refusals")
+        print(f"{CALLS_PROGRAM} is not there: the gate builds it, and so does rt run in crates/allocation_failure_tests")
         print("0 passed, 1 failed")
         return 1
     runs, failed = all_runs(), 0

@@ -25,7 +25,7 @@ use Rattle.bag_matches.specs.Matches.{Enqueues, HasDequeued}
 use Rattle.bag_matches.specs.Counts.{puts, takes, enqueued, dequeued, IsBalanced}
 use Rattle.bag_matches.proofs.Tests.{IsDequeue, IsPut, IsTake, same_int_part, puts_is, takes_is, no_both, enqueues_any, dequeue_or_not}
 use Rattle.bag_matches.proofs.Counting.{count_push}
-use Rattle.bag_matches.proofs.Fronts.{not_preceded, returned_in_front}
+use Rattle.bag_matches.proofs.Prefixes.{not_preceded, returned_in_front}
 use Rattle.bag_matches.proofs.Steps.{put_step, take_step, times_with, times_without, in_if_counted}
 
 module _ (ms : List Mark) (well : AreWellFormed ms) where

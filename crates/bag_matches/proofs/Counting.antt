@@ -19,9 +19,6 @@ module _ {X : Type 0} (p : X → Bool) where
   pub count_push : (xs : List X) (y : X) → count_by p (xs ++ y ∷ []) ≡ count_by p xs + cond (p y) 1 0
   count_push xs y = sum_by_push (λ z. cond (p z) 1 0) xs y
 
-  pub count_front : (front rest xs : List X) → front ++ rest ≡ xs → count_by p front ≤ count_by p xs
-  count_front front rest xs cut = let a = count_append front rest in let b : count_by p (front ++ rest) ≡ count_by p xs = ap (count_by p) cut in omega arith
-
 pub count_same : {X : Type 0} (p q : X → Bool) (xs : List X) → ((x : X) → Contains xs x → p x ≡ q x) → count_by p xs ≡ count_by q xs
 count_same p q [] same = refl
 count_same p q (x ∷ xs) same =

@@ -23,7 +23,7 @@ use Rattle.bag_matches.specs.Matches.{IsEnqueueOf, HasDequeued, AreKnown}
 use Rattle.bag_matches.specs.Counts.{puts, takes, enqueued, dequeued, IsBalanced, MayDequeue, MayFail}
 use Rattle.bag_matches.proofs.Tests.{IsDequeue, IsPut, IsTake, enqueue_is, puts_is, takes_is, no_both}
 use Rattle.bag_matches.proofs.Counting.{count_append, count_cons, count_push, count_same, count_mono}
-use Rattle.bag_matches.proofs.Fronts.{well_front, not_both}
+use Rattle.bag_matches.proofs.Prefixes.{well_front, not_both}
 
 -- an operation is known to enqueue a value, or to have answered one
 abbrev pub IsKnownIn : List Mark → ℕ → Type 0
@@ -112,7 +112,7 @@ module _ (ms : List Mark) (m : Mark) (well : AreWellFormed (ms ++ m ∷ [])) whe
         omega (arith, le, a, b));
   }
 
-  -- a mark that is no fail
+  -- a mark that is not a fail
   module _ (no_fail : (id : ℕ) → m ≢ Failed id) where
     puts_same : (v : ℤ) (n : Mark) → puts longer v n ≡ puts ms v n
     puts_same v n = same_from_decides (puts longer v n) (puts ms v n) (

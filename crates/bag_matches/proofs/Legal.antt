@@ -24,7 +24,7 @@ use Rattle.bag_matches.specs.Matches.{AreKnown}
 use Rattle.bag_matches.specs.Counts.{puts, takes, enqueued, dequeued, IsBalanced}
 use Rattle.bag_matches.proofs.Tests.{IsTake, enqueue_is, puts_is, takes_is, no_both}
 use Rattle.bag_matches.proofs.Counting.{Apart, count_le, count_map}
-use Rattle.bag_matches.proofs.Fronts.{in_whole, in_front, takes_apart}
+use Rattle.bag_matches.proofs.Prefixes.{in_whole, in_front, takes_apart}
 use Rattle.bag_matches.proofs.Steps.{fits_number, IsKnown, run_known}
 
 -- the last element of a list of which Q holds, if there is one
@@ -71,7 +71,7 @@ module _ (ms : List Mark) (well : AreWellFormed ms) (order : List Taken) (end : 
       (known_at x i.1)
 
   module _ (v : ℤ) (front rest : List Mark) (cut : front ++ rest ≡ ms) where
-    -- the part of the order up to the last operation that has returned in the front of the history
+    -- the part of the order up to the last operation that has returned in the prefix
     record Part : Type 0 where
       before : List Taken
       after : List Taken

@@ -1,10 +1,10 @@
 pub mod Tests
 pub mod Counting
-pub mod Fronts
+pub mod Prefixes
 pub mod Steps
 pub mod Legal
 pub mod Build
 pub mod Matching
 pub mod Events
-pub mod BadFronts
+pub mod BadPrefixes
 pub mod Matched

@@ -11,7 +11,7 @@ use Rattle.linspec.specs.MarkRule.{AreWellFormed}
 use Rattle.bag_matches.specs.Matches.{IsEnqueueOf, IsMatched}
 use Rattle.bag_matches.specs.Counts.{MayDequeue, MayFail, IsBalanced}
 use Rattle.bag_matches.proofs.Tests.{IsDequeue, no_both}
-use Rattle.bag_matches.proofs.Fronts.{well_front}
+use Rattle.bag_matches.proofs.Prefixes.{well_front}
 use Rattle.bag_matches.proofs.Matching.{matched_if_balanced, balanced_if_matched}
 use Rattle.bag_matches.proofs.Events.{balanced_after_enqueue, balanced_after_dequeue, balanced_after_fail, balanced_after_invoke, balanced_after_crash, not_known}
 

@@ -7,7 +7,7 @@ use Rattle.std.proofs.lemmas.List.Sums.{length-filter}
 use Rattle.models.specs.declared.operation.Op.{Op}
 use Rattle.models.specs.declared.finding.Answer.{Answer}
 use Rattle.models.specs.declared.finding.Answer.TheVariants.{Nothing, Number, Numbers, Many}
-use Rattle.events.specs.Events.{Mark, IsFront}
+use Rattle.events.specs.Events.{Mark, IsPrefixOf}
 use Rattle.events.specs.Events.Mark.{Invoked, Returned, Failed}
 use Rattle.linspec.specs.MarkRule.{id_of, AreWellFormed}
 use Rattle.linspec.specs.Operations.{HasReturned, IsOpen}
@@ -20,7 +20,7 @@ use Rattle.bag_matches.specs.Matches.{HasDequeued, MayServe, IsMatched}
 use Rattle.bag_matches.specs.Counts.{puts, takes, enqueued, dequeued, IsBalanced}
 use Rattle.bag_matches.proofs.Tests.{IsPut, IsTake, same_int_part, puts_is, takes_is}
 use Rattle.bag_matches.proofs.Counting.{Apart, count_append, count_cons, count_push, count_le}
-use Rattle.bag_matches.proofs.Fronts.{in_whole, in_front, puts_apart, takes_apart, not_preceded}
+use Rattle.bag_matches.proofs.Prefixes.{in_whole, in_front, puts_apart, takes_apart, not_preceded}
 
 -- elements with different keys are at one place each
 one_place : {X : Type 0} (f : X → ℕ) (xs : List X) → Pairwise (λ x y. f x ≢ f y) xs → (i j : ℕ) (d : X) → i < length xs → j < length xs → f (get_or xs i d) ≡ f (get_or xs j d) → i ≡ j
@@ -181,8 +181,8 @@ module _ (ms : List Mark) (well : AreWellFormed ms) where
     one_dequeue a b v c d e f s t same =
         let places : place a v c e s ≡ place b v d f t = one_place id_of (bringers v) (bringers_apart v) (place a v c e s) (place b v d f t) (Failed 0) (in_place a v c e s) (in_place b v d f t) (sym s.is ∙ same ∙ t.is) in
         ⊎_elim
-        (λ (g : IsFront s.front t.front). ahead a b v s.front g.0 s.rest t.rest c s.cut (ap (λ l. l ++ Returned b (Number v) ∷ t.rest) g.1 ∙ t.cut) (places ∙ sym (ap (dequeued ms v) g.1)))
-        (λ (g : IsFront t.front s.front). sym (ahead b a v t.front g.0 t.rest s.rest d t.cut (ap (λ l. l ++ Returned a (Number v) ∷ s.rest) g.1 ∙ s.cut) (sym places ∙ sym (ap (dequeued ms v) g.1))))
+        (λ (g : IsPrefixOf s.front t.front). ahead a b v s.front g.0 s.rest t.rest c s.cut (ap (λ l. l ++ Returned b (Number v) ∷ t.rest) g.1 ∙ t.cut) (places ∙ sym (ap (dequeued ms v) g.1)))
+        (λ (g : IsPrefixOf t.front s.front). sym (ahead b a v t.front g.0 t.rest s.rest d t.cut (ap (λ l. l ++ Returned a (Number v) ∷ s.rest) g.1 ∙ s.cut) (sym places ∙ sym (ap (dequeued ms v) g.1))))
         (two_cuts s.front (Returned a (Number v) ∷ s.rest) t.front (Returned b (Number v) ∷ t.rest) (s.cut ∙ sym t.cut))
 
     once_served : (a b : ℕ) (v w : ℤ) → HasDequeued ms a v → HasDequeued ms b w → source a ≡ source b → a ≡ b

@@ -36,7 +36,7 @@ abbrev pub takes : List Mark → ℤ → Mark → Bool
 takes marks v (Returned id (Number w)) = int_eq w v && list_any (invokes_dequeue id) marks
 takes marks v _ = false
 
--- how many enqueues of v that have not failed are invoked in the front of the history, and how many dequeues return v in it
+-- the number of enqueues of v in a prefix of the history that have not failed, and the number of dequeues that return v in the prefix
 abbrev pub enqueued : List Mark → ℤ → List Mark → ℕ
 enqueued marks v front = count_by (puts marks v) front
 

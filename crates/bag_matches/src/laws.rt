@@ -7,11 +7,11 @@ ghost use Rattle.models.specs.declared.operation.Part.TheVariants.{Nil};
 ghost use Rattle.models.specs.declared.operation.Op.{Op};
 ghost use Rattle.models.specs.declared.finding.Answer.{Answer};
 ghost use Rattle.models.specs.declared.finding.Answer.TheVariants.{Number};
-ghost use Rattle.events.specs.Events.{Mark, Entry, marks, of_key, IsFront};
+ghost use Rattle.events.specs.Events.{Mark, Entry, marks, of_key, IsPrefixOf};
 ghost use Rattle.events.specs.Events.Mark.{Invoked, Returned, Failed, Crashed};
 ghost use Rattle.linspec.specs.MarkRule.{AreWellFormed};
 ghost use Rattle.linspec.specs.Orders.{IsLinearizable};
-ghost use Rattle.linspec.specs.Verdicts.{EndsShortestBadFront};
+ghost use Rattle.linspec.specs.Verdicts.{EndsShortestBadPrefix};
 ghost use Rattle.bag_matches.specs.Matches.{IsMatched, IsEnqueueOf};
 ghost use Rattle.bag_matches.specs.Counts.{IsBalanced, MayDequeue, MayFail};
 
@@ -63,7 +63,7 @@ pub fn other_events_law()
 /// The history of a queue without an order becomes illegal at the event at which it stops being matched.
 pub fn illegal_at_law()
     ensures { (entries : List Entry) (last : Entry) → AreWellFormed (marks entries)
-        → EndsShortestBadFront unordered_queue entries last
-        ↔ ((before : List Entry) × IsFront (before ++ last ∷ []) entries × IsMatched (marks before)
+        → EndsShortestBadPrefix unordered_queue entries last
+        ↔ ((before : List Entry) × IsPrefixOf (before ++ last ∷ []) entries × IsMatched (marks before)
         × (¬ IsMatched (marks (before ++ last ∷ [])))) }
 {}

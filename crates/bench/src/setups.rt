@@ -5,7 +5,7 @@ use crate::plans::{Calls, Plan};
 use crate::runs::{Count, Done, count_calls, run_plan};
 use board::{Blank, Tag};
 use harness::{Config, Core};
-use models::ModelKind;
+use kinds::ModelKind;
 use std::alloc::Global;
 use std::marker::Brand;
 use std::rt::Clock;
@@ -15,7 +15,7 @@ use std::time::Duration;
 
 // How a core is opened here.
 fn opened(alloc: Global) -> Config {
-    Config::to_judge(alloc, 8, ModelKind::Register, 4096)
+    Config::judging_only(alloc, 8, ModelKind::Register, 4096)
 }
 
 /// A run on a board.

@@ -27,8 +27,8 @@ pub type Blank = blank::Blank<Core>;
 /// It is linear: `end` takes it apart. The tag `B` names it.
 pub type Board<B> = board::Board<Core, B>;
 
-/// The caller: its number, how many of its calls were answered, and the tape that it has seen. Contracts see these three. The tag `B` keeps
-/// it with its board.
+/// A thread's handle to a board: its number, the number of its answered calls, and the tape that it has seen. Contracts see these three.
+/// The tag `B` ties it to its board.
 pub type Seat<B> = seat::Seat<Core, B>;
 
 /// The tape that a seat had seen, for another seat of the same board (`learn`). It takes no memory.
@@ -38,7 +38,7 @@ pub type News<B> = seat::News<Core, B>;
 /// news for others.
 pub type Answered<B> = seat::Answered<Core, B>;
 
-/// The result of a glance: how many calls had been made, and the verdict after them.
+/// The result of a glance: the number of published calls, and the verdict after them.
 #[derive(Clone, Copy)]
 pub struct Glance {
     /// How many calls had been made.
@@ -89,9 +89,8 @@ impl<B: Tag> board::Board<Core, B> {
     /// refusal as its reply. A verdict is the one from scratch on the history of the tape's commands. It waits for other calls, and for
     /// glances inside the copy that it writes. It costs what [`Core::step`] costs, and a visit to every seat's place.
     ///
-    /// # Errors
-    /// [`Refusal::TapeFull`] if the tape has 2^32 - 1 calls, all of which the seat has then seen, else [`Refusal::NoMemory`] if a growth
-    /// was refused, which the verdict and a command that is refused never want. Then the call adds no entry, and nothing is published.
+    /// # Errors [`Refusal::TapeFull`] if the tape has 2^32 - 1 calls; then the seat has seen all of them. Else [`Refusal::NoMemory`] if an
+    /// allocation fails; the verdict and a refused command never allocate. Then the call adds no entry, and nothing is published.
     pub fn call<R: Wait>(
         &self,
         rt: &R,
@@ -136,9 +135,9 @@ impl<B: Tag> board::Board<Core, B> {
         self.carry_out(rt, gate, seat, command)
     }
 
-    /// Shows the newest published verdict that the seat has then seen: that of a tape which begins with all that it had seen. It is never
-    /// `None`. It takes no lock, no memory, and a few atomic steps. The price: while a thread is stopped in the midst of a glance, the next
-    /// call that publishes waits for it, and all others with that call.
+    /// Returns the newest published verdict. The seat has then seen its tape, which begins with all that the seat had seen before. The
+    /// result is never `None`. A glance takes no lock, no memory, and a few atomic steps. Its price: if a thread is stopped during a
+    /// glance, the next call that publishes waits for it, and all other calls wait for that call.
     pub fn glance(&self, seat: &mut Seat<B>) -> Option<Glance>
         ensures same { (seat.new.number ≡ seat.old.number) × (seat.new.count ≡ seat.old.count) }
         ensures shows { IsSome result }

@@ -86,9 +86,9 @@ fn published_by<P: Drop, T: HoldsPublished<P>>(writer: &Option<Writer<T, (), (),
 }
 
 impl<X: OneThread, B: Tag, T: HoldsPublished<Published<X, B>>> Locked<X, B, T> {
-    /// Carries out a command of the seat, in four steps: it is prepared, entered on the tape, carried out and published. The word of the
-    /// board that counts the calls (`tape_length`) goes on with the tape. The seat has then seen what readers see. If the command is
-    /// refused because memory ran out, it has seen the same as before.
+    /// Carries out a command of the seat, in four steps: it is prepared, entered on the tape, carried out and published. The board's count
+    /// of calls (`tape_length`) grows with the tape. The seat has then seen what readers see. If the command is refused because memory ran
+    /// out, the seat has seen the same as before.
     pub(crate) fn call<G: Gate, R: Wait>(
         &mut self,
         rt: &R,

@@ -73,7 +73,7 @@ impl<X: OneThread, B: Tag> Published<X, B> {
         &self.tape
     }
 
-    /// Takes the other in its place, if that goes on with this one.
+    /// Replaces this publication by `other`, if the tape of `other` begins with this one's.
     pub fn follow(&mut self, other: &Published<X, B>)
         ensures this { IsPrefix self.old self.new }
         ensures that { IsPrefix other.now self.new }

@@ -22,7 +22,7 @@ pub struct SeatView<S, C, R> {
     pub tape: LinkedList<TapeEntry<S, C, R>>,
 }
 
-/// A seat of any object's board: its number, how many of its calls were answered, and the tape that it has seen. Contracts see these three.
+/// A seat of any object's board: its number, the number of its answered calls, and the tape that it has seen. Contracts see these three.
 #[derive(Drop)]
 pub struct Seat<
     X: OneThread,

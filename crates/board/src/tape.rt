@@ -1,5 +1,5 @@
-//! One tape: its entries, the part that a thread has seen, and the whole of it, with the right to go on. Except for the number of its calls
-//! it exists in the proofs alone.
+//! One tape: its entries, the part that a thread has seen, and the whole tape with the right to append to it. Only the number of its calls
+//! exists when the program runs; all else exists in the proofs alone.
 ghost use Rattle.std.specs.Prelude.{◌≡◌, ◌+◌, ◌<◌, ◌^◌, ◌++◌, ◌∷◌, [], Some, length, true, MatchBool};
 ghost use mathlib.Core.List.{IsPrefix};
 ghost use Rattle.logbook.specs.Pages.{may_write};
@@ -18,13 +18,13 @@ use std::snapshot::Snapshot;
 
 /// An entry of a tape. No value of it is made.
 pub enum TapeEntry<S, C, R> {
-    /// The state at the opening. It stands first, and nowhere else.
+    /// The state at the opening. It is the first entry, and no other entry is one.
     Opening(S),
     /// A seat's command, with its reply.
     Call(u32, C, R),
 }
 
-/// The entry that a call adds to the tape: the seat's number, and the command and the reply as they were, which exist in the proofs alone.
+/// The entry that a call adds to the tape. Its command and its reply are snapshots, which exist in the proofs alone.
 #[derive(Drop)]
 pub struct NewEntry<C, R> {
     pub seat: u32,
@@ -40,7 +40,7 @@ pub struct TapeLength<X: OneThread, B: Tag> {
     ghost word_is: { (word ≡ B.word) × (word.tracked ≡ true) },
 }
 
-/// A beginning of the tape that was seen. Contracts see it as its entries.
+/// A prefix of the tape that a thread has seen. Contracts see it as its entries.
 #[derive(Drop)]
 pub struct SeenTape<X: OneThread, B: Tag> {
     count: u64,
@@ -135,7 +135,7 @@ impl<X: OneThread, B: Tag> SeenTape<X, B> {
         }
     }
 
-    /// Whether it is at least as long as the other, and so begins with it. Else the other begins with this one.
+    /// Whether this tape is at least as long as `other`, and so begins with it. Else `other` begins with this tape.
     pub fn covers(&self, other: &SeenTape<X, B>) -> bool
         ensures { MatchBool result (IsPrefix other.now self.now) (IsPrefix self.now other.now) }
     {

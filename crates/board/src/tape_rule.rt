@@ -1,5 +1,5 @@
-//! The book's lines, and the rule by which a tape goes on. Each line names the cell that comes home with the next one. So the holder of the
-//! right to that cell knows the whole tape, and alone goes on with it.
+//! The lines of the book, and the rule by which a tape grows. Each line names a cell that the next line of the tape takes back. So the
+//! thread with the right to that cell knows the whole tape, and no other thread can append to it.
 ghost use Rattle.std.specs.Prelude.{◌≡◌, true, None};
 ghost use Rattle.logbook.specs.Pages.{may_write};
 ghost use Rattle.board.specs.TapeRule.{StaysHome};
@@ -14,7 +14,7 @@ use std::marker::PhantomData;
 pub struct BookLine<E> {
     /// The number of its tape.
     pub tape: u64,
-    /// The cell that comes home with the next line of the tape.
+    /// The cell that the next line of the tape takes back.
     pub next: u64,
     pub entry: E,
 }

@@ -1,7 +1,7 @@
 //! The actions of the seats of a board in turn, and their answers.
 ghost use Rattle.std.specs.Prelude.{◌≡◌};
 
-use crate::said::{Said, answer_of, plain_of, seen_of};
+use crate::answers::{Answer, answer_of, plain_of, seen_of};
 use board::{Blank, Board, News, Seat, Tag};
 use events::{Body, Event, EventKind, Process};
 use harness::Command;
@@ -37,7 +37,7 @@ pub enum Act {
 }
 
 /// The number of a seat, its action, and then the number of the entry and the answer.
-pub type Row = (u32, Act, u64, Said);
+pub type Row = (u32, Act, u64, Answer);
 
 fn append(kind: EventKind, name: Name, part: Part) -> Command {
     Command::Append(Event {
@@ -70,7 +70,7 @@ fn call<B: Tag, R: Wait>(
     seat: &mut Seat<B>,
     line: Line,
     news: &mut Option<News<B>>,
-) -> (u64, Said) {
+) -> (u64, Answer) {
     let answer = board.call(rt, seat, command_of(line));
     let said = answer_of(&answer);
     *news = match answer {
@@ -80,7 +80,7 @@ fn call<B: Tag, R: Wait>(
     said
 }
 
-fn glance<B: Tag>(board: &Board<B>, seat: &mut Seat<B>) -> Option<(u64, Said)> {
+fn glance<B: Tag>(board: &Board<B>, seat: &mut Seat<B>) -> Option<(u64, Answer)> {
     seen_of(board.glance(seat))
 }
 
@@ -90,14 +90,14 @@ fn act_once<B: Tag, R: Wait>(
     board: &Board<B>,
     seat: &mut Seat<B>,
     act: Act,
-    last: Option<(u64, Said)>,
+    last: Option<(u64, Answer)>,
     news: &mut Option<News<B>>,
-) -> Option<(u64, Said)> {
+) -> Option<(u64, Answer)> {
     match act {
         Act::Call(line) => Some(call(rt, board, seat, line, news)),
         Act::CallTwice(line) => {
             let answer = call(rt, board, seat, line, news);
-            if answer != (0, Said::Refused(13)) || glance(board, seat) != last {
+            if answer != (0, Answer::Refused(13)) || glance(board, seat) != last {
                 return Some(answer);
             }
             Some(call(rt, board, seat, line, news))
@@ -114,11 +114,11 @@ fn act_once<B: Tag, R: Wait>(
 
 /// Opens the board, lets its seats act as the rows say, in turn, and ends it. It stops at the first row with another answer, and returns
 /// its place, if there is one, and the verdict of the end.
-pub fn act_in_turn<R: Wait + Abort>(rt: &R, blank: Blank, rows: &[Row]) -> (Option<usize>, Said) {
+pub fn act_in_turn<R: Wait + Abort>(rt: &R, blank: Blank, rows: &[Row]) -> (Option<usize>, Answer) {
     act_by::<Brand, _>(rt, blank, rows)
 }
 
-fn act_by<B: Tag, R: Wait + Abort>(rt: &R, blank: Blank, rows: &[Row]) -> (Option<usize>, Said)
+fn act_by<B: Tag, R: Wait + Abort>(rt: &R, blank: Blank, rows: &[Row]) -> (Option<usize>, Answer)
     requires names { (blank.word ≡ B.word) × (blank.ledger.name ≡ B.name)
         × (blank.ledger.parts ≡ B.parts) }
 {

@@ -3,13 +3,13 @@ ghost use Rattle.std.specs.Prelude.{◌≡◌};
 
 use board::Blank;
 use harness::Config;
-use models::ModelKind;
+use kinds::ModelKind;
 use std::alloc::Global;
 use std::process::Abort;
 
 /// How a board of two threads is opened.
 pub fn two(alloc: Global) -> Config {
-    Config::to_judge(alloc, 2, ModelKind::Register, 4096)
+    Config::judging_only(alloc, 2, ModelKind::Register, 4096)
 }
 
 pub fn blank<R: Abort>(rt: &R, alloc: Global, seats: u32) -> Blank

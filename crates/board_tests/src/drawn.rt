@@ -1,12 +1,13 @@
 //! A trial through a board.
 
 use crate::acts::{Act, Line, act_in_turn};
-use crate::said::Said;
+use crate::answers::Answer;
 use board::Blank;
 use edn::Refusal;
 use generators::{Cycle, Gen, Item};
 use harness::Config;
-use models::{ModelKind, Name, Op, Part};
+use kinds::ModelKind;
+use models::{Name, Op, Part};
 use nemesis::Schedule;
 use std::alloc::{AllocError, Global};
 use std::process::Abort;
@@ -53,14 +54,14 @@ fn blank<R: Abort>(rt: &R, alloc: Global) -> Blank {
 #[test]
 fn trial_of_two_seats(rt: HostRuntime) {
     let rows = &[
-        (0, Act::Call(Line::Draw(0)), 1, Said::Drawn(0, 0)),
-        (1, Act::Call(Line::Draw(1)), 2, Said::Drawn(1, 1)),
-        (0, Act::Call(Line::Serve(0)), 3, Said::Served),
-        (1, Act::Call(Line::Serve(1)), 4, Said::Found(Some(1))),
-        (0, Act::Call(Line::Finish(1)), 5, Said::Legal),
-        (1, Act::Call(Line::Finish(0)), 6, Said::Legal),
-        (0, Act::Call(Line::Nemesis), 7, Said::Refused(14)),
-        (1, Act::Call(Line::Verdict), 8, Said::Legal),
+        (0, Act::Call(Line::Draw(0)), 1, Answer::Drawn(0, 0)),
+        (1, Act::Call(Line::Draw(1)), 2, Answer::Drawn(1, 1)),
+        (0, Act::Call(Line::Serve(0)), 3, Answer::Served),
+        (1, Act::Call(Line::Serve(1)), 4, Answer::Found(Some(1))),
+        (0, Act::Call(Line::Finish(1)), 5, Answer::Legal),
+        (1, Act::Call(Line::Finish(0)), 6, Answer::Legal),
+        (0, Act::Call(Line::Nemesis), 7, Answer::Refused(14)),
+        (1, Act::Call(Line::Verdict), 8, Answer::Legal),
     ];
     assert!(rt; matches!(act_in_turn(&rt, blank(&rt, rt.alloc()), rows), (None, _)));
 }

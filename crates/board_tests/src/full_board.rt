@@ -2,8 +2,8 @@
 ghost use Rattle.std.specs.Prelude.{◌≡◌, length};
 
 use crate::acts::{Act, Line, Row, act_in_turn};
+use crate::answers::{Answer, plain_of};
 use crate::boards::blank;
-use crate::said::{Said, plain_of};
 use crate::shared::SharedBoard;
 use board::{Blank, Tag};
 use std::alloc::{AllocError, Global};
@@ -20,11 +20,11 @@ fn one_call_each(alloc: Global) -> Result<Vec<Row>, AllocError> {
     let mut rows = Vec::new(alloc);
     for number in 0..SEATS {
         let (line, said) = match number {
-            0 => (Line::WriteBegins, Said::Legal),
-            1 => (Line::WriteEnds, Said::Legal),
-            2 => (Line::ReadBegins, Said::Legal),
-            3 => (Line::ReadEnds(4), Said::Illegal(7, 3)),
-            _ => (Line::Verdict, Said::Illegal(7, 3)),
+            0 => (Line::WriteBegins, Answer::Legal),
+            1 => (Line::WriteEnds, Answer::Legal),
+            2 => (Line::ReadBegins, Answer::Legal),
+            3 => (Line::ReadEnds(4), Answer::Illegal(7, 3)),
+            _ => (Line::Verdict, Answer::Illegal(7, 3)),
         };
         rows.push((number, Act::Call(line), u64::from(number) + 1, said))?;
     }
@@ -36,7 +36,7 @@ fn one_call_each(alloc: Global) -> Result<Vec<Row>, AllocError> {
 fn seats_in_turn(rt: HostRuntime) {
     let rows = one_call_each(rt.alloc()).expect(&rt, "rows");
     let last = act_in_turn(&rt, blank(&rt, rt.alloc(), SEATS), rows.as_slice());
-    assert!(rt; last == (None, Said::Illegal(7, 3)));
+    assert!(rt; last == (None, Answer::Illegal(7, 3)));
 }
 
 /// The numbers of the entries of some calls, as bits, and how many glances showed less than their seat's call, or nothing.
@@ -125,14 +125,14 @@ where
 fn calls_from_four_threads(rt: HostRuntime) {
     let (all, verdict) = call_at_once::<Brand, _>(&rt, blank(&rt, rt.alloc(), SEATS));
     assert!(rt; all.entries == u64::MAX && all.missed == 0);
-    assert!(rt; verdict == Said::Legal);
+    assert!(rt; verdict == Answer::Legal);
 }
 
 // The results of the calls, and the verdict of the end.
 fn call_at_once<B: Tag + Send + Sync, R: Threads + Wait + Abort + Sync>(
     rt: &R,
     blank: Blank,
-) -> (Tally, Said)
+) -> (Tally, Answer)
     requires names { (blank.word ≡ B.word) × (blank.ledger.name ≡ B.name)
         × (blank.ledger.parts ≡ B.parts) }
     requires seats { blank.seats ≡ 64 }

@@ -1,8 +1,8 @@
 //! When a gate is called.
 
-use crate::beside::{Beside, Told, hold_call};
+use crate::answers::Answer;
 use crate::boards::blank;
-use crate::said::Said;
+use crate::during_call::{DuringCall, SeatAnswer, hold_call};
 use crate::shared::SharedBoard;
 use edn::Gate;
 use std::sync::Wait;
@@ -29,8 +29,13 @@ impl Gate for Hold {
 }
 
 // A call that is made once the held one has begun its gate.
-impl Beside for Hold {
-    fn act<M: SharedBoard, R: Wait>(&self, rt: &R, board: &M, seat: &mut M::Seat) -> (Told, Told) {
+impl DuringCall for Hold {
+    fn act<M: SharedBoard, R: Wait>(
+        &self,
+        rt: &R,
+        board: &M,
+        seat: &mut M::Seat,
+    ) -> (SeatAnswer, SeatAnswer) {
         if !comes(&self.begun, TURNS) {
             return (None, None);
         }
@@ -49,6 +54,6 @@ fn gate_begins_under_the_lock(rt: HostRuntime) {
         answered: AtomicBool::new(false),
     };
     let (held, (beside, _)) = hold_call(&rt, blank(&rt, rt.alloc(), 2), &hold);
-    assert!(rt; held == (1, Said::Legal));
-    assert!(rt; beside == Some((2, Said::Legal)));
+    assert!(rt; held == (1, Answer::Legal));
+    assert!(rt; beside == Some((2, Answer::Legal)));
 }

@@ -1,9 +1,9 @@
 //! Glances during calls.
 
 use crate::acts::{Act, Line, act_in_turn};
-use crate::beside::{Beside, Told, hold_call};
+use crate::answers::Answer;
 use crate::boards::blank;
-use crate::said::Said;
+use crate::during_call::{DuringCall, SeatAnswer, hold_call};
 use crate::shared::SharedBoard;
 use edn::Gate;
 use std::sync::Wait;
@@ -15,16 +15,16 @@ use waiting::{TURNS, comes};
 #[test]
 fn glance_follows_each_call(rt: HostRuntime) {
     let rows = &[
-        (0, Act::Call(Line::WriteBegins), 1, Said::Legal),
-        (1, Act::Glance, 1, Said::Legal),
-        (0, Act::Call(Line::WriteEnds), 2, Said::Legal),
-        (1, Act::Glance, 2, Said::Legal),
-        (0, Act::Call(Line::ReadBegins), 3, Said::Legal),
-        (1, Act::Glance, 3, Said::Legal),
-        (0, Act::Call(Line::ReadEnds(4)), 4, Said::Illegal(7, 3)),
-        (1, Act::Glance, 4, Said::Illegal(7, 3)),
-        (0, Act::Call(Line::ReadEnds(4)), 5, Said::Refused(3)),
-        (1, Act::Glance, 5, Said::Illegal(7, 3)),
+        (0, Act::Call(Line::WriteBegins), 1, Answer::Legal),
+        (1, Act::Glance, 1, Answer::Legal),
+        (0, Act::Call(Line::WriteEnds), 2, Answer::Legal),
+        (1, Act::Glance, 2, Answer::Legal),
+        (0, Act::Call(Line::ReadBegins), 3, Answer::Legal),
+        (1, Act::Glance, 3, Answer::Legal),
+        (0, Act::Call(Line::ReadEnds(4)), 4, Answer::Illegal(7, 3)),
+        (1, Act::Glance, 4, Answer::Illegal(7, 3)),
+        (0, Act::Call(Line::ReadEnds(4)), 5, Answer::Refused(3)),
+        (1, Act::Glance, 5, Answer::Illegal(7, 3)),
     ];
     assert!(rt; matches!(act_in_turn(&rt, blank(&rt, rt.alloc(), 2), rows), (None, _)));
 }
@@ -61,7 +61,7 @@ impl Moment {
     }
 
     // The result of a glance in this moment.
-    fn glance<M: SharedBoard>(&self, board: &M, seat: &mut M::Seat) -> Told {
+    fn glance<M: SharedBoard>(&self, board: &M, seat: &mut M::Seat) -> SeatAnswer {
         if !comes(&self.come, TURNS) {
             return None;
         }
@@ -89,8 +89,13 @@ impl Gate for Meeting {
 }
 
 // A glance before the call publishes, and one after that.
-impl Beside for Meeting {
-    fn act<M: SharedBoard, R: Wait>(&self, _rt: &R, board: &M, seat: &mut M::Seat) -> (Told, Told) {
+impl DuringCall for Meeting {
+    fn act<M: SharedBoard, R: Wait>(
+        &self,
+        _rt: &R,
+        board: &M,
+        seat: &mut M::Seat,
+    ) -> (SeatAnswer, SeatAnswer) {
         let before = self.before.glance(board, seat);
         (before, self.after.glance(board, seat))
     }
@@ -106,7 +111,7 @@ fn glance_answers_while_a_call_holds_the_lock(rt: HostRuntime) {
     };
     let (answer, (before, after)) = hold_call(&rt, blank(&rt, rt.alloc(), 2), &meeting);
     assert!(rt; meeting.before.was_met(1) && meeting.after.was_met(1));
-    assert!(rt; before == Some((0, Said::Legal)));
-    assert!(rt; after == Some((1, Said::Legal)));
-    assert!(rt; answer == (1, Said::Legal));
+    assert!(rt; before == Some((0, Answer::Legal)));
+    assert!(rt; after == Some((1, Answer::Legal)));
+    assert!(rt; answer == (1, Answer::Legal));
 }

@@ -5,11 +5,13 @@
 #[cfg(test)]
 mod acts;
 #[cfg(test)]
-mod beside;
+mod answers;
 #[cfg(test)]
 mod boards;
 #[cfg(test)]
 mod drawn;
+#[cfg(test)]
+mod during_call;
 #[cfg(test)]
 mod full_board;
 #[cfg(test)]
@@ -24,8 +26,6 @@ mod news;
 mod openings;
 #[cfg(test)]
 mod rewinds;
-#[cfg(test)]
-mod said;
 #[cfg(test)]
 mod shared;
 #[cfg(test)]

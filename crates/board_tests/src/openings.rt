@@ -1,11 +1,11 @@
 //! Opening a board.
 
 use crate::acts::{Act, Line, act_in_turn};
+use crate::answers::Answer;
 use crate::boards::blank;
-use crate::said::Said;
 use board::Blank;
 use harness::Config;
-use models::ModelKind;
+use kinds::ModelKind;
 use std::alloc::Global;
 
 // The number of the refusal, or 0.
@@ -17,7 +17,7 @@ fn refusal_of(alloc: Global, config: Config, seats: u32) -> u8 {
 }
 
 fn config(alloc: Global, concurrency: u32, budget: u32, replicas: u8) -> Config {
-    let mut config = Config::to_judge(alloc, concurrency, ModelKind::Register, budget);
+    let mut config = Config::judging_only(alloc, concurrency, ModelKind::Register, budget);
     config.replicas = replicas;
     config
 }
@@ -45,8 +45,8 @@ fn refusals_in_order(rt: HostRuntime) {
 #[test]
 fn verdict_of_nothing(rt: HostRuntime) {
     let rows = &[
-        (0, Act::Glance, 0, Said::Legal),
-        (0, Act::Call(Line::Verdict), 1, Said::Legal),
+        (0, Act::Glance, 0, Answer::Legal),
+        (0, Act::Call(Line::Verdict), 1, Answer::Legal),
     ];
     assert!(rt; matches!(act_in_turn(&rt, blank(&rt, rt.alloc(), 2), rows), (None, _)));
 }

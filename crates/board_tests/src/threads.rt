@@ -1,8 +1,8 @@
 //! Seats that go to threads.
 ghost use Rattle.std.specs.Prelude.{◌≡◌};
 
+use crate::answers::{Answer, plain_of};
 use crate::boards::blank;
-use crate::said::{Said, plain_of};
 use crate::shared::SharedBoard;
 use board::{Blank, Tag};
 use std::alloc::{AllocError, Global};
@@ -43,7 +43,7 @@ where
 #[test]
 fn seats_go_to_threads_and_back(rt: HostRuntime) {
     let ended = send_and_end::<Brand, _>(&rt, rt.alloc(), blank(&rt, rt.alloc(), 4));
-    assert!(rt; ended == (10, Said::Legal));
+    assert!(rt; ended == (10, Answer::Legal));
 }
 
 // The numbers of the entries in all, and the verdict of the end.
@@ -51,7 +51,7 @@ fn send_and_end<B: Tag + Send + Sync, R: Threads + Wait + Abort + Sync>(
     rt: &R,
     alloc: Global,
     blank: Blank,
-) -> (u64, Said)
+) -> (u64, Answer)
     requires names { (blank.word ≡ B.word) × (blank.ledger.name ≡ B.name)
         × (blank.ledger.parts ≡ B.parts) }
 {

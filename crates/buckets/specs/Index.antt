@@ -17,8 +17,8 @@ pub record IsLast (buckets : List ℕ) (bucket n place : ℕ) : Type 0 where
   pub own : (p : ℕ) → place ≡ p + 1 → get_or buckets p 0 ≡ bucket
   pub later : (j : ℕ) → place ≤ j → j < n → get_or buckets j 0 ≡ bucket → ⊥
 
--- the first things in these buckets are indexed, as many as before has places. last has the place of the last thing of each bucket, and
--- before has for each thing the place of the one before it in its bucket
+-- the first things in these buckets are indexed, as many as before has places. last has the place of the last thing of each bucket. For each
+-- thing, before has the place of the thing before it in its bucket
 pub record IsIndex (buckets last before : List ℕ) : Type 0 where
   pub few : length before ≤ length buckets
   pub many : length last < 2 ^ 32

@@ -1,11 +1,11 @@
-//! An index of things: where each of them stands, by buckets.
+//! An index of the places of things, by buckets.
 ghost use Rattle.std.specs.Prelude.{◌≡◌, ℕ, ◌+◌, ◌<◌, ◌≤◌, ◌^◌, [], ◌∷◌, ◌++◌, length, get_or, vec_capacity, None, true, false, map, IfSome, OnOk};
 ghost use Rattle.buckets.specs.Index.{Indexes};
 
 use crate::bucketed::Bucketed;
 use std::alloc::{AllocError, Global};
 
-/// The index of the first things of a list. A place is one more than where a thing stands, and zero if there is none.
+/// The index of the first things of a list. It keeps the place of a thing plus one, or zero if there is none.
 #[derive(Drop)]
 pub struct Index {
     /// The place of the last thing of each bucket.
@@ -60,7 +60,7 @@ fn index_one<T: Bucketed>(items: &[T], index: &mut Index) -> Result<(), AllocErr
     Ok(())
 }
 
-// Takes all things out, and makes `wanted` buckets, or more if there is memory for more: at most four times as many.
+// Removes all things, and makes `wanted` buckets, or up to four times as many if there is memory.
 fn make_buckets(wanted: usize, index: &mut Index) -> Result<(), AllocError>
     requires { wanted < 2 ^ 32 }
     ensures none { index.new.before.items ≡ [] }
@@ -83,9 +83,9 @@ fn make_buckets(wanted: usize, index: &mut Index) -> Result<(), AllocError>
     Ok(())
 }
 
-/// Indexes all things. If there are not more buckets than things, makes as many as are wanted, or up to four times as many if the memory
-/// for them is there. `AllocError` if there is no memory for the buckets or for a place. Costs O(things that are not indexed yet), and
-/// O(all things) if new buckets are made.
+/// Indexes all things. If there are not more buckets than things, makes `wanted` buckets, or up to four times as many if there is memory.
+/// `AllocError` if there is no memory for the buckets or for a place. Costs O(things that are not indexed yet), and O(all things) if new
+/// buckets are made.
 #[inline(never)]
 pub fn index_all<T: Bucketed>(
     items: &[T],
@@ -130,8 +130,8 @@ pub fn put_behind<T: Bucketed>(items: &mut Vec<T>, index: &mut Index, its: usize
     index.last[its] = items.len() as u32;
 }
 
-/// Where a thing of this bucket stands that is wanted, if there is one: the last of them. All are indexed. Asks of those behind
-/// it in the bucket, and of it.
+/// The place of the last wanted thing in this bucket, if there is one. All things are indexed. Tests that thing and the ones behind it in
+/// the bucket.
 #[inline(always)]
 pub fn find<T: Bucketed, F: Fn(usize) -> bool>(
     items: &[T],

@@ -1,8 +1,8 @@
-//! Where things stand, by buckets: the index of a list that grows and shrinks at its end.
+//! The index of a list that grows and shrinks at its end, by buckets.
 //!
-//! A bucket has the place of its last thing, and each thing that of the one before it in its bucket. So a look goes back through
-//! one bucket, and the last thing is taken away in constant time. Things are words or hashes ([`Bucketed`]); anything
-//! else is indexed by its hash ([`hash_of`], [`index_hashes`]).
+//! A bucket has the place of its last thing, and each thing has the place of the thing before it in its bucket. So a look-up goes back
+//! through one bucket, and the last thing is removed in constant time. Things are words or hashes ([`Bucketed`]). Anything else is indexed
+//! by its hash ([`hash_of`], [`index_hashes`]).
 //!
 //! A call takes memory only if its result can be `AllocError`.
 #![tactic(auto)]

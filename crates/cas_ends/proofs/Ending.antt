@@ -1,14 +1,12 @@
 -- an end of which an operation goes stands for the orders of the history in which the operation is completed
 use Rattle.std.proofs.Common.{◌≢◌, ℕ, ℤ, inl, inr, ⊎_elim, Option, List, [], ◌∷◌, ◌++◌, sym, ◌∙◌}
 use Rattle.std.specs.List.{Contains}
-use Rattle.std.proofs.lemmas.List.Elements.{Contains-append_left, Contains-push_cases}
-use Rattle.models.specs.declared.operation.Op.{Op}
+use Rattle.std.proofs.lemmas.List.Elements.{Contains-append_left}
 use Rattle.events.specs.Events.{Mark}
-use Rattle.events.specs.Events.Mark.{Invoked}
 use Rattle.linspec.specs.MarkRule.{id_of}
 use Rattle.linspec.specs.Orders.{Taken}
 use Rattle.linspec.proofs.Marks.{Precedes-kept}
-use Rattle.linspec.proofs.Open.{IsCompletion, no_invocation, was_open}
+use Rattle.linspec.proofs.Open.{IsCompletion, was_open}
 use Rattle.linspec.specs.LeanEnds.{MayWrite, LeanEnd, IsWithout}
 use Rattle.lean_ends.proofs.Covers.{Extra}
 use Rattle.lean_ends.proofs.Ending.{write_was, write_is, read_was}
@@ -20,9 +18,6 @@ module _ (marks : List Mark) (m : Mark) (c : IsCompletion m) where
 
   kept : (n : Mark) → Contains marks n → Contains longer n
   kept n h = Contains-append_left marks (m ∷ []) n h
-
-  invoked_was : (id : ℕ) (op : Op) → Contains longer (Invoked id op) → Contains marks (Invoked id op)
-  invoked_was id op h = ⊎_elim (λ k. k) (λ e. absurd (no_invocation m c id op e)) (Contains-push_cases marks m _ h)
 
   update_is : (i : ℕ) → IsUpdate marks i → IsUpdate longer i
   update_is i u = ⊎_elim (λ w. inl (w.0, (w.1.0, kept _ w.1.1, w.1.2))) (λ k. inr (k.0, k.1, (k.2.0, kept _ k.2.1, k.2.2))) u

@@ -14,6 +14,6 @@ pub mod Stands
 pub mod Kept
 pub mod Sound
 pub mod Left
-pub mod BadFronts
+pub mod BadPrefixes
 pub mod Layers
 pub mod OneCount

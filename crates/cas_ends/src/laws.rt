@@ -2,10 +2,10 @@
 ghost use Rattle.std.specs.Prelude.{◌≡◌, ◌↔◌, ℕ, ◌<◌, List, ◌∷◌, ◌++◌, [], length};
 ghost use Rattle.std.specs.List.{Contains};
 ghost use Rattle.models.specs.Objects.{cas_register};
-ghost use Rattle.events.specs.Events.{Mark, Entry, marks, IsFront};
+ghost use Rattle.events.specs.Events.{Mark, Entry, marks, IsPrefixOf};
 ghost use Rattle.linspec.specs.MarkRule.{AreWellFormed};
 ghost use Rattle.linspec.specs.Orders.{IsLinearizable};
-ghost use Rattle.linspec.specs.Verdicts.{EndsShortestBadFront};
+ghost use Rattle.linspec.specs.Verdicts.{EndsShortestBadPrefix};
 ghost use Rattle.linspec.specs.LeanEnds.{LeanEnd};
 ghost use Rattle.linspec.specs.CasEnds.{IsCasEnd, AreCasEnds, Front, AreFronts, HasMoreFronts};
 
@@ -34,8 +34,8 @@ pub fn count_law()
 /// The history of a register with compare and set becomes illegal at the event that leaves none of its ends.
 pub fn illegal_at_law()
     ensures { (entries : List Entry) (last : Entry) → AreWellFormed (marks entries)
-        → EndsShortestBadFront cas_register entries last
-        ↔ ((before : List Entry) × IsFront (before ++ last ∷ []) entries
+        → EndsShortestBadPrefix cas_register entries last
+        ↔ ((before : List Entry) × IsPrefixOf (before ++ last ∷ []) entries
         × ((e : LeanEnd) × IsCasEnd (marks before) e)
         × (¬ ((e : LeanEnd) × IsCasEnd (marks (before ++ last ∷ [])) e))) }
 {}

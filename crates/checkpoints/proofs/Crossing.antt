@@ -3,7 +3,7 @@ use denote.Param.Send.{IsSend, IsSync, sendable}
 use Rattle.std.proofs.Crossing.{crosses}
 use Rattle.frontier.proofs.Crossing.{any_send, any_sync}
 use Rattle.checkpoints.proofs.invocations.Invocations.TheSendSync as invocations
-use Rattle.checkpoints.proofs.told.Told.TheSendSync as told
+use Rattle.checkpoints.proofs.ghost_events.GhostEvents.TheSendSync as told
 use Rattle.checkpoints.specs.contracts.live_key.LiveKey as live
 use Rattle.checkpoints.specs.contracts.key_state.KeyState as state
 use Rattle.checkpoints.specs.contracts.next.Next as next

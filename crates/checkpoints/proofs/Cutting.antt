@@ -10,7 +10,7 @@ use Rattle.events.specs.Events.{op_event}
 use Rattle.events.specs.ProcessRule.{busy_after, MayComeFrom, IsHistory}
 use Rattle.linspec.proofs.Filters.{filter-yes, filter-no}
 use Rattle.linspec.specs.KeyHistory.{events_below}
-use Rattle.checkpoints.specs.Lent.{places_of}
+use Rattle.checkpoints.specs.Borrowed.{places_of}
 
 -- the first i have an index that passes the test, and no other has
 kept : (p : ℕ → Bool) (xs : List (ℕ × Event)) (i : ℕ) → i ≤ length xs

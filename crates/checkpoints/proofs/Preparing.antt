@@ -1,7 +1,7 @@
 -- a key that is alive, where one more event is prepared of it and carried out
 use Rattle.std.proofs.Common.{◌≡◌, ℕ, cond, nat_eq, List, [], ◌∷◌, ◌++◌, sym, ◌∙◌}
 use Rattle.models.specs.declared.operation.Op.{Op}
-use Rattle.models.specs.declared.model_kind.ModelKind.{ModelKind}
+use Rattle.kinds.specs.declared.model_kind.ModelKind.{ModelKind}
 use Rattle.events.specs.declared.event.Process.TheVariants as processes
 use Rattle.events.specs.declared.event.Body.TheVariants as bodies
 use Rattle.events.specs.declared.event.Event.{Event}

@@ -5,7 +5,7 @@ use Rattle.std.proofs.lemmas.List.{take_all, take-take, take-append-le, length-t
 use Rattle.std.proofs.Math.Seq.{get_or-append_seam}
 use Rattle.std.proofs.lemmas.Slice.{between_is}
 use Rattle.std.specs.List.{between}
-use Rattle.models.specs.declared.model_kind.ModelKind.{ModelKind}
+use Rattle.kinds.specs.declared.model_kind.ModelKind.{ModelKind}
 use Rattle.events.specs.declared.event.Event.{Event}
 use Rattle.checkpoints.specs.declared.key_state.KeyState.{KeyState}
 use Rattle.checkpoints.specs.KeyState.{IsKeyState}

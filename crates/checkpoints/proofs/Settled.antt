@@ -1,6 +1,6 @@
 -- a key that is dead or over stays so, and has no other status
 use Rattle.std.proofs.Common.{◌≡◌, ◌⊎◌, inl, inr, ℕ, [], ◌∷◌, ◌++◌, refl}
-use Rattle.models.specs.Objects.{object_of}
+use Rattle.kinds.specs.Kinds.{object_of}
 use Rattle.events.specs.declared.event.Event.{Event}
 use Rattle.events.specs.Events.{entries_of}
 use Rattle.events.specs.ProcessRule.{IsHistory}

@@ -3,7 +3,7 @@ use Rattle.std.proofs.Common.{◌≡◌, ℕ, ◌/◌, ◌<◌, ◌≤◌, Optio
 use Rattle.std.proofs.lemmas.List.{take_all, take-map, map-append}
 use Rattle.std.specs.declared.boxed.Box.{Box}
 use Rattle.std.specs.Global.{Global}
-use Rattle.models.specs.declared.model_kind.ModelKind.{ModelKind}
+use Rattle.kinds.specs.declared.model_kind.ModelKind.{ModelKind}
 use Rattle.events.specs.declared.event.Event.{Event}
 use Rattle.events.specs.Events.{entries_of}
 use Rattle.events.specs.ProcessRule.{IsHistory}
@@ -14,14 +14,14 @@ use Rattle.checkpoints.specs.declared.key_state.KeyState.TheVariants.{Alive, Dea
 use Rattle.checkpoints.specs.declared.key_line.Change.{Change}
 use Rattle.checkpoints.specs.declared.key_line.Prepared.{Prepared}
 use Rattle.checkpoints.specs.declared.key_line.Prepared.TheVariants.{Push, Change as ToChange}
-use Rattle.checkpoints.specs.declared.told.Told.{Told}
+use Rattle.checkpoints.specs.declared.ghost_events.GhostEvents.{GhostEvents}
 use Rattle.checkpoints.specs.declared.next.Next.{Next}
 use Rattle.checkpoints.specs.declared.next.Next.TheVariants.{Stays, Goes, Dies, Blows, Becomes}
 use Rattle.checkpoints.specs.KeyState.{IsKeyState, status_of}
 use Rattle.checkpoints.specs.Next.{IsNext, status_by}
 use Rattle.linspec.specs.KeyHistory.{KeyHistory, IsStatusOf, events_below, with_pushed, cut_at, judged_by}
 use Rattle.checkpoints.specs.KeyLineView.{KeyLineView}
-use Rattle.checkpoints.specs.Lent.{AreLentBy, places_of}
+use Rattle.checkpoints.specs.Borrowed.{AreBorrowedBy, places_of}
 use Rattle.checkpoints.specs.Saved.{AreSaved}
 use Rattle.checkpoints.specs.Saves.{saved_by}
 use Rattle.checkpoints.specs.SoundLine.{brought, replays_of, IsJudged, IsBrought, IsReady, IsSoundLine}
@@ -98,8 +98,8 @@ module _ (kind : ModelKind) (budget : ℕ) (events : List (ℕ × Event)) (prepa
   pub history_seen : (x : ℕ × Event) → IsHistory (line.now.events ++ x ∷ []) → IsHistory (events ++ x ∷ [])
   history_seen x h = subst (λ (v : KeyLineView). IsHistory (v.now.events ++ x ∷ [])) (sym seen) h
 
-  pub lent_seen : (lent : List Event) → AreLentBy lent line.now.events → AreLentBy lent events
-  lent_seen lent are = subst (λ (v : KeyLineView). AreLentBy lent v.now.events) (sym seen) are
+  pub borrowed_seen : (borrowed : List Event) → AreBorrowedBy borrowed line.now.events → AreBorrowedBy borrowed events
+  borrowed_seen borrowed are = subst (λ (v : KeyLineView). AreBorrowedBy borrowed v.now.events) (sym seen) are
 
   pub status_seen : (state : KeyState) → IsKeyState kind budget events state → (s : KeyStatus) → s ≡ status_of state → IsStatusOf line.now s
   status_seen state stands s is = subst (λ (v : KeyLineView). IsStatusOf v.now s) seen (status_right kind budget events state stands s is)
@@ -136,11 +136,11 @@ module _ (kind : ModelKind) (budget : ℕ) (events : List (ℕ × Event)) (place
   }
 
   -- there is room for the event that is added
-  pub has_place : (i : ℕ) (told : Told) (next : Next) → prepared ≡ Some (Push i told next) → length places < room
+  pub has_place : (i : ℕ) (told : GhostEvents) (next : Next) → prepared ≡ Some (Push i told next) → length places < room
   has_place i told next is = (sound.next (Push i told next) is).1
 
   -- the event is added
-  pub IsSoundLine-pushed : (i : ℕ) (told : Told) (next : Next) → prepared ≡ Some (Push i told next) → (left : Option Prepared) → left ≡ None → (after : KeyState) → ((k : ModelKind) (b : ℕ) (es : List (ℕ × Event)) → IsNext k b es state next → IsKeyState k b es after)
+  pub IsSoundLine-pushed : (i : ℕ) (told : GhostEvents) (next : Next) → prepared ≡ Some (Push i told next) → (left : Option Prepared) → left ≡ None → (after : KeyState) → ((k : ModelKind) (b : ℕ) (es : List (ℕ × Event)) → IsNext k b es state next → IsKeyState k b es after)
       → (new : List ℕ) (new_room : ℕ) → new ≡ places ++ i ∷ []
       → IsSoundLine kind budget told.events new after saved new_room left
   IsSoundLine-pushed i told next is left none after goes new new_room are =

@@ -5,14 +5,14 @@ use Rattle.std.proofs.lemmas.List.{append-nil}
 use Rattle.std.proofs.lemmas.List.Elements.{Contains-append_right}
 use Rattle.models.specs.declared.finding.Answer.{Answer}
 use Rattle.models.specs.Objects.{Object}
-use Rattle.events.specs.Events.{Mark, Entry, marks, IsFront}
+use Rattle.events.specs.Events.{Mark, Entry, marks, IsPrefixOf}
 use Rattle.events.specs.Events.Mark.{Returned}
 use Rattle.linspec.specs.MarkRule.{AreWellFormed}
 use Rattle.linspec.specs.Orders.{IsLinearizable}
 use Rattle.linspec.specs.Ends.{Count, IsBlownAtBy, IsBlownIndexBy, IsWithinBudgetBy}
-use Rattle.linspec.specs.Verdicts.{EndsShortestBadFront, EveryFrontIsLinearizable, IsRising}
+use Rattle.linspec.specs.Verdicts.{EndsShortestBadPrefix, EveryPrefixIsLinearizable, IsRising}
 use Rattle.linspec.proofs.Lists.{Contains-nil, Contains-head, snoc_cut, Pairwise-across}
-use Rattle.linspec.proofs.Fronts.{marks-append, IsLinearizable-front}
+use Rattle.linspec.proofs.Prefixes.{marks-append, IsLinearizable-front}
 
 -- the empty list of entries
 pub none_blown : (more : Count) (budget : ℕ) → IsWithinBudgetBy more budget []
@@ -22,7 +22,7 @@ front_of_none : (xs rest : List Entry) → xs ++ rest ≡ [] → xs ≡ []
 front_of_none [] rest e = refl
 front_of_none (x ∷ xs) rest e = cc
 
-pub fronts_of_none : (o : Object) → IsLinearizable o [] → EveryFrontIsLinearizable o []
+pub fronts_of_none : (o : Object) → IsLinearizable o [] → EveryPrefixIsLinearizable o []
 fronts_of_none o empty front is = subst (λ l. IsLinearizable o (marks l)) (sym (front_of_none front is.0 is.1)) empty
 
 -- the empty history is linearizable
@@ -41,21 +41,21 @@ IsLinearizable-empty o = (
   },
 )
 
-pub AreWellFormed-front : (front entries : List Entry) → IsFront front entries → AreWellFormed (marks entries) → AreWellFormed (marks front)
+pub AreWellFormed-front : (front entries : List Entry) → IsPrefixOf front entries → AreWellFormed (marks entries) → AreWellFormed (marks front)
 AreWellFormed-front front entries is well before after m cut = well before (after ++ marks is.0) m (sym (append_assoc before (m ∷ after) (marks is.0)) ∙ ap (λ l. l ++ marks is.0) cut ∙ sym (marks-append front is.0) ∙ ap marks is.1)
 
 -- a prefix of the entries with one more is all of them, or a prefix of the entries
-front_cases : (entries : List Entry) (e : Entry) (front : List Entry) → IsFront front (entries ++ e ∷ []) → (front ≡ entries ++ e ∷ []) ⊎ IsFront front entries
+front_cases : (entries : List Entry) (e : Entry) (front : List Entry) → IsPrefixOf front (entries ++ e ∷ []) → (front ≡ entries ++ e ∷ []) ⊎ IsPrefixOf front entries
 front_cases entries e front is =
     ⊎_elim
     (λ none. inl (sym (append-nil front) ∙ ap (λ l. front ++ l) (sym none) ∙ is.1))
     (λ c. inr (c.0, c.2))
     (snoc_cut front is.0 entries e is.1)
 
-longer : (entries : List Entry) (e : Entry) (front : List Entry) → IsFront front entries → IsFront front (entries ++ e ∷ [])
+longer : (entries : List Entry) (e : Entry) (front : List Entry) → IsPrefixOf front entries → IsPrefixOf front (entries ++ e ∷ [])
 longer entries e front is = (is.0 ++ e ∷ [], sym (append_assoc front is.0 (e ∷ [])) ∙ ap (λ l. l ++ e ∷ []) is.1)
 
-length-front : (entries front : List Entry) → IsFront front entries → length front ≤ length entries
+length-front : (entries front : List Entry) → IsPrefixOf front entries → length front ≤ length entries
 length-front entries front is = (let a : length (front ++ is.0) ≡ length entries = ap length is.1 in let b : length (front ++ is.0) ≡ length front + length is.0 = length-append front is.0 in omega arith)
 
 module _ (more : Count) (o : Object) (budget : ℕ) (entries : List Entry) (e : Entry) where
@@ -123,7 +123,7 @@ module _ (more : Count) (o : Object) (budget : ℕ) (entries : List Entry) (e : 
       earlier = Pairwise-across (λ (f g : Entry). f.index < g.index) entries (e ∷ []) rising over.blown.event e (subst (λ l. Contains l over.blown.event) over.blown.cut (Contains-append_right over.blown.before (over.blown.event ∷ over.blown.after) over.blown.event (Contains-head over.blown.event over.blown.after))) (Contains-head e [])
 
   -- no legal order is left: dead at the last entry
-  pub dead_here : IsNotBlownHere → IsWithinBudgetBy more budget entries → EveryFrontIsLinearizable o entries → ¬ IsLinearizable o (marks (entries ++ e ∷ [])) → IsWithinBudgetBy more budget (entries ++ e ∷ []) × EndsShortestBadFront o (entries ++ e ∷ []) e
+  pub dead_here : IsNotBlownHere → IsWithinBudgetBy more budget entries → EveryPrefixIsLinearizable o entries → ¬ IsLinearizable o (marks (entries ++ e ∷ [])) → IsWithinBudgetBy more budget (entries ++ e ∷ []) × EndsShortestBadPrefix o (entries ++ e ∷ []) e
   dead_here here before fronts bad = (
     within before here,
     record {
@@ -138,14 +138,14 @@ module _ (more : Count) (o : Object) (budget : ℕ) (entries : List Entry) (e : 
   )
 
   -- a legal order is left: alive
-  pub alive_here : IsNotBlownHere → IsWithinBudgetBy more budget entries → EveryFrontIsLinearizable o entries → IsLinearizable o (marks (entries ++ e ∷ [])) → IsWithinBudgetBy more budget (entries ++ e ∷ []) × EveryFrontIsLinearizable o (entries ++ e ∷ [])
+  pub alive_here : IsNotBlownHere → IsWithinBudgetBy more budget entries → EveryPrefixIsLinearizable o entries → IsLinearizable o (marks (entries ++ e ∷ [])) → IsWithinBudgetBy more budget (entries ++ e ∷ []) × EveryPrefixIsLinearizable o (entries ++ e ∷ [])
   alive_here here before fronts all = (
     within before here,
     λ front is. ⊎_elim (λ q. subst (λ l. IsLinearizable o (marks l)) (sym q) all) (fronts front) (front_cases entries e front is),
   )
 
   -- a dead key stays dead: with no legal order nothing is counted, so its budget is not exceeded later
-  pub dead_stays : (last : Entry) → ((before : List Mark) → more before budget → IsLinearizable o before) → AreWellFormed (marks (entries ++ e ∷ [])) → IsWithinBudgetBy more budget entries → EndsShortestBadFront o entries last → IsWithinBudgetBy more budget (entries ++ e ∷ []) × EndsShortestBadFront o (entries ++ e ∷ []) last
+  pub dead_stays : (last : Entry) → ((before : List Mark) → more before budget → IsLinearizable o before) → AreWellFormed (marks (entries ++ e ∷ [])) → IsWithinBudgetBy more budget entries → EndsShortestBadPrefix o entries last → IsWithinBudgetBy more budget (entries ++ e ∷ []) × EndsShortestBadPrefix o (entries ++ e ∷ []) last
   dead_stays last some_order well before dead = (
     within before (λ id answer is many. dead.bad (IsLinearizable-front o (dead.before ++ last ∷ []) entries (AreWellFormed-front entries (entries ++ e ∷ []) (e ∷ [], refl) well) dead.front (some_order (marks entries) many))),
     record {

@@ -1,6 +1,6 @@
 pub mod LiveKey
 pub mod KeyState
-pub mod Lent
+pub mod Borrowed
 pub mod Next
 pub mod Noted
 pub mod KeyLineView

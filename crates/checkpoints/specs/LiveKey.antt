@@ -1,6 +1,6 @@
 -- Invariant: the facts that a key that is alive keeps of its events
 use Rattle.std.specs.Prelude.{◌≡◌, ℕ, Option, Some, None, List, [], ◌∷◌}
-use Rattle.models.specs.declared.model_kind.ModelKind.{ModelKind}
+use Rattle.kinds.specs.declared.model_kind.ModelKind.{ModelKind}
 use Rattle.events.specs.declared.event.EventKind.{EventKind}
 use Rattle.events.specs.declared.event.EventKind.TheVariants.{Invoke, Ok, Fail, Info}
 use Rattle.events.specs.declared.event.Event.{Event}

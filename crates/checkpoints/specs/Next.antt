@@ -1,6 +1,6 @@
 -- Invariant: the effect of a prepared change on a key
 use Rattle.std.specs.Prelude.{ℕ, List}
-use Rattle.models.specs.declared.model_kind.ModelKind.{ModelKind}
+use Rattle.kinds.specs.declared.model_kind.ModelKind.{ModelKind}
 use Rattle.events.specs.declared.event.Event.{Event}
 use Rattle.linspec.specs.declared.verdict.KeyStatus.{KeyStatus}
 use Rattle.checkpoints.specs.LiveKey.{WillBeLive}

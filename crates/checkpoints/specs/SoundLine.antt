@@ -1,6 +1,6 @@
 -- Invariant: the facts that the line of a key keeps true of its fields
 use Rattle.std.specs.Prelude.{◌≡◌, ℕ, ◌<◌, Option, Some, None, List, [], ◌∷◌, ◌++◌, length, take}
-use Rattle.models.specs.declared.model_kind.ModelKind.{ModelKind}
+use Rattle.kinds.specs.declared.model_kind.ModelKind.{ModelKind}
 use Rattle.events.specs.declared.event.Event.{Event}
 use Rattle.events.specs.ProcessRule.{IsHistory}
 use Rattle.checkpoints.specs.declared.key_state.KeyState.{KeyState}
@@ -9,7 +9,7 @@ use Rattle.checkpoints.specs.declared.key_line.Prepared.TheVariants.{Push, Chang
 use Rattle.checkpoints.specs.declared.next.Next.{Next}
 use Rattle.checkpoints.specs.KeyState.{IsKeyState}
 use Rattle.linspec.specs.KeyHistory.{KeyHistory}
-use Rattle.checkpoints.specs.Lent.{places_of}
+use Rattle.checkpoints.specs.Borrowed.{places_of}
 use Rattle.checkpoints.specs.Next.{IsNext}
 use Rattle.checkpoints.specs.Saved.{AreSaved}
 use Rattle.checkpoints.specs.Saves.{saved_by}

@@ -5,8 +5,7 @@ ghost use Rattle.checkpoints.specs.Noted.{IsNotedAt, noted_of};
 use std::alloc::{AllocError, Global};
 use std::marker::Model;
 
-/// For each process that has one, the index of the invocation of its open operation. These are few, so they stand in a list
-/// that is looked through.
+/// The index of the invocation of each process's open operation. There are few of them, so they are in a list without an index.
 #[derive(Drop)]
 pub(crate) struct Invocations {
     noted: Vec<(u32, u32)>,
@@ -51,8 +50,7 @@ impl Invocations {
         }
     }
 
-    /// Notes the index for the process, in place of the one that was noted. `AllocError` if there is no memory for it: then
-    /// all is as it was.
+    /// Notes the index for the process, and replaces an earlier one. `AllocError` if there is no memory: then all is as it was.
     #[tactic(auto, using(crate::proofs::Noted::noted_set))]
     pub(crate) fn note(&mut self, process: u32, index: u32) -> Result<(), AllocError>
         ensures noted { OnOk result ((q : ℕ) → noted_of self.new q
@@ -80,7 +78,7 @@ impl Invocations {
     }
 }
 
-// Where the first index stands that is noted for the process.
+// The place of the first index that is noted for the process.
 fn place_of(noted: &[(u32, u32)], process: u32) -> Option<usize>
     ensures there { IfSome result (IsNotedAt noted.now process) }
     ensures none { result ≡ None → noted_of noted.now process ≡ None }

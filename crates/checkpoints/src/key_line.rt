@@ -8,15 +8,15 @@ ghost use Rattle.linspec.specs.KeyHistory.{IsStatusOf, without_events, with_push
 ghost use Rattle.checkpoints.specs.KeyLineView.{at_rest, with_next};
 ghost use Rattle.linspec.specs.KeyHistory.{events_below, loses_at, begins_below};
 ghost use Rattle.checkpoints.specs.KeyLineView.{replays_at, count_on};
-ghost use Rattle.checkpoints.specs.Lent.{AreLentBy, places_of};
+ghost use Rattle.checkpoints.specs.Borrowed.{AreBorrowedBy, places_of};
 
+use crate::ghost_events::{GhostEvents, picked_events};
 use crate::key_state::KeyState;
 use crate::next::Next;
 use crate::saving::{Saves, gone_back, judged_anew, keep_or_renew, prepare_event};
-use crate::told::{Told, tell};
 use events::Event;
+use kinds::ModelKind;
 use linspec::KeyStatus;
-use models::ModelKind;
 use std::alloc::{AllocError, Global};
 use std::marker::Model;
 
@@ -24,8 +24,8 @@ use std::marker::Model;
 #[derive(Drop)]
 enum Prepared {
     /// One event more: its place in the history, all events that the line then has, and what becomes of the key.
-    Push(u32, Told, Next),
-    /// A change of another sort. It is large, and rare, so it stands apart.
+    Push(u32, GhostEvents, Next),
+    /// A change of another sort. It is large and rare, so it is in a box.
     Change(Box<Change>),
 }
 
@@ -38,7 +38,7 @@ struct Change {
     /// So many events stay, the first ones.
     kept: usize,
     /// All events that the line then has: for proofs alone, no byte of memory.
-    told: Told,
+    told: GhostEvents,
     /// The next state of the key.
     next: Next,
     /// The change of the saved states.
@@ -47,26 +47,26 @@ struct Change {
     replays: u64,
 }
 
-/// Where the events of one key stand, in the order in which they came, and what is known of the key. It is alive while every
-/// beginning of the events is linearizable (Herlihy and Wing 1990, section 2); else it is dead at the event that ends the
-/// shortest beginning that is not. If an ok finds more ends than the budget just before it, the key is over at that ok,
-/// whatever else is known of it (this project's own).
+/// The checker of one key: the places of its events, in their recorded order, and the status of the key. The key is alive while every
+/// prefix of the events is linearizable (Herlihy and Wing 1990, section 2). Else it is dead at the last event of the shortest prefix that
+/// is not. If there are more ends than the budget just before an ok, the key is over at that ok, whether it is linearizable or not (this
+/// project's own).
 ///
-/// A line is that of one key because it is given that key's events alone; it looks at no key itself. It has no event of its
-/// own, but if each one stands in the whole history, in 4 bytes. Whoever has it judge events again lends it that history.
+/// A line gets the events of its key alone, and does not look at keys itself. It does not store events, but the place of each event in the
+/// whole history, in 4 bytes. A caller that makes it judge events again lends it that history.
 ///
-/// Before the event that follows a 64th one it saves a copy of the ends, with the status, to go back to where events are cut. A key that is
-/// dead or over has no ends, and then the status alone is saved. So in addition to the places of its events a line takes the memory of its
-/// ends once for each 64 events. At 2^20 events that is 16,384 times, which is 1 GiB if a copy takes 64 KiB.
+/// After each 64th event, before the next one, it saves a copy of the ends and of the status, for cuts. A key that is dead or over has no
+/// ends, and then the status alone is saved. So in addition to the places of its events a line takes the memory of its ends once for each
+/// 64 events. At 2^20 events that is 16,384 times, which is 1 GiB if a copy takes 64 KiB.
 ///
-/// Each change is prepared, which may fail and changes nothing but what is prepared, and then committed. A change that was prepared before
+/// Each change is prepared and then committed. A prepare may fail, and changes only the prepared change. A change that was prepared before
 /// is dropped. An event is prepared on the ends themselves, so no copy of them is made for it.
 pub struct KeyLine {
     alloc: Global,
     kind: ModelKind,
     budget: u32,
     places: Vec<u32>,
-    told: Told,
+    told: GhostEvents,
     state: KeyState,
     saved: Vec<KeyState>,
     replayed: u64,
@@ -122,7 +122,7 @@ impl KeyLine {
             kind,
             budget,
             places: Vec::new(alloc),
-            told: tell(),
+            told: picked_events(),
             state,
             saved: Vec::new(alloc),
             replayed: 0,
@@ -163,8 +163,8 @@ impl KeyLine {
     /// # Errors
     ///
     /// `AllocError` if memory was refused: then nothing is prepared, and the rest is as it was.
-    pub fn prepare_cut(&mut self, n: u32, lent: &[Event]) -> Result<KeyStatus, AllocError>
-        requires { AreLentBy lent.now self.old.now.events }
+    pub fn prepare_cut(&mut self, n: u32, borrowed: &[Event]) -> Result<KeyStatus, AllocError>
+        requires { AreBorrowedBy borrowed.now self.old.now.events }
         ensures status { IfOk result (IsStatusOf (cut_at n self.old.now)) }
         ensures prepared { OnOk result
             (self.new ≡ with_next (cut_at n self.old.now) (replays_at n self.old.now) self.old) }
@@ -179,7 +179,7 @@ impl KeyLine {
                 self.kind,
                 self.budget,
                 &self.places,
-                lent,
+                borrowed,
                 &self.saved,
                 kept,
                 &mut replays,
@@ -214,9 +214,9 @@ impl KeyLine {
         &mut self,
         kind: ModelKind,
         budget: u32,
-        lent: &[Event],
+        borrowed: &[Event],
     ) -> Result<KeyStatus, AllocError>
-        requires { AreLentBy lent.now self.old.now.events }
+        requires { AreBorrowedBy borrowed.now self.old.now.events }
         ensures status { IfOk result (IsStatusOf (judged_by kind budget self.old.now)) }
         ensures prepared { OnOk result (self.new
             ≡ with_next (judged_by kind budget self.old.now) (length self.old.now.events)
@@ -231,7 +231,7 @@ impl KeyLine {
             kind,
             budget,
             &self.places,
-            lent,
+            borrowed,
             &mut replays,
         )?;
         let status = state.status();
@@ -315,13 +315,13 @@ impl KeyLine {
     /// # Errors
     ///
     /// `AllocError` if memory was refused: then nothing is prepared, and the rest is as it was.
-    pub fn cut(&mut self, n: u32, lent: &[Event]) -> Result<(), AllocError>
-        requires { AreLentBy lent.now self.old.now.events }
+    pub fn cut(&mut self, n: u32, borrowed: &[Event]) -> Result<(), AllocError>
+        requires { AreBorrowedBy borrowed.now self.old.now.events }
         ensures ok { OnOk result (self.new ≡ at_rest (cut_at n self.old.now)
             (count_on self.old.replayed (replays_at n self.old.now))) }
         ensures err { OnErr result (self.new ≡ at_rest self.old.now self.old.replayed) }
     {
-        self.prepare_cut(n, lent)?;
+        self.prepare_cut(n, borrowed)?;
         self.commit();
         Ok(())
     }
@@ -336,14 +336,14 @@ impl KeyLine {
         &mut self,
         kind: ModelKind,
         budget: u32,
-        lent: &[Event],
+        borrowed: &[Event],
     ) -> Result<(), AllocError>
-        requires { AreLentBy lent.now self.old.now.events }
+        requires { AreBorrowedBy borrowed.now self.old.now.events }
         ensures ok { OnOk result (self.new ≡ at_rest (judged_by kind budget self.old.now)
             (count_on self.old.replayed (length self.old.now.events))) }
         ensures err { OnErr result (self.new ≡ at_rest self.old.now self.old.replayed) }
     {
-        self.prepare_rebuild(kind, budget, lent)?;
+        self.prepare_rebuild(kind, budget, borrowed)?;
         self.commit();
         Ok(())
     }
@@ -364,8 +364,7 @@ impl KeyLine {
         count
     }
 
-    /// How many replays the prepared change took, which [`commit`](Self::commit) adds to those of the changes before; and 0 if
-    /// none is prepared.
+    /// The number of replays of the prepared change, which [`commit`](Self::commit) adds to the earlier ones; 0 if no change is prepared.
     pub fn prepared_replays(&self) -> u64
         ensures { result ≡ self.now.prepared_replays }
     {

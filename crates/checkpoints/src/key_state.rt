@@ -1,21 +1,21 @@
-//! How a key stands after events, and what it needs to go on.
+//! The state of a key after events: its status, and its frontier while it is alive.
 ghost use Rattle.std.specs.Prelude.{◌≡◌, ℕ, List, [], ◌∷◌, ◌++◌, length, IfOk, OnOk};
-ghost use Rattle.models.specs.declared.model_kind.ModelKind.{ModelKind};
+ghost use Rattle.kinds.specs.declared.model_kind.ModelKind.{ModelKind};
 ghost use Rattle.events.specs.declared.event.Event.{Event};
 ghost use Rattle.events.specs.ProcessRule.{IsHistory};
 ghost use Rattle.checkpoints.specs.KeyLineView.{count_on};
 ghost use Rattle.checkpoints.specs.KeyState.{IsKeyState, status_of};
-ghost use Rattle.checkpoints.specs.Lent.{AreAt};
+ghost use Rattle.checkpoints.specs.Borrowed.{AreAt};
 ghost use Rattle.checkpoints.specs.Next.{IsNext};
 
 use crate::live_key::LiveKey;
 use crate::next::Next;
 use events::Event;
+use kinds::ModelKind;
 use linspec::KeyStatus;
-use models::ModelKind;
 use std::alloc::{AllocError, Global};
 
-/// How a key stands. Only one that is alive keeps the ends of its events: dead stays dead, and over stays over.
+/// The state of a key. Only a key that is alive keeps the ends of its events: dead stays dead, and over stays over.
 #[derive(Drop)]
 pub(crate) enum KeyState {
     Alive(LiveKey),
@@ -24,7 +24,7 @@ pub(crate) enum KeyState {
 }
 
 impl KeyState {
-    /// How a key without events stands.
+    /// The state of a key without events.
     pub(crate) fn start(alloc: Global, kind: ModelKind, budget: u32) -> Result<Self, AllocError>
         ensures { IfOk result (λ state. IsKeyState kind budget [] state) }
     {
@@ -43,8 +43,8 @@ impl KeyState {
         }
     }
 
-    /// Prepares one more event, and says what becomes of the key. It stands as it stood until [`commit`](Self::commit), also on
-    /// `AllocError`, and what was prepared before is dropped. The ends are not copied.
+    /// Prepares one more event, and returns the next state of the key. The key keeps its state until [`commit`](Self::commit), also on
+    /// `AllocError`. An earlier prepared change is dropped. The ends are not copied.
     #[inline(always)]
     pub(crate) fn prepare(&mut self, index: u32, event: &Event) -> Result<Next, AllocError>
         ensures now { (kind : ModelKind) (budget : ℕ) (events : List (ℕ × Event))
@@ -81,17 +81,17 @@ impl KeyState {
         }
     }
 
-    /// How the key stands with the events at these places too. Each is counted.
+    /// The state of the key after the events at these places too. Each event is counted.
     pub(crate) fn after_all(
         self,
         places: &[u32],
-        lent: &[Event],
+        borrowed: &[Event],
         replayed: &mut u64,
     ) -> Result<Self, AllocError>
-        requires { (events : List (ℕ × Event)) × AreAt lent.now places.now events }
+        requires { (events : List (ℕ × Event)) × AreAt borrowed.now places.now events }
         ensures stands { (kind : ModelKind) (budget : ℕ) (before events : List (ℕ × Event))
             → IsKeyState kind budget before self → IsHistory (before ++ events)
-            → AreAt lent.now places.now events
+            → AreAt borrowed.now places.now events
             → IfOk result (IsKeyState kind budget (before ++ events)) }
         ensures counted { OnOk result (replayed.new ≡ count_on replayed.old (length places.now)) }
     {
@@ -99,14 +99,14 @@ impl KeyState {
         let mut count = *replayed;
         for index in places {
             count = count.saturating_add(1);
-            let next = state.prepare(*index, &lent[*index as usize])?;
+            let next = state.prepare(*index, &borrowed[*index as usize])?;
             state.commit(next);
         }
         *replayed = count;
         Ok(state)
     }
 
-    /// A key that stands the same.
+    /// A copy of the state.
     pub(crate) fn copy(&self) -> Result<Self, AllocError>
         ensures { (kind : ModelKind) (budget : ℕ) (events : List (ℕ × Event))
             → IsKeyState kind budget events self.now

@@ -6,8 +6,8 @@ ghost use Rattle.linspec.specs.declared.verdict.KeyStatus.{KeyStatus};
 ghost use Rattle.linspec.specs.KeyHistory.{KeyHistory, IsStatusOf, with_pushed, loses_at};
 ghost use Rattle.checkpoints.specs.KeyLineView.{replays_at};
 
-/// A key that is dead stays dead, and one that is over stays over, at the same index, whatever events follow. With one more event a key
-/// keeps its status unless it was alive.
+/// A key that is dead stays dead, and a key that is over stays over, at the same index, after all later events. One more event changes the
+/// status only of a key that was alive.
 pub fn final_status_law()
     ensures dead { (h : KeyHistory) (index i : ℕ) (event : Event) →
         IsHistory (h.events ++ (index, event) ∷ []) → IsStatusOf h (KeyStatus.Dead i)

@@ -1,6 +1,6 @@
 //! A key that is alive, with the ends of its events.
 ghost use Rattle.std.specs.Prelude.{◌≡◌, ℕ, List, [], ◌∷◌, ◌++◌, nat_eq, if◌then◌else◌, IfOk, OnOk, OnErr};
-ghost use Rattle.models.specs.declared.model_kind.ModelKind.{ModelKind};
+ghost use Rattle.kinds.specs.declared.model_kind.ModelKind.{ModelKind};
 ghost use Rattle.events.specs.declared.event.Event.{Event};
 ghost use Rattle.events.specs.ProcessRule.{IsHistory};
 ghost use Rattle.checkpoints.specs.LiveKey.{IsLiveKey, WillBeLive, id_by, closed_by};
@@ -13,8 +13,8 @@ use crate::invocations::Invocations;
 use crate::next::Next;
 use events::{Body, Event, EventKind, Process};
 use frontier::{AnyFrontier, Step};
+use kinds::ModelKind;
 use linspec::laws::never_kills_law;
-use models::ModelKind;
 use std::alloc::{AllocError, Global};
 
 /// The ends of the events so far, and for each process with an open operation the index of its invocation. If one more
@@ -53,8 +53,8 @@ impl LiveKey {
         })
     }
 
-    /// Prepares one more event, and says what becomes of the key. It stands as it stood until [`commit`](Self::commit), also on
-    /// `AllocError`, and what was prepared before is dropped. The ends are not copied.
+    /// Prepares one more event, and returns the next state of the key. The key keeps its state until [`commit`](Self::commit), also on
+    /// `AllocError`. An earlier prepared change is dropped. The ends are not copied.
     pub(crate) fn prepare(&mut self, index: u32, event: &Event) -> Result<Next, AllocError>
         ensures now { (kind : ModelKind) (budget : ℕ) (events : List (ℕ × Event))
             → IsLiveKey kind budget events self.old → IsAlive kind budget events

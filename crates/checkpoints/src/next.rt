@@ -8,7 +8,7 @@ use linspec::KeyStatus;
 /// The next state of a key when the change is carried out.
 #[derive(Drop)]
 pub(crate) enum Next {
-    /// The key stands as it stood: it is dead or over, the event is of no operation, or a cut takes no event away.
+    /// The key does not change: it is dead or over, the event has no operation, or the cut removes no event.
     Stays,
     /// The key is alive, and carries out what it has prepared.
     Goes,
@@ -16,7 +16,7 @@ pub(crate) enum Next {
     Dies(u32),
     /// The key is over from the event of this index on.
     Blows(u32),
-    /// This state takes its place. It is large, and rare, so it stands apart.
+    /// This state replaces the old one. It is large and rare, so it is in a box.
     Becomes(Box<KeyState>),
 }
 

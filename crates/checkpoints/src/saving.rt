@@ -1,11 +1,11 @@
 //! States of a key that are saved as its events come, to go back to.
 ghost use Rattle.std.specs.Prelude.{◌≡◌, ◌≤◌, ◌*◌, ◌/◌, ◌%◌, ℕ, List, [], ◌∷◌, ◌++◌, take, length, IfOk, OnOk};
-ghost use Rattle.models.specs.declared.model_kind.ModelKind.{ModelKind};
+ghost use Rattle.kinds.specs.declared.model_kind.ModelKind.{ModelKind};
 ghost use Rattle.events.specs.declared.event.Event.{Event};
 ghost use Rattle.events.specs.ProcessRule.{IsHistory};
 ghost use Rattle.checkpoints.specs.KeyLineView.{count_on};
 ghost use Rattle.checkpoints.specs.KeyState.{IsKeyState};
-ghost use Rattle.checkpoints.specs.Lent.{AreAt};
+ghost use Rattle.checkpoints.specs.Borrowed.{AreAt};
 ghost use Rattle.checkpoints.specs.Next.{IsNext};
 ghost use Rattle.checkpoints.specs.Saved.{AreSaved};
 ghost use Rattle.checkpoints.specs.Saves.{saved_by};
@@ -13,7 +13,7 @@ ghost use Rattle.checkpoints.specs.Saves.{saved_by};
 use crate::key_state::KeyState;
 use crate::next::Next;
 use events::Event;
-use models::ModelKind;
+use kinds::ModelKind;
 use std::alloc::{AllocError, Global};
 
 // The number of events of a key after which its state is saved again.
@@ -38,8 +38,8 @@ pub(crate) fn keep_or_renew(saved: &mut Vec<KeyState>, kept: usize, saves: Saves
     }
 }
 
-/// Prepares one more event of a key, and returns its next state. If these are a multiple of 64, a copy of how the key stands after them is
-/// saved first, unless there is one. The event is prepared on the key itself.
+/// Prepares one more event of a key, and returns its next state. If the number of earlier events is a multiple of 64, a copy of the state
+/// after them is saved first, unless there is one. The event is prepared on the key itself.
 pub(crate) fn prepare_event(
     state: &mut KeyState,
     saved: &mut Vec<KeyState>,
@@ -68,8 +68,8 @@ pub(crate) fn prepare_event(
     state.prepare(index, event)
 }
 
-// Saves a copy of the state if one is due after these events and missing: there is one for each 64 events. All states that these events
-// need are then saved, whatever event follows.
+// Saves a copy of the state if one is due after these events and is missing. One is due after each 64th event. Then all states are saved
+// that are due before the next event.
 fn save_if_due(
     saved: &mut Vec<KeyState>,
     state: &KeyState,
@@ -97,15 +97,15 @@ pub(crate) fn judged_anew(
     kind: ModelKind,
     budget: u32,
     places: &[u32],
-    lent: &[Event],
+    borrowed: &[Event],
     replayed: &mut u64,
 ) -> Result<(KeyState, Vec<KeyState>), AllocError>
-    requires { (events : List (ℕ × Event)) × AreAt lent.now places.now events }
+    requires { (events : List (ℕ × Event)) × AreAt borrowed.now places.now events }
     ensures stands { (events : List (ℕ × Event)) → IsHistory events
-        → AreAt lent.now places.now events
+        → AreAt borrowed.now places.now events
         → IfOk result (λ judged. IsKeyState kind budget events judged.0) }
     ensures saved { (events : List (ℕ × Event)) → IsHistory events
-        → AreAt lent.now places.now events
+        → AreAt borrowed.now places.now events
         → IfOk result (λ judged. AreSaved kind budget events judged.1.items) }
     ensures counted { OnOk result (replayed.new ≡ count_on replayed.old (length places.now)) }
 {
@@ -115,7 +115,7 @@ pub(crate) fn judged_anew(
     let mut count = *replayed;
     for index in places {
         count = count.saturating_add(1);
-        let event = &lent[*index as usize];
+        let event = &borrowed[*index as usize];
         let next = prepare_event(&mut state, &mut saved, before, *index, event)?;
         state.commit(next);
         before += 1;
@@ -142,27 +142,27 @@ fn state_at(
     saved[count - 1].copy()
 }
 
-/// How the key stands after the first `kept` of the events at these places, from the last state on that was saved until then.
-/// Each event that is judged again is counted.
+/// The state of the key after the first `kept` of the events at these places. Begins with the last state that was saved up to there, and
+/// judges the events behind it again. Each of these is counted.
 pub(crate) fn gone_back(
     alloc: Global,
     kind: ModelKind,
     budget: u32,
     places: &[u32],
-    lent: &[Event],
+    borrowed: &[Event],
     saved: &[KeyState],
     kept: usize,
     replayed: &mut u64,
 ) -> Result<KeyState, AllocError>
     requires within { kept ≤ length places.now }
     requires many { kept / 64 ≤ length saved.now }
-    requires are { (events : List (ℕ × Event)) × AreAt lent.now places.now events }
+    requires are { (events : List (ℕ × Event)) × AreAt borrowed.now places.now events }
     ensures stands { (events : List (ℕ × Event)) → IsHistory events
-        → AreAt lent.now places.now events → AreSaved kind budget events saved.now
+        → AreAt borrowed.now places.now events → AreSaved kind budget events saved.now
         → IfOk result (IsKeyState kind budget (take kept events)) }
     ensures counted { OnOk result (replayed.new ≡ count_on replayed.old (kept % 64)) }
 {
     let count = kept / EVERY;
     let state = state_at(alloc, kind, budget, saved, count)?;
-    state.after_all(&places[count * EVERY..kept], lent, replayed)
+    state.after_all(&places[count * EVERY..kept], borrowed, replayed)
 }

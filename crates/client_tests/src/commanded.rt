@@ -5,7 +5,7 @@ use harness::{Command, Reply};
 use std::sync::Wait;
 
 /// The answer of a call: its commit and its reply.
-pub type Heard = (u64, Result<Reply, Refusal>);
+pub type CommitAndReply = (u64, Result<Reply, Refusal>);
 
 /// A board that threads share, each by a seat of its own.
 pub trait CommandedBoard {
@@ -14,7 +14,12 @@ pub trait CommandedBoard {
     type News;
 
     /// The commit and the reply of a command; None if the call adds no entry.
-    fn call<R: Wait>(&self, rt: &R, seat: &mut Self::Seat, command: Command) -> Option<Heard>;
+    fn call<R: Wait>(
+        &self,
+        rt: &R,
+        seat: &mut Self::Seat,
+        command: Command,
+    ) -> Option<CommitAndReply>;
 
     /// The commit of a command, and its news.
     fn tell<R: Wait>(
@@ -33,7 +38,12 @@ impl<B: Tag> CommandedBoard for Board<B> {
 
     type News = News<B>;
 
-    fn call<R: Wait>(&self, rt: &R, seat: &mut Seat<B>, command: Command) -> Option<Heard> {
+    fn call<R: Wait>(
+        &self,
+        rt: &R,
+        seat: &mut Seat<B>,
+        command: Command,
+    ) -> Option<CommitAndReply> {
         let answered = Board::call(self, rt, seat, command).ok()?;
         Some((answered.entry_number, answered.reply))
     }

@@ -7,8 +7,8 @@ use board::{Blank, Tag};
 use edn::Refusal;
 use generators::Item;
 use harness::{Command, Core, Reply};
+use kinds::ModelKind;
 use linspec::Verdict;
-use models::ModelKind;
 use monitor::Monitor;
 use std::alloc::Global;
 use std::marker::Brand;
@@ -51,7 +51,7 @@ struct Ended<S> {
 
 // The answer of a seat.
 #[derive(Clone, Copy, PartialEq, Eq)]
-enum Heard {
+enum PlainReply {
     Drawn(u32),
     Over,
     // There is nothing to draw yet.
@@ -62,14 +62,14 @@ enum Heard {
     Failed,
 }
 
-fn plain(reply: &Result<Reply, Refusal>) -> Heard {
+fn plain(reply: &Result<Reply, Refusal>) -> PlainReply {
     match reply {
-        Ok(Reply::Drawn { ticket, .. }) => Heard::Drawn(*ticket),
-        Ok(Reply::Done) => Heard::Over,
-        Ok(Reply::Pending) | Err(Refusal::Busy) => Heard::Pending,
-        Ok(_) => Heard::Other,
-        Err(Refusal::Stale | Refusal::NotOpen) => Heard::Gone,
-        Err(_) => Heard::Failed,
+        Ok(Reply::Drawn { ticket, .. }) => PlainReply::Drawn(*ticket),
+        Ok(Reply::Done) => PlainReply::Over,
+        Ok(Reply::Pending) | Err(Refusal::Busy) => PlainReply::Pending,
+        Ok(_) => PlainReply::Other,
+        Err(Refusal::Stale | Refusal::NotOpen) => PlainReply::Gone,
+        Err(_) => PlainReply::Failed,
     }
 }
 
@@ -79,13 +79,13 @@ fn ask<M: CommandedBoard, R: Wait>(
     seat: &mut M::Seat,
     commits: &mut Commits,
     command: Command,
-) -> Heard {
+) -> PlainReply {
     match board.call(rt, seat, command) {
         Some((commit, reply)) => {
             commits.note(commit);
             plain(&reply)
         }
-        None => Heard::Failed,
+        None => PlainReply::Failed,
     }
 }
 
@@ -98,11 +98,11 @@ fn carry_out<M: CommandedBoard, R: Wait>(
     ticket: u32,
 ) -> bool {
     let served = ask(rt, board, seat, commits, Command::Serve(ticket));
-    if served != Heard::Other {
-        return served == Heard::Gone;
+    if served != PlainReply::Other {
+        return served == PlainReply::Gone;
     }
     let finished = ask(rt, board, seat, commits, Command::Finish(ticket));
-    finished == Heard::Other || finished == Heard::Gone
+    finished == PlainReply::Other || finished == PlainReply::Gone
 }
 
 // Whether the client goes on: None if it has done what it was to do.
@@ -114,9 +114,9 @@ fn draw<M: CommandedBoard, R: Wait>(
     commits: &mut Commits,
 ) -> Option<bool> {
     match ask(rt, board, seat, commits, Command::Draw(thread)) {
-        Heard::Drawn(ticket) => Some(carry_out(rt, board, seat, commits, ticket)),
-        Heard::Over => None,
-        Heard::Pending => {
+        PlainReply::Drawn(ticket) => Some(carry_out(rt, board, seat, commits, ticket)),
+        PlainReply::Over => None,
+        PlainReply::Pending => {
             thread::yield_now();
             Some(true)
         }
@@ -168,7 +168,7 @@ fn cut_once<M: CommandedBoard, R: Wait>(
     let kind = Command::SetModel(0, ModelKind::Register);
     let set = ask(rt, board, seat, commits, kind);
     thread::yield_now();
-    cut == Heard::Other && set == Heard::Other
+    cut == PlainReply::Other && set == PlainReply::Other
 }
 
 // The same, again and again.

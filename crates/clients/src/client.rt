@@ -42,7 +42,7 @@ pub(crate) fn play<M: SharedBoard, G: Gate, R: Wait>(
     unreachable!()
 }
 
-// Draws, and goes on by the answer.
+// Draws, and does what the answer asks for.
 fn take_turn<M: SharedBoard, G: Gate, R: Wait>(
     rt: &R,
     board: &M,

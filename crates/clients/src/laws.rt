@@ -45,9 +45,9 @@ pub fn trials_alone()
         → AreOfTrial (calls_on run.tape) }
 {}
 
-/// If a tape opens on a strict store and its calls are of trials alone, refused ones among them, it leads to a history with a legal order.
-/// That order has the operations in the order in which they were served, over all keys together. So no verdict on that is Illegal. It is
-/// said of the tapes of which `no_false_alarm_on_a_tape` of `board` says that their histories are linearizable; no call cites it.
+/// If a tape opens on a strict store and its calls are of trials alone, also refused ones, it leads to a history with a legal order. That
+/// order has the operations in the order in which they were served, over all keys together. So no verdict on the history is Illegal. The
+/// law is about the same tapes as `no_false_alarm_on_a_tape` of `board`. No call cites it.
 pub fn serves_are_the_order()
     ensures order { (setup : Setup) (tape : CoreTape) (m : Machine) → setup.mode ≡ Strict
         → IsCount setup.replicas → IsPrefix (opening_tape (opening setup)) tape

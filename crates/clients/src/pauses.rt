@@ -6,7 +6,7 @@ use crate::shared_board::SharedBoard;
 use std::sync::Wait;
 use std::thread;
 
-// The turns after which who waits tries again, whatever others do.
+// The number of turns after which a waiting thread tries again, also if no other thread has done anything.
 const TURNS: u32 = 1000;
 
 /// Waits until it is seen that a call was made. It takes no lock.

@@ -2,7 +2,7 @@
 
 use std::sync::atomic::{AtomicBool, AtomicU64, Ordering};
 
-/// Whether all clients have ended, and how many events there were when an operation was drawn last.
+/// Whether all clients have ended, and the number of events when an operation was drawn last.
 #[derive(Drop)]
 pub(crate) struct Progress {
     ended: AtomicBool,

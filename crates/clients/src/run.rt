@@ -28,20 +28,19 @@ struct Ended<S> {
 /// the nemesis. So there are 1 to 64 seats, one more than there are threads.
 ///
 /// A client draws, serves and finishes, one operation after the other, until there is none for it. If others completed or cut its
-/// operation, it draws again. If there may be one later, it lets others go on before that. The nemesis asks for its first fault before any
-/// client begins, and each client begins once it has seen a call. Then the nemesis strikes until all clients have ended; where no fault is
-/// due, it lets others make some calls first. The gate begins by the place of a client before its first command, and ends after the answer
-/// to that; it is called outside the lock. The watch gets the progress of the run, if it wants it, by glances from the nemesis's seat: they
-/// take no lock.
+/// operation, it draws again. If an operation may come later, the client waits for some calls of others and draws again. The nemesis asks
+/// for its first fault before any client begins, and each client begins once it has seen a call. Then the nemesis strikes until all clients
+/// have ended. If no fault is due, it waits for some calls of others. The gate begins before a client's first command, with the client's
+/// place, and ends after the answer to it; it is called outside the lock. If the watch wants the progress of the run, it gets it by glances
+/// from the nemesis's seat, which take no lock.
 ///
-/// A client whose thread can't be started runs in the thread that was to start it, and so does the nemesis, once the
-/// clients have ended, which then asks no more. The call waits until all of them have ended. It takes memory for the seats
-/// and the threads, and else costs what their calls on the board cost.
+/// A client whose thread cannot be started runs in the thread that was to start it. So does the nemesis, after the clients have ended, and
+/// then it asks no more. The call waits until all of them have ended. It takes memory for the seats and the threads, and else costs what
+/// their calls on the board cost.
 ///
-/// # Errors
-/// [`Refusal::HistoryFull`], [`Refusal::TapeFull`] or [`Refusal::NoMemory`], if a seat met it: that of the lowest place,
-/// but if the nemesis's first ask met it, no client begins. And `NoMemory` if an allocation fails. The seats are then
-/// dropped. Any other refusal ends the seat's own part alone.
+/// # Errors [`Refusal::HistoryFull`], [`Refusal::TapeFull`] or [`Refusal::NoMemory`] if a seat met it; if several seats did, the one of the
+/// lowest place. If the nemesis's first ask met it, no client begins. `NoMemory` also if an allocation fails. The seats are then dropped.
+/// Any other refusal ends only the seat that met it.
 pub fn run_clients<
     B: Tag + Send + Sync,
     G: Gate + Sync,
@@ -97,7 +96,7 @@ where
     come_back(alloc, played?, struck)
 }
 
-// All seats, if none met a refusal of the run; else that of the first that did.
+// All seats if none met a refusal of the run, else the refusal of the first seat that did.
 fn come_back<S: Drop>(
     alloc: Global,
     played: Vec<Ended<S>>,
@@ -192,7 +191,7 @@ fn play_with<M: SharedBoard, G: Gate, R: Wait>(
     }
 }
 
-// The refusal, if it is one of those of a run: a full history, a full tape, or out of memory.
+// The refusal, if it ends the run: a full history, a full tape, or out of memory.
 fn of_run(why: Option<Refusal>) -> Option<Refusal>
     ensures refused { IfSome result IsOfRun }
     ensures none { result ≡ None → ¬ RefusesRun why }

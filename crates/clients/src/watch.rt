@@ -1,4 +1,4 @@
-//! Whoever looks on while clients run.
+//! Observers of a run of clients.
 
 use linspec::Verdict;
 

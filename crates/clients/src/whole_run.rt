@@ -24,9 +24,9 @@ use std::thread::Threads;
 /// the object to which the board's one tape leads. The watch gets the progress of the run meanwhile. It waits and costs as [`run_clients`]
 /// does.
 ///
-/// If the store is strict, its history is linearizable (Herlihy and Wing 1990) over all keys together, whatever clients
-/// and faults did, in any interleaving: an illegal verdict would be a false alarm. The operations in the order in which they
-/// were served are a legal order of it.
+/// If the store is strict, its history is linearizable (Herlihy and Wing 1990) over all keys together, after any actions of clients and
+/// faults, in any interleaving. So an illegal verdict would be a false alarm. The operations in the order in which they were served are a
+/// legal order of it.
 ///
 /// # Errors
 /// Those of [`Blank::new`] for as many seats, and so [`Refusal::NoSeat`] if the concurrency is 64; else those of [`run_clients`], or

@@ -4,7 +4,7 @@ use Rattle.clap.specs.Words.{kind_of}
 use Rattle.clap.specs.declared.error.kind.ErrorKind.{ErrorKind}
 use Rattle.clap.specs.declared.error.kind.ErrorKind.TheVariants.{DisplayHelp, DisplayVersion}
 use Rattle.edn.specs.declared.refusal.Refusal.TheVariants.{NoMemory}
-use Rattle.checks.specs.Checks.{IsPut}
+use Rattle.check_command.specs.Checks.{IsPut}
 use Rattle.run_plans.specs.declared.options.Misspelled.{Misspelled}
 use Rattle.run_plans.specs.declared.options.Misspelled.TheVariants.{Unread, Refused as IsRefused}
 use Rattle.command_line.specs.declared.order.Stop.{Stop}

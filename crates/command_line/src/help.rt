@@ -1,8 +1,8 @@
 //! The program's texts about itself.
 
-use models::each_kind;
-use onlookers::each_hint;
-use scripts::with_version;
+use kinds::each_kind;
+use observers::each_hint;
+use script_command::with_version;
 
 macro_rules! with_logic {
     (; $version:literal) => {

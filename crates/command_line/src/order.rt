@@ -14,7 +14,7 @@ use clap::parser::ValueSource;
 use clap::{ArgMatches, Command};
 use edn::Refusal;
 use harness::Config;
-use models::ModelKind;
+use kinds::ModelKind;
 use run_plans::{JudgingTexts, Misspelled, OptionName, RunTexts, workers_in};
 use std::alloc::{AllocError, Global};
 use std::env::Args;
@@ -128,7 +128,7 @@ fn order_without_words(alloc: Global) -> Result<Order, Stop>
     ensures default { IsOrderOf [] result }
 {
     Ok(Order::Script {
-        config: Config::to_judge(alloc, 2, ModelKind::Register, 4096),
+        config: Config::judging_only(alloc, 2, ModelKind::Register, 4096),
         is_strict: false,
     })
 }

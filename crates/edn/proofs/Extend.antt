@@ -1,4 +1,4 @@
--- The element that is read from a prefix is read from the whole, if some of the prefix is left
+-- A reader of the whole text reads the same element as a reader of a prefix, if some of the prefix is left
 use Rattle.std.proofs.Common.{◌≡◌, ℕ, ◌<◌, List, [], ◌∷◌, ◌++◌, length, ◌⊎◌, inl, inr, refl, ap, ◌∙◌, arith, append_assoc, append-nil}
 use Rattle.edn.specs.Value.{Value, Values}
 use Rattle.edn.specs.Bytes.{IsAtom, MayFollowAtom}

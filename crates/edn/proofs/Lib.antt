@@ -18,5 +18,5 @@ pub mod Views
 pub mod Digests
 pub mod Told
 pub mod Extend
-pub mod Fronts
+pub mod Prefixes
 pub mod OneByOne

@@ -1,7 +1,7 @@
 -- Promise: refusals, their numbers, their names, and why nothing was read
 use Rattle.std.specs.Prelude.{ℕ, List, codes}
 use Rattle.edn.specs.Value.{Values}
-use Rattle.edn.specs.Text.{IsText, IsLongestFront}
+use Rattle.edn.specs.Text.{IsText, IsLongestTextPrefix}
 use Rattle.edn.specs.declared.refusal.Refusal.{Refusal}
 use Rattle.edn.specs.declared.refusal.Refusal.TheVariants.{Busy, WrongProcess, NotOpen, Mismatch, BadValue, BadIndex, HistoryFull, NoSuchIndex, BadBudget, BadConcurrency, Unreadable, TapeFull, NoMemory, Idle, NotServed, AlreadyServed, Stale, NoSuchReplica, NoSeat, ReadFailed, WriteFailed, TooLong}
 
@@ -66,7 +66,7 @@ IsWhy bytes HistoryFull = ⊥
 IsWhy bytes NoSuchIndex = ⊥
 IsWhy bytes BadBudget = ⊥
 IsWhy bytes BadConcurrency = ⊥
-IsWhy bytes (Unreadable place) = ((values : Values) → IsText bytes values → ⊥) × IsLongestFront bytes place
+IsWhy bytes (Unreadable place) = ((values : Values) → IsText bytes values → ⊥) × IsLongestTextPrefix bytes place
 IsWhy bytes TapeFull = ⊥
 IsWhy bytes NoMemory = Unit {0}
 IsWhy bytes Idle = ⊥

@@ -43,10 +43,10 @@ abbrev pub IsText : List ℕ → Values → Type 0
 IsText bytes values = ReadsAll 0 bytes values []
 
 -- the first n bytes are a text
-abbrev pub IsFront : List ℕ → ℕ → Type 0
-IsFront bytes n = (n ≤ length bytes) × (values : Values) × IsText (take n bytes) values
+abbrev pub IsTextPrefix : List ℕ → ℕ → Type 0
+IsTextPrefix bytes n = (n ≤ length bytes) × (values : Values) × IsText (take n bytes) values
 
 -- the longest prefix that is a text
-pub record IsLongestFront (bytes : List ℕ) (n : ℕ) : Type 0 where
-  pub is_front : IsFront bytes n
-  pub longest : (m : ℕ) → n < m → IsFront bytes m → ⊥
+pub record IsLongestTextPrefix (bytes : List ℕ) (n : ℕ) : Type 0 where
+  pub is_prefix : IsTextPrefix bytes n
+  pub longest : (m : ℕ) → n < m → IsTextPrefix bytes m → ⊥

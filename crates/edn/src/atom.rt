@@ -175,7 +175,7 @@ fn without_plus(text: &[u8]) -> &[u8]
     }
 }
 
-/// The longest atom at the front, and what follows it; or none if no atom stands there.
+/// The longest atom that is a prefix of the text, and the rest of the text; `None` if no prefix is an atom.
 pub fn longest_atom(text: &[u8]) -> Option<(Atom<'_>, &[u8])>
     ensures found { IfSome result (λ x. IsLongest IsAtom text.now (atom_value x.0) x.1.now) }
     ensures none { IfNone result (HasNone IsAtom text.now) }

@@ -34,7 +34,7 @@ fn with_bytes(number: u64, bytes: &[u8]) -> u64
     told
 }
 
-/// The number of an element: the same for equal elements, whatever the order of pairs and members. Costs O(size of the element).
+/// The hash of an element. Equal elements have the same hash, in any order of pairs and members. Costs O(size of the element).
 #[cycle(digest)]
 pub fn digest(element: &Edn) -> u64
     ensures { result ≡ digest (value_of element.now) }

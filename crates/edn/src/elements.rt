@@ -108,8 +108,8 @@ fn found_in<'a>(
     }
 }
 
-/// The number of elements of a text, which are not kept: then [`Elements`] gives each of them and refuses no place. Errors and cost are
-/// those of [`read_all`](crate::read_all).
+/// The number of elements of a text. If there is no error, [`Elements`] gives each element and refuses no place. Errors and cost are those
+/// of [`read_all`](crate::read_all).
 pub fn check_text(alloc: Global, bytes: &[u8]) -> Result<usize, Refusal>
     ensures read { IfOk result (λ count. (values : Values) × IsText bytes.now values
         × (count ≡ count_of values)) }

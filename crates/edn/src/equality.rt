@@ -1,15 +1,16 @@
-//! Equality of elements, where the pairs of a map and the members of a set may stand in any order.
-//! Two sets are the same under this condition: for each member of the one, the other has more members equal to it than come before it in
-//! its own set. So no member is marked as taken, and no memory is needed.
+//! Equality of elements, with the pairs of a map and the members of a set in any order.
+//!
+//! Sets a and b of the same size are equal if each member x of a meets this condition: b has more members equal to x than a has before x.
+//! So no member is marked as taken, and no memory is needed.
 
 ghost use Rattle.std.specs.Prelude.{◌+◌, ◌↔◌, IsTrue};
-ghost use Rattle.edn.specs.Value.{Same, SameInOrder, SameMembers, SamePairs, pairs, members};
+ghost use Rattle.edn.specs.Value.{Same, SameInOrder, SameMembers, SamePairs, pairs};
 ghost use Rattle.edn.specs.Counts.{CountsSame, HasSame, CountsSamePair, HasSamePair};
 ghost use Rattle.edn.specs.View.{value_of, values_of, entries_of};
 
 use crate::value::Edn;
 
-/// Whether two elements are equal, whatever the order of pairs and members. Takes no memory, and O(m n) for two maps or sets.
+/// Whether two elements are equal, with pairs and members in any order. Takes no memory, and O(m n) time for two maps or sets.
 #[cycle(same)]
 pub fn same(a: &Edn, b: &Edn) -> bool
     ensures { IsTrue result ↔ Same (value_of a.now) (value_of b.now) }

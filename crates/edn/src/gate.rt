@@ -1,9 +1,10 @@
-/// Called as each piece of some work begins and ends, by its number. A test holds pieces back, and so sees that two run at once.
+/// A listener that is called at the begin and the end of each piece of work, with the piece's number. A test holds pieces with it, and so sees
+/// that two run at once.
 pub trait Gate {
     /// The piece at this place begins.
     fn begin(&self, place: u32);
 
-    /// The piece at this place has ended, whatever came of it.
+    /// The piece at this place has ended, with or without an error.
     fn end(&self, place: u32);
 }
 

@@ -2,7 +2,7 @@
 
 ghost use Rattle.std.specs.Prelude.{◌≡◌, ℕ, [], ◌∷◌, pos, List};
 ghost use Rattle.edn.specs.Value.{Value, Values, int, none, more, Same};
-ghost use Rattle.edn.specs.Text.{IsText, IsLongestFront};
+ghost use Rattle.edn.specs.Text.{IsText, IsLongestTextPrefix};
 
 /// A text has one reading.
 pub fn one_reading()
@@ -11,7 +11,7 @@ pub fn one_reading()
 
 /// An input has one longest prefix that is a text, so there is one place at which it is refused.
 pub fn one_place()
-    ensures { (bytes : List ℕ) (m n : ℕ) → IsLongestFront bytes m → IsLongestFront bytes n → m ≡ n }
+    ensures { (bytes : List ℕ) (m n : ℕ) → IsLongestTextPrefix bytes m → IsLongestTextPrefix bytes n → m ≡ n }
 {}
 
 /// `#_ [] 1;x` reads as 1.
@@ -19,7 +19,7 @@ pub fn discards_are_skipped()
     ensures { IsText (35 ∷ 95 ∷ 32 ∷ 91 ∷ 93 ∷ 32 ∷ 49 ∷ 59 ∷ 120 ∷ []) (more (int (pos 1)) none) }
 {}
 
-/// Each value is the same as itself; of two that are the same either may stand first; and values that are the same as a third are the same.
+/// Sameness is reflexive, symmetric and transitive.
 pub fn sameness_is_an_equivalence()
     ensures reflexive { (v : Value) → Same v v }
     ensures symmetric { (v w : Value) → Same v w → Same w v }

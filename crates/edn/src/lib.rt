@@ -1,8 +1,8 @@
 //! Texts of a profile of EDN (<https://github.com/edn-format/edn>), the reasons of refusals for every layer ([`Refusal`]), and the calls at
 //! the begin and end of pieces of work ([`Gate`]).
 //!
-//! [`read_all`] reads a text, [`Elements`] gives its elements one after the other, and [`check_text`] says beforehand whether it is one.
-//! [`same`] compares two elements, whatever the order of pairs and members. The crate `edn_writer` writes texts.
+//! [`read_all`] reads a text. [`check_text`] says whether bytes are a text, and then [`Elements`] gives the elements one after the other.
+//! [`same`] compares two elements, with pairs and members in any order. The crate `edn_writer` writes texts.
 //!
 //! A call allocates only if its result can be `AllocError`, or a refusal because memory ran out.
 #![tactic(auto)]

@@ -3,7 +3,7 @@
 ghost use Rattle.std.specs.Prelude.{IfOk};
 ghost use Rattle.edn.specs.Value.{Values};
 ghost use Rattle.edn.specs.Refusals.{IsWhy};
-ghost use Rattle.edn.specs.Text.{IsText, IsLongestFront};
+ghost use Rattle.edn.specs.Text.{IsText, IsLongestTextPrefix};
 ghost use Rattle.edn.specs.Reading.{OnUnreadable};
 
 use crate::atom::longest_atom;
@@ -15,7 +15,7 @@ use std::alloc::Global;
 
 // The length of the longest prefix that is a text, in one pass over the bytes.
 fn place_of(alloc: Global, bytes: &[u8]) -> Result<usize, ReadError>
-    ensures ok { IfOk result (λ n. IsLongestFront bytes.now n) }
+    ensures ok { IfOk result (λ n. IsLongestTextPrefix bytes.now n) }
     ensures never { OnUnreadable result ⊥ }
 {
     let mut best = 0;

@@ -14,8 +14,8 @@ spelling b =
 abbrev pub separated_by : List ℕ → List (List ℕ) → List ℕ
 separated_by separator texts = join_by (λ t. t) separator texts
 
--- nil, true and false; integers in decimal, without a plus; "..." for a string, :name for a keyword. [a b] and #{a b} have a space between
--- members. {k v, k v} has a space in a pair, and a comma and a space between pairs
+-- nil, true and false. Integers are in decimal, without a plus. A string is "...", and a keyword is :name.
+-- [a b] and #{a b} have a space between members. {k v, k v} has a space in a pair, and a comma and a space between pairs
 abbrev mutual
   pub canonical : Value → List ℕ
   canonical nil = 110 ∷ 105 ∷ 108 ∷ []

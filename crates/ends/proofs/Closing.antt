@@ -7,7 +7,7 @@ use Rattle.std.proofs.lemmas.List.Elements.{Contains-append_left, Contains-appen
 use Rattle.models.specs.declared.finding.Answer.{Answer}
 use Rattle.models.specs.declared.finding.Found.{Found}
 use Rattle.models.specs.Objects.{Object}
-use Rattle.events.specs.Events.{IsFront}
+use Rattle.events.specs.Events.{IsPrefixOf}
 use Rattle.linspec.specs.Ends.{End}
 use Rattle.linspec.proofs.Filters.{filter-no, filter-yes, from_filter}
 use Rattle.linspec.proofs.Lists.{Contains-cons_cases, Contains-head, Contains-nil, Contains-tail}
@@ -19,7 +19,7 @@ use Rattle.moves.specs.Tables.{HasEachOnce, IsThat, ShownWith, found_in_end}
 use Rattle.moves.proofs.JustInTime.{commute}
 use Rattle.moves.proofs.Reaching.{reached_itself, reached_next}
 use Rattle.moves.proofs.Rows.{not_in_by, not_told, told_without, with_state}
-use Rattle.interned.proofs.Lists.{get_front, has_place, one_of, some_at}
+use Rattle.interner.proofs.Lists.{get_front, has_place, one_of, some_at}
 use Rattle.ends.proofs.Starting.{back, to}
 
 module _ (o : Object) where
@@ -35,7 +35,7 @@ module _ (o : Object) where
   closed_again calls ends first adds closed e f h next = to o calls ends first adds f (closed e f (back o calls ends first adds e h) next)
 
   -- calls that were tried on old ends, and the others
-  module _ (calls : List PendingOp) (start more : List (End o.State)) (tried first at : ℕ) (e : End o.State) (here : slice_get more at ≡ Some e) (front : IsFront start more) (closed : AreClosed o (take tried calls) start)
+  module _ (calls : List PendingOp) (start more : List (End o.State)) (tried first at : ℕ) (e : End o.State) (here : slice_get more at ≡ Some e) (front : IsPrefixOf start more) (closed : AreClosed o (take tried calls) start)
       (old : at < length start → first ≡ tried) (new : length start ≤ at → first ≡ 0) where
     was_there : at < length start → Contains start e
     was_there lt =

@@ -1,7 +1,7 @@
 -- ends that grow by the outcomes of calls, until they are closed
 use Rattle.std.proofs.Common.{◌≡◌, ℕ, Bool, true, Result, Ok, Err, IfOk, ◌+◌, ◌*◌, ◌≤◌, inr, ⊎_elim, List, length, take, sym, ap, subst, arith}
 use Rattle.std.specs.List.{Contains}
-use Rattle.std.proofs.Math.Nat.{mul-le-mul_left}
+use Rattle.std.proofs.Math.Nat.{mul-le-mul_left, mul-le-mul_right}
 use Rattle.models.specs.Objects.{Object}
 use Rattle.linspec.specs.Ends.{End}
 use Rattle.moves.specs.declared.pending_op.PendingOp.{PendingOp}
@@ -55,6 +55,10 @@ module _ (o : Object) (t u left : Table o.State) (ok : Asked) (all : Result Bool
 -- the cost of one place more, and of all places
 pub cost_more : (start before after at n : ℕ) → before ≤ start + at * n → after ≤ before + n → after ≤ start + (at + 1) * n
 cost_more start before after at n so_far step = let one : (at + 1) * n ≡ at * n + n = grind arith in omega (arith, so_far, step, one)
+
+-- the cost of places that are no more than one above the budget
+pub cost_enough : (start now at budget n : ℕ) → now ≤ start + at * n → at ≤ budget + 1 → now ≤ start + (budget + 1) * n
+cost_enough start now at budget n cost le = let more : at * n ≤ (budget + 1) * n = mul-le-mul_right n le in omega (arith, cost, more)
 
 pub cost_within : (start now budget k n : ℕ) → now ≤ start + (budget + 1) * k → k ≤ n → now ≤ start + (budget + 1) * n
 cost_within start now budget k n cost le = let more : (budget + 1) * k ≤ (budget + 1) * n = mul-le-mul_left (budget + 1) le in omega (arith, cost, more)

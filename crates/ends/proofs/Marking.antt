@@ -10,8 +10,8 @@ use Rattle.models.specs.declared.finding.Found.{Found}
 use Rattle.models.specs.Objects.{Fits}
 use Rattle.linspec.specs.Ends.{End}
 use Rattle.rows.specs.RowSets.{IsPutIf, PutsMarked, is_marked, mark_of}
-use Rattle.interned.specs.Numbers.{IsSlot}
-use Rattle.interned.proofs.Lists.{one_of}
+use Rattle.interner.specs.Numbers.{IsSlot}
+use Rattle.interner.proofs.Lists.{one_of}
 use Rattle.moves.specs.declared.pending_op.PendingOp.{PendingOp}
 use Rattle.moves.specs.declared.table.Table.{Table}
 use Rattle.moves.specs.EndSteps.{Along, Fails, FitsAt, IsOut, Settles, is_other, settled}

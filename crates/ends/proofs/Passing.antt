@@ -14,8 +14,8 @@ use Rattle.moves.specs.declared.table.Table.{Table}
 use Rattle.moves.specs.EndSteps.{Next, TakesLast}
 use Rattle.moves.specs.Moves.{AreMoves, IsStuck}
 use Rattle.moves.specs.Tables.{Shows, ShownWith}
-use Rattle.interned.proofs.Lists.{some_at}
-use Rattle.moves.proofs.Adding.{Adds-none, IsFront-itself}
+use Rattle.interner.proofs.Lists.{some_at}
+use Rattle.moves.proofs.Adding.{Adds-none, IsPrefixOf-itself}
 use Rattle.moves.proofs.Leading.{led_nowhere}
 use Rattle.moves.proofs.Moving.{alike_to, known_does}
 use Rattle.moves.proofs.Rows.{in_unless}
@@ -29,7 +29,7 @@ module _ (o : Object) (calls : List PendingOp) (e : End o.State) (ends : List (E
   pass (suc n) i low high none s =
       let call = some_at calls i (omega (arith, high)) in
       let here : slice_get calls (i + 0) ≡ Some call.0 = subst (λ k. slice_get calls k ≡ Some call.0) (let same : i ≡ i + 0 = omega arith in same) call.1 in
-      let nothing : ShownWith t calls s.more (TakesLast o e call.0) = record { more = s.more; shown = s.shown; front = IsFront-itself s.more; adds = Adds-none (TakesLast o e call.0) s.more (none 0 call.0 (omega arith) here) } in
+      let nothing : ShownWith t calls s.more (TakesLast o e call.0) = record { more = s.more; shown = s.shown; front = IsPrefixOf-itself s.more; adds = Adds-none (TakesLast o e call.0) s.more (none 0 call.0 (omega arith) here) } in
       subst (λ k. ShownWith t calls ends (Next o (drop from (take k calls)) e)) (let same : i + 1 + n ≡ i + suc n = omega arith in same)
       (pass n (i + 1) (omega (arith, low)) (omega (arith, high))
       (λ k c lt there. none (suc k) c (omega (arith, lt)) (subst (λ p. slice_get calls p ≡ Some c) (let same : i + 1 + k ≡ i + suc k = omega arith in same) there))

@@ -1,9 +1,8 @@
 -- ends after an ok and a fail, by rows
-use Rattle.std.proofs.Common.{◌≡◌, ◌≢◌, ℕ, zero, suc, ◌+◌, ◌<◌, ◌≤◌, ⊎_elim, Bool, true, false, not, Some, None, List, [], ◌∷◌, length, slice_get, get_or, set, refl, sym, ap, ◌∙◌, subst, arith}
+use Rattle.std.proofs.Common.{◌≡◌, ◌≢◌, ℕ, zero, suc, ◌+◌, ◌<◌, ◌≤◌, ⊎_elim, Bool, true, false, not, Some, None, List, [], ◌∷◌, length, slice_get, get_or, refl, sym, ap, ◌∙◌, subst, arith}
 use Rattle.std.specs.FinMap as finmap
 use Rattle.std.proofs.lemmas.Bool.{cases_eq, cases_lt, eq-eqb, ne_eqb, true≢false}
 use Rattle.std.specs.List.{Contains, filter, remove}
-use Rattle.std.proofs.lemmas.List.{get_or-set_same, get_or-set_other, length-set}
 use Rattle.std.proofs.lemmas.List.Edits.{get_or-remove_above, get_or-remove_below, length-remove}
 use Rattle.std.proofs.lemmas.Option.{slice_get_read, slice_get_within, slice_get-get_or, get_or_from_slice_get}
 use Rattle.models.specs.declared.finding.Answer.{Answer}
@@ -17,12 +16,12 @@ use Rattle.moves.specs.declared.table.Table.{Table}
 use Rattle.moves.specs.EndSteps.{Adds, Along, FitsAt, IsOut, Settles, is_other, settled}
 use Rattle.moves.specs.KeptEnds.{IsIncluded}
 use Rattle.moves.specs.Tables.{AreShown, HasEachOnce, IsOpenAt, Says, found_by, found_in_end}
-use Rattle.interned.specs.Numbers.{IsSlot}
+use Rattle.interner.specs.Numbers.{IsSlot}
 use Rattle.moves.proofs.Adding.{Adds-none}
 use Rattle.moves.proofs.Rows.{not_in_by, not_told, other_ids, told_pending, zero_none}
 use Rattle.moves.proofs.Changes.{same_parts}
 use Rattle.std.specs.Cmp.{nat_cmp_total}
-use Rattle.interned.proofs.Lists.{clash, has_place, one_of, place_of}
+use Rattle.interner.proofs.Lists.{clash, has_place, one_of, place_of}
 use Rattle.moves.proofs.Showing.{end_here}
 
 module _ {S : Type 0} (calls : List PendingOp) where
@@ -43,42 +42,9 @@ module _ {S : Type 0} (calls : List PendingOp) where
 
   -- the row without an open call
   module _ (states : List S) (founds : List Found) (once : HasEachOnce calls) (at id : ℕ) (h : IsOpenAt calls at id) (e : End S) where
-    told_gone : (d : PendingOp) → d.id ≡ id → d.crashed ≡ false → found_by (settled e id) d ≡ None
-    told_gone d same here = told_pending (settled e id) d id same here ∙ get-remove_same e.pending id
-
     told_other : (q : ℕ) (b : Bool) → q ≢ id → found_in_end (settled e id) q b ≡ found_in_end e q b
     told_other q true ne = refl
     told_other q false ne = get-remove_other e.pending id q ne
-
-    pub included_settled : IsIncluded calls e → IsIncluded calls (settled e id)
-    included_settled a = record {
-      pending = λ q x k.
-          ⊎_elim
-          (λ same. absurd (clash x _ (get-remove_same e.pending id) (subst (λ i. finmap.get (finmap.remove e.pending id) i ≡ Some x) same k)))
-          (λ ne. a.pending q x (sym (get-remove_other e.pending id q ne) ∙ k))
-          (cases_eq q id);
-      crashed = a.crashed;
-    }
-
-    pub says_settled : (row next : List ℕ) → Says states founds calls row e → next ≡ set row (at + 1) 0 → Says states founds calls next (settled e id)
-    says_settled row next a is = record {
-      long = ap length is ∙ length-set row (at + 1) 0 ∙ a.long;
-      state = ap (slice_get states) (ap (λ l. get_or l 0 0) is ∙ get_or-set_other row (at + 1) 0 0 0 (λ q. omega (arith, q))) ∙ a.state;
-      slots = λ j d k.
-          ⊎_elim
-          (λ q.
-          let same : h.call ≡ d = one_of h.call d (sym h.there ∙ ap (slice_get calls) (sym q) ∙ k) in
-          let lt = slice_get_within calls at h.call h.there in
-          let long = a.long in
-          let zero' : get_or next (j + 1) 0 ≡ 0 = ap (λ l. get_or l (j + 1) 0) is ∙ ap (λ m. get_or (set row (at + 1) 0) (m + 1) 0) q ∙ get_or-set_same row (at + 1) 0 0 (omega (arith, lt, long)) in
-          subst (IsSlot founds (get_or next (j + 1) 0)) (sym (told_gone d (ap (λ (x : PendingOp). x.id) (sym same) ∙ h.same) (ap (λ (x : PendingOp). x.crashed) (sym same) ∙ h.not_crashed))) zero')
-          (λ ne.
-          let apart : d.id ≢ id = λ q. other_ids calls once j at d h.call k h.there ne (q ∙ sym h.same) in
-          let stays : get_or next (j + 1) 0 ≡ get_or row (j + 1) 0 = ap (λ l. get_or l (j + 1) 0) is ∙ get_or-set_other row (at + 1) (j + 1) 0 0 (λ q. ne (omega (arith, q))) in
-          subst (λ m. IsSlot founds m (found_by (settled e id) d)) (sym stays) (subst (IsSlot founds (get_or row (j + 1) 0)) (sym (told_other d.id d.crashed apart)) (a.slots j d k)))
-          (cases_eq j at);
-      included = included_settled a.included;
-    }
 
 -- the calls without one
 pub without_call : (calls : List PendingOp) → HasEachOnce calls → (at id : ℕ) (c : PendingOp) → slice_get calls at ≡ Some c → c.id ≡ id → filter (is_other id) calls ≡ remove calls at

@@ -1,11 +1,11 @@
--- Invariant: what an ok asks, does to rows, and leaves
+-- Invariant: the tests of an ok, its effect on rows, and the rows that it leaves
 use Rattle.std.specs.Prelude.{◌≤◌, ◌≡◌, ◌≢◌, ◌↔◌, ℕ, ◌+◌, Bool, true, false, Some, List, [], length, take, slice_get, get_or, Result, IfOk, OnOk, ◌*◌}
 use Rattle.std.specs.List.{Contains, filter}
 use Rattle.std.specs.declared.alloc.AllocError.{AllocError}
 use Rattle.models.specs.declared.finding.Answer.{Answer}
 use Rattle.models.specs.declared.finding.Found.{Found}
 use Rattle.models.specs.Objects.{Object, Fits}
-use Rattle.events.specs.Events.{IsFront}
+use Rattle.events.specs.Events.{IsPrefixOf}
 use Rattle.linspec.specs.Orders.{Pairwise}
 use Rattle.linspec.specs.Ends.{End}
 use Rattle.moves.specs.declared.pending_op.PendingOp.{PendingOp}
@@ -18,7 +18,7 @@ use Rattle.moves.specs.EndSteps.{Next, IsReached, Adds, Along, AreClosed, Grows,
 pub record OnlyPuts {S : Type 0} (old new : Table S) : Type 0 where
   pub states : new.states ≡ old.states
   pub founds : new.founds ≡ old.founds
-  pub front : IsFront (rows_of old) (rows_of new)
+  pub front : IsPrefixOf (rows_of old) (rows_of new)
 
 -- the rows with the numbers of each target stand behind the others, if they are to say ends
 abbrev pub PutsLed : {S : Type 0} → Table S → Table S → List ℕ → ℕ → List (ℕ × ℕ) → Result (Unit {0}) AllocError → Type 0

@@ -9,7 +9,7 @@ ghost use Rattle.moves.specs.Tables.{AreShown, HasEachOnce, IsOpenAt, ShownWith,
 ghost use Rattle.ends.specs.Oks.{AreMarksOf, IsLeft, asked_by};
 
 use crate::returning::Returning;
-use interned::Founds;
+use interner::FoundTable;
 use models::{Answer, SeqObject, finding};
 use moves::{KeptEnd, PendingOp, Table, copy_of};
 use rows::RowSet;
@@ -51,7 +51,7 @@ fn lengthen(marks: &mut Vec<bool>, long: usize) -> Result<(), AllocError>
 /// which the operation is not in, has none. Marks behind these stay as they were. `AllocError` if there is no memory for them: then
 /// there may be more of them. Costs O(answers).
 pub fn mark_fitting(
-    founds: &Founds,
+    founds: &FoundTable,
     answer: &Answer,
     marks: &mut Vec<bool>,
 ) -> Result<(), AllocError>
@@ -95,8 +95,8 @@ pub fn put_left_by_ok<S: Hash + Drop>(
     }
 }
 
-/// Puts what a fail of the open operation leaves in place of the rows that were there: of each end that does not have the operation
-/// the row, without the operation's number. Leaves no rows if the operation is not open. Looks at one number of each row.
+/// Replaces the rows by the rows that a fail of the open operation leaves: each row whose end does not have the operation, without the
+/// operation's number. Leaves no rows if the operation is not open. Looks at one number of each row.
 pub fn failed<S: Hash + Drop>(
     table: &Table<S>,
     calls: &[PendingOp],

@@ -21,7 +21,7 @@ use std::hash::Hash;
 
 /// Memory that an ok works in, kept for the next one. It has the moves of calls in states, the row that is looked at, and the marks of
 /// fitting answers. The rows that are left are in it too, and a fail puts its own there.
-pub struct Room<S> {
+pub struct Workspace<S> {
     moves: Moves<S>,
     row: Row,
     marks: Vec<bool>,
@@ -29,9 +29,9 @@ pub struct Room<S> {
 }
 
 // So that crates above give one back by one call.
-impl<S: Drop> Drop for Room<S> {
+impl<S: Drop> Drop for Workspace<S> {
     fn drop(self) {
-        let Room {
+        let Workspace {
             moves: _moves,
             row: _row,
             marks: _marks,
@@ -40,10 +40,10 @@ impl<S: Drop> Drop for Room<S> {
     }
 }
 
-impl<S> Room<S> {
+impl<S> Workspace<S> {
     /// No memory yet.
-    pub fn new(alloc: Global) -> Room<S> {
-        Room {
+    pub fn new(alloc: Global) -> Workspace<S> {
+        Workspace {
             moves: Moves::new(alloc),
             row: Row::new(alloc),
             marks: Vec::new(alloc),
@@ -52,10 +52,10 @@ impl<S> Room<S> {
     }
 }
 
-impl<S: Drop> Room<S> {
+impl<S: Drop> Workspace<S> {
     /// Memory for the oks of two clients, which grows where there are more.
-    pub fn for_two(alloc: Global) -> Result<Room<S>, AllocError> {
-        let mut room = Room::new(alloc);
+    pub fn for_two(alloc: Global) -> Result<Workspace<S>, AllocError> {
+        let mut room = Workspace::new(alloc);
         room.moves = Moves::with_room(alloc)?;
         Ok(room)
     }
@@ -242,9 +242,9 @@ fn leads_beyond<M: SeqObject>(
     false
 }
 
-// Adds the ends that the calls lead to, one after another: goes through the rows once while they grow at their end, through no more rows
-// than the budget. The calls that were tried already are tried on new rows alone. False if all ends are more than the budget; then there
-// may be more to add. Also false before a call is tried that has more outcomes in a state than the budget.
+// Adds the ends to which the calls lead. Goes once through the rows, which grow at their end, up to the budget. Calls that were tried
+// before are tried on new rows alone. Returns false if there are more ends than the budget; then some ends may be missing. Also returns
+// false before it tries a call that has more outcomes in a state than the budget.
 fn grow<M: SeqObject>(
     table: &mut Table<M::State>,
     moves: &mut Moves<M::State>,
@@ -296,7 +296,7 @@ fn grow<M: SeqObject>(
 /// most one step for each call and each end that is extended, and looks the row of each end that comes of one up among the others.
 pub fn advance<M: SeqObject>(
     table: &mut Table<M::State>,
-    room: &mut Room<M::State>,
+    room: &mut Workspace<M::State>,
     returning: &Returning,
     applied: &mut u64,
 ) -> Result<bool, AllocError>

@@ -15,7 +15,7 @@ mod growth;
 mod returning;
 
 pub use after::{crashed_ends, failed, mark_fitting, place_of_open};
-pub use growth::{Room, advance};
+pub use growth::{Workspace, advance};
 pub use moves::{
     KeptEnd, PendingOp, Table, clear, copied, copied_whole, copy_calls, crash_call, drop_call,
     empty, ends_of_table, is_read, refill, step, table_of_ends, told_by,

@@ -52,6 +52,16 @@ pub one_more : {X : Type 0} (read : Value → Option X) (vs : List Edn) (i : ℕ
 one_more read vs i v xs x h is so_far some =
     so_far ∙ ap (after xs) (read_step read vs i v h is) ∙ ap (λ o. after xs (with_first o (read_from read vs (i + 1)))) some ∙ after_first xs x (read_from read vs (i + 1))
 
+none_first : {X : Type 0} (xs : List X) (o : Option (List X)) → after xs (with_first None o) ≡ None
+none_first xs None = refl
+none_first xs (Some ys) = refl
+
+-- if an element is not read, they are not
+pub none_of : {X : Type 0} (read : Value → Option X) (vs : List Edn) (i : ℕ) (v : Edn) (xs : List X) → i < length vs → v ≡ get_or vs i v
+    → each_in read (values_of vs) ≡ after xs (read_from read vs i) → read (value_of v) ≡ None → each_in read (values_of vs) ≡ None
+none_of read vs i v xs h is so_far none =
+    so_far ∙ ap (after xs) (read_step read vs i v h is) ∙ ap (λ o. after xs (with_first o (read_from read vs (i + 1)))) none ∙ none_first xs (read_from read vs (i + 1))
+
 pub all_of : {X : Type 0} (read : Value → Option X) (vs : List Edn) (i : ℕ) (xs : List X) → length vs ≤ i
     → each_in read (values_of vs) ≡ after xs (read_from read vs i) → each_in read (values_of vs) ≡ Some xs
 all_of read vs i xs h so_far = so_far ∙ ap (after xs) (read_none read vs i h) ∙ ap Some (append-nil xs)

@@ -80,6 +80,13 @@ pub set_told : (v : Vec Edn Global) (xs : List ℤ) → map value_of v.items ≡
 set_told v xs is h =
     ap set_in (view-Set v ∙ ap (λ l. members (list_of l)) is) ∙ ap (option_map ascending) (ints_back xs) ∙ ap Some (ascending_same xs h)
 
+-- one element more tells one value more
+pub told_more : {X Y Z : Type 0} (view : Y → Z) (tell : X → Z) (elements new : List Y) (e : Y) (xs : List X) (i : ℕ) (d : X) → i < length xs → new ≡ elements ++ e ∷ [] → view e ≡ tell (get_or xs i d)
+    → map view elements ≡ map tell (take i xs) → map view new ≡ map tell (take (i + 1) xs)
+told_more view tell elements new e xs i d h more_is told so =
+    ap (map view) more_is ∙ map-append view elements (e ∷ []) ∙ ap (λ l. l ++ view e ∷ []) so ∙ ap (λ v. map tell (take i xs) ++ v ∷ []) told
+    ∙ sym (ap (map tell) (take_more xs i d h) ∙ map-append tell (take i xs) (get_or xs i d ∷ []))
+
 -- a vector of vectors of numbers
 abbrev lists : List (Vec ℕ Global) → List (List ℕ)
 lists groups = map (λ (v : Vec ℕ Global). v.items) groups

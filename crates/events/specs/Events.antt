@@ -116,5 +116,5 @@ abbrev pub marks : List Entry → List Mark
 marks entries = map (λ e. e.mark) entries
 
 -- xs is a prefix of ys
-abbrev pub IsFront : {X : Type 0} → List X → List X → Type 0
-IsFront {X} xs ys = (rest : List X) × (xs ++ rest ≡ ys)
+abbrev pub IsPrefixOf : {X : Type 0} → List X → List X → Type 0
+IsPrefixOf {X} xs ys = (rest : List X) × (xs ++ rest ≡ ys)

@@ -24,8 +24,8 @@ pub fn count_of(element: &Edn) -> Option<u16>
     u16::try_from(element.as_int()?).ok()
 }
 
-/// The set of integers that an element is, ascending, in whatever order it was spelled. The time is that of sorting them.
-/// Memory is taken if each element is an integer, and `AllocError` if it was refused.
+/// The set of integers of an element, whose members may have any order; `None` if the element is no such set. Costs a sort: O(n log n).
+/// Takes memory only if each member is an integer; `AllocError` if there is none.
 pub fn set_of(alloc: Global, element: &Edn) -> Result<Option<Members>, AllocError>
     ensures found { IfOk result (λ found. found ≡ set_in (value_of element.now)) }
     ensures memory_last { IsErr result → IsSome (set_in (value_of element.now)) }

@@ -59,7 +59,7 @@ impl Groups {
         Ok(Groups { groups })
     }
 
-    /// Whether the numbers are those of replicas, 0 to 6, and each stands there at most once.
+    /// Whether the numbers are numbers of replicas, 0 to 6, each at most once.
     pub fn are_apart(&self) -> bool
         ensures { IsTrue result ↔ AreGroups self.now }
     {
@@ -73,7 +73,7 @@ impl Groups {
     }
 }
 
-/// Marks the replicas that the numbers name. It answers false if a number is not that of a replica, or is marked. Costs O(numbers).
+/// Marks the replicas with these numbers. Returns false if a number is not the number of a replica, or is marked already. Costs O(numbers).
 pub fn mark(numbers: &[u8], seen: &mut [bool]) -> bool
     requires { length seen.old ≡ 7 }
     ensures { (before : List ℕ) → HasSeen seen.old before → MatchBool result

@@ -22,7 +22,7 @@ pub fn one_event()
     ensures { (v : Value) (e f : Event) → Spells v e → Spells v f → e ≡ f }
 {}
 
-/// Integers put in their places are ascending, in whatever order they stand, and no other than they were.
+/// A sorted list of integers ascends and has the same integers, for any order of the list.
 pub fn order_of_a_set_says_nothing()
     ensures ascending { (zs : List ℤ) → IsAscending (ascending zs) }
     ensures members { (zs : List ℤ) (x : ℤ) → Contains (ascending zs) x ↔ Contains zs x }

@@ -258,10 +258,10 @@ fn event_of(alloc: Global, element: &Edn) -> Result<Option<Event>, AllocError>
 
 /// The event that a map of a text spells.
 ///
-/// The keys `:type`, `:process`, `:f` and `:value` must be there, `:index` may be, and other keys say nothing. An index and a client's
-/// process are 0 to 2^32 - 1. The value of a client's event is `[key part]`. A key is 0 to 65,535, and the part is one that the name may
-/// have in such an event. It is nil, an integer of 64 bits, a vector of two, or a set of them, whose order says nothing. An event of
-/// `:nemesis` is an `:info` with the name of a fault, and the value says whom it befalls.
+/// The keys `:type`, `:process`, `:f` and `:value` must be there, `:index` may be, and other keys are ignored. An index and a client's
+/// process are 0 to 2^32 - 1. The value of a client's event is `[key part]`. A key is 0 to 65,535. The part is nil, an integer of 64 bits,
+/// a vector of two integers, or a set of integers in any order. The tables of events say which part a name may have. An event of `:nemesis`
+/// is an `:info` with the name of a fault, and its value has the replicas of the fault.
 ///
 /// The time is that of one pass over the pairs, and of sorting the members of a set.
 ///

@@ -62,7 +62,7 @@ pub fn is_part_of(kind: EventKind, name: Name, part: &Part) -> bool
     }
 }
 
-/// Whether an event of this kind and name may have a set, whatever its members: the empty one stands for all.
+/// Whether an event of this kind and name may have a set. The members do not matter, so the test is of the empty set.
 pub fn takes_sets(alloc: Global, kind: EventKind, name: Name) -> bool
     ensures { IsTrue result ↔ IsPartOf kind name (Set []) }
 {
@@ -101,7 +101,7 @@ pub fn is_in_tables(kind: EventKind, process: Process, body: &Body) -> bool
     }
 }
 
-// Whether the part of a completion is its own, as an answer, or that of the invocation.
+// Whether the part of a completion is an answer, or the same as the part of the invocation.
 fn repeats(kind: EventKind, invoked: &Part, op: &Op) -> bool
     ensures { IsTrue result ↔ IsRepeat kind op.now.name invoked.now op.now.part }
 {

@@ -17,7 +17,7 @@ use Rattle.std.proofs.lemmas.List.Elements.{Contains-append_left}
 use Rattle.linspec.proofs.Filters.{from_map, to_map}
 use Rattle.linspec.proofs.Completions.{fail_after, fail_before, info_after_by, info_before_by}
 use Rattle.linspec.proofs.Reach.{Reaches, invoke_after, invoke_before}
-use Rattle.linspec.proofs.Fronts.{IsLinearizable-end}
+use Rattle.linspec.proofs.Prefixes.{IsLinearizable-end}
 use Rattle.moves.specs.declared.pending_op.PendingOp.{PendingOp}
 use Rattle.moves.specs.KeptEnds.{ArePending}
 use Rattle.moves.specs.EndSteps.{Crashes, Fails, after_crash, is_in, Along, Adds, IsReached, ReachesMoreThan}

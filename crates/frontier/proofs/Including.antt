@@ -23,7 +23,7 @@ use Rattle.moves.specs.EndSteps.{TakesLast, Next, ReachesIn, IsReached, Settles,
 use Rattle.moves.proofs.CallsInTurn.{crash_call-same, crash_call-other}
 use Rattle.moves.proofs.Changes.{same_parts}
 use Rattle.moves.proofs.Rows.{included_with}
-use Rattle.interned.proofs.Lists.{clash}
+use Rattle.interner.proofs.Lists.{clash}
 
 stays : (calls : List PendingOp) (id : ℕ) (c : PendingOp) (q : ℕ) → Contains calls c → c.id ≡ q → q ≢ id → Contains (filter (is_other id) calls) c
 stays calls id c q h is ne = to_filter (is_other id) calls c h (ap not (ne_eqb c.id id (λ k. ne (sym is ∙ k))))

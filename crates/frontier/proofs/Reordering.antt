@@ -7,8 +7,8 @@ use Rattle.events.specs.Events.{Mark}
 use Rattle.linspec.specs.Ends.{End}
 use Rattle.linspec.specs.Orders.{Pairwise}
 use Rattle.linspec.proofs.Lists.{Contains-nil}
-use Rattle.interned.specs.Numbers.{IsOnceIn}
-use Rattle.interned.proofs.Lists.{has_place, one_of}
+use Rattle.interner.specs.Numbers.{IsOnceIn}
+use Rattle.interner.proofs.Lists.{has_place, one_of}
 use Rattle.moves.specs.declared.pending_op.PendingOp.{PendingOp}
 use Rattle.moves.specs.declared.table.Table.{Table}
 use Rattle.moves.specs.EndSteps.{Along, AreClosed}

@@ -10,10 +10,10 @@ use Rattle.judging.specs.declared.step.Step.{Step}
 use Rattle.judging.specs.declared.step.Step.TheVariants.{Alive, Dead, Over}
 use Rattle.moves.specs.KeptEnds.{AreIncluded, ArePending, IsIncluded, IsWellKept, end_kept}
 use Rattle.moves.specs.Tables.{AreShown, IsThat, Says, Shows, ShownWith, found_by, rows_of, with_rows}
-use Rattle.interned.specs.Numbers.{IsSlot}
+use Rattle.interner.specs.Numbers.{IsSlot}
 use Rattle.moves.specs.declared.table.Table.{Table}
 use Rattle.moves.proofs.Showing.{included_shown}
-use Rattle.interned.proofs.Lists.{get_last, get_push, has_place, one_of, some_at}
+use Rattle.interner.proofs.Lists.{get_last, get_push, has_place, one_of, some_at}
 use Rattle.std.specs.FinMap as finmap
 use Rattle.std.specs.List.{Contains}
 use Rattle.std.proofs.lemmas.Bool.{true≢false}

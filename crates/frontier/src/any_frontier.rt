@@ -1,6 +1,7 @@
 //! Judges of the history of a key of any kind.
 ghost use Rattle.std.specs.Prelude.{◌≡◌, IfOk};
-ghost use Rattle.models.specs.Objects.{object_of, of_table};
+ghost use Rattle.models.specs.Objects.{of_table};
+ghost use Rattle.kinds.specs.Kinds.{object_of};
 ghost use Rattle.linspec.specs.Counts.{CountsMoreThan};
 ghost use Rattle.frontier.specs.AnyFrontier.{any_view_of, kind_of_frontier};
 ghost use Rattle.frontier.specs.Kept.{view_of};
@@ -14,10 +15,8 @@ use crate::wide::{
 };
 use events::EventKind;
 use judging::Step;
-use models::{
-    CasRegister, FifoQueue, ModelKind, Mutex, Op, Register, SeqObject, Set, UnorderedQueue,
-    each_kind_with_ends,
-};
+use kinds::{ModelKind, each_kind_with_ends};
+use models::{CasRegister, FifoQueue, Mutex, Op, Register, SeqObject, Set, UnorderedQueue};
 use std::alloc::{AllocError, Global};
 use wide_cas_register::WideCasRegister;
 use wide_fifo_queue::WideFifoQueue;
@@ -47,7 +46,7 @@ pub enum AnyFrontier {
     WideCasRegister(Box<WideCasRegister>),
     /// For a set: it counts nothing.
     WideSet(Box<WideSet>),
-    /// For a queue of which only equal values are counted.
+    /// For a wide queue: only equal values are counted.
     WideFifoQueue(Box<WideFifoQueue>),
     /// For a queue without an order: it counts nothing.
     WideUnorderedQueue(Box<WideUnorderedQueue>),
@@ -152,7 +151,7 @@ macro_rules! commit_of {
     };
 }
 
-// A frontier of one kind at its start; apart, so that no place is laid out for those of the other kinds.
+// A frontier of one kind at its start. It is a function of its own, so that its stack frame has no room for the other kinds.
 #[inline(never)]
 fn started<M: SeqObject>(alloc: Global, budget: u32) -> Result<Box<Frontier<M>>, AllocError>
     ensures { let object = of_table M.State M.start_state M.apply_to in
@@ -180,10 +179,10 @@ impl AnyFrontier {
         each_kind_with_ends!(start_of; kind, alloc, budget)
     }
 
-    /// An event of an operation: [`Frontier::observe`], at its cost. The id is the index of the operation's invocation. It is new if the
-    /// event is an invocation, and else is that of an open operation; the part of an ok is the answer. Over if the event is an ok and more
-    /// ends than the budget stand just before it. Then, and on `AllocError`, the frontier keeps its meaning. An invocation and an info are
-    /// answered Alive, since they kill nothing.
+    /// Observes an event of an operation, as [`Frontier::observe`] does, at its cost. `id` is the index of the operation's invocation: a
+    /// new one for an invocation, else the index of an open operation. The part of an ok is the answer. Returns Over if the event is an ok
+    /// and there are more ends than the budget just before it. Then, and on `AllocError`, the frontier keeps its meaning. An invocation and
+    /// an info are answered Alive, since they remove no end.
     pub fn observe(&mut self, id: u32, kind: EventKind, op: &Op) -> Result<Step, AllocError>
         ensures observed { Observes (any_view_of self.old) (any_view_of self.new)
             (CountsMoreThan (kind_of_frontier self.old)) (object_of (kind_of_frontier self.old))

@@ -11,14 +11,14 @@ ghost use Rattle.moves.specs.Tables.{AreShown, HasEachOnce, IsOpenAt, OnlyTries,
 ghost use Rattle.ends.specs.Oks.{FindsLeft};
 ghost use Rattle.moves.specs.Tables.{rows_of, with_rows};
 ghost use Rattle.ends.specs.Oks.{most_steps};
-ghost use Rattle.product_ends.specs.Deeds.{HasOneOutcome};
+ghost use Rattle.product_ends.specs.Transitions.{HasOneOutcome};
 ghost use Rattle.frontier.specs.Kept.{IsAlike, IsIdle, IsListed, IsOf, IsStepOf, HasCountsOf, ListsFresh, Reforms, StandsFor};
 ghost use Rattle.frontier.specs.Kept.{asked_of, call_of, left_of, rows_by, table_of, view_of};
 ghost use Rattle.judging.specs.Meaning.{Commits, IsCopy, IsStart, Keeps, Observes, Prepares, TakesAlways, mark_by};
 
 use crate::change::{self, AfterCrash, Change, Fresh};
 use crate::product_form::{self, ProductForm};
-use ends::{KeptEnd, PendingOp, Returning, Room, Table};
+use ends::{KeptEnd, PendingOp, Returning, Table, Workspace};
 use events::EventKind;
 use judging::Step;
 use models::{Answer, Op, SeqObject};
@@ -30,12 +30,12 @@ use std::mem::swap;
 // The number of calls for which room is made at the start: two clients of a key have no more open at once.
 const FEW_CALLS: usize = 2;
 
-/// The ends of the legal orders of one key's history (Herlihy and Wing 1990, section 2), found just in time (Lowe 2017). It does not keep
-/// the events. It keeps some ends, and the pending operations lead from them to all others. Only an ok tries operations: it finds all ends
-/// just before it, and keeps those that include the operation with a fitting answer.
+/// The ends of the legal orders of one key's history (Herlihy and Wing 1990, section 2), found just in time (Lowe 2017). The frontier does
+/// not keep the events. It keeps some ends, and the pending operations lead from them to all others. Only an ok tries operations: it finds
+/// all ends just before it, and keeps those that include the operation with a fitting answer.
 ///
-/// An event can be prepared, which may fail and leaves what the frontier stands for, and then committed, which takes no memory. A change
-/// that was prepared before is dropped.
+/// An event is prepared and then committed. A prepare may fail, and does not change the histories that the frontier represents. A commit
+/// takes no memory. A change that was prepared before is dropped.
 pub struct Frontier<M: SeqObject> {
     alloc: Global,
     budget: u32,
@@ -52,7 +52,7 @@ pub struct Frontier<M: SeqObject> {
     /// The memory of the table before.
     spare: Option<Box<Table<M::State>>>,
     /// Memory to work in, and the rows that a prepared ok or fail leaves.
-    room: Room<M::State>,
+    room: Workspace<M::State>,
     /// The kept ends if they are products, with those that a prepared ok or fail leaves of them.
     products: Option<Box<ProductForm<M::State>>>,
     /// What is prepared.
@@ -127,7 +127,7 @@ impl<M: SeqObject> Frontier<M> {
             tried: 0,
             table,
             spare: None,
-            room: Room::for_two(alloc)?,
+            room: Workspace::for_two(alloc)?,
             products: None,
             next: Change::Nothing,
             coming: None,
@@ -135,11 +135,11 @@ impl<M: SeqObject> Frontier<M> {
         })
     }
 
-    /// Any event of an operation: [`invoke`](Self::invoke), [`ok`](Self::ok), [`fail`](Self::fail) or [`crash`](Self::crash) by the kind of
-    /// the event, at its cost. The id is the index of the operation's invocation, and the part of an ok is the answer. An invocation and an
-    /// info are answered Alive, since they kill nothing. Over if the event is an ok and more ends than the budget stand just before it.
-    /// Then, and on `AllocError`, the frontier keeps its meaning. The steps that were made stay counted, the call that was noted last may
-    /// have its place in the rows, and rows may have become products, or products rows. It is [`prepare`](Self::prepare) and
+    /// Observes an event of an operation: [`invoke`](Self::invoke), [`ok`](Self::ok), [`fail`](Self::fail) or [`crash`](Self::crash) by the
+    /// kind of the event, at its cost. `id` is the index of the operation's invocation, and the part of an ok is the answer. An invocation
+    /// and an info are answered Alive, since they remove no end. Returns Over if the event is an ok and there are more ends than the budget
+    /// just before it. Then, and on `AllocError`, the frontier keeps its meaning. The steps that were made stay counted, the call that was
+    /// noted last may have its place in the rows, and rows may have become products, or products rows. It is [`prepare`](Self::prepare) and
     /// [`commit`](Self::commit) in one.
     pub fn observe(&mut self, id: u32, kind: EventKind, op: &Op) -> Result<Step, AllocError>
         ensures { let object = of_table M.State M.start_state M.apply_to in
@@ -390,7 +390,7 @@ impl<M: SeqObject> Frontier<M> {
         Ok(())
     }
 
-    // Whether the table has ten states for each row, and ninety more: most of them are those of no row any more.
+    // Whether the table has at least ten states for each row and ninety more: then most states belong to no row any more.
     fn has_stale_states(&self) -> bool {
         self.table.states.len() / 10 > self.table.rows.len().saturating_add(8)
     }
@@ -422,11 +422,13 @@ impl<M: SeqObject> Frontier<M> {
         Ok(())
     }
 
-    /// An open operation has returned with this answer. Over if more ends than the budget stand just before it. Then, and on `AllocError`,
-    /// the frontier keeps its meaning; the steps that were made stay counted. If the ends are rows, it tries each operation that may still
-    /// take place at most once on each end, as a rule once in each state of an end. On the ends that the last ok left it tries only the
-    /// operations invoked since. It looks the results up in an index. If they are products, tries each operation once in each state that is
-    /// met, and compares each product that comes of it with the others. Goes on with no end once these are more than the budget.
+    /// Observes that an open operation has returned with this answer. Returns Over if there are more ends than the budget just before it.
+    /// Then, and on `AllocError`, the frontier keeps its meaning; the steps that were made stay counted.
+    ///
+    /// If the ends are rows, it tries each operation that may still take place at most once on each end, mostly once in each state. On the
+    /// ends that the last ok left it tries only the operations invoked since. It looks the results up in an index. If the ends are
+    /// products, it tries each operation once in each state that is met, and compares each new product with the others. It stops once there
+    /// are more ends than the budget.
     pub fn ok(&mut self, id: u32, answer: &Answer) -> Result<Step, AllocError>
         ensures { let object = of_table M.State M.start_state M.apply_to in
             Observes (view_of object self.old) (view_of object self.new) (HasMoreThan object) object
@@ -544,7 +546,7 @@ impl<M: SeqObject> Frontier<M> {
         Ok(step)
     }
 
-    // The first half of `fail`: the rows that are left are put into the room, and take the others' place at `commit`.
+    // The first half of `fail`: puts the remaining rows into the room. `commit` replaces the rows by them.
     #[inline(never)]
     fn prepare_fail(&mut self, id: u32) -> Result<Step, AllocError>
         ensures { let object = of_table M.State M.start_state M.apply_to in
@@ -644,7 +646,7 @@ impl<M: SeqObject> Frontier<M> {
             tried: self.tried,
             table,
             spare: None,
-            room: Room::new(self.alloc),
+            room: Workspace::new(self.alloc),
             products,
             next: Change::Nothing,
             coming: None,

@@ -4,7 +4,7 @@ ghost use Rattle.products.specs.Products.{rows_in};
 
 use ends::{PendingOp, Table};
 use models::Name;
-use product_ends::Room;
+use product_ends::Workspace;
 use products::Products;
 use std::alloc::{AllocError, Global};
 use std::hash::Hash;
@@ -15,10 +15,10 @@ const FEW_ROWS: usize = 8;
 // More rows than these stay rows too, since a row is found by an index and a product is not.
 const MOST_ROWS: usize = 32;
 
-// As few products as these stay products, however few rows they stand for.
+// Up to this number of products stay products, for any number of rows.
 const FEW_PRODUCTS: usize = 32;
 
-// More products than these become rows, and so do more than [`FEW_PRODUCTS`] that stand for fewer than four rows each.
+// More products than this number become rows. So do more than [`FEW_PRODUCTS`] products with fewer than four rows each on average.
 const MOST_PRODUCTS: usize = 128;
 
 // If this number of calls were not tried yet and one more gets its place, these four may lead from few ends to many.
@@ -29,12 +29,11 @@ const FEW_FOUND: usize = 24;
 
 const FEW_STATES: usize = 64;
 
-/// The products, memory that events work in, and how many things found and states there may be before the products get new
-/// numbers.
+/// The products, the memory in which events work, and the numbers of answers and of states above which the products get new numbers.
 #[derive(Drop)]
 pub struct ProductForm<S> {
     pub kept: Products,
-    pub room: Room<S>,
+    pub room: Workspace<S>,
     pub most_found: usize,
     pub most_states: usize,
 }
@@ -45,7 +44,7 @@ pub fn of_kept<S: Drop>(alloc: Global, kept: Products) -> Result<Box<ProductForm
 {
     let products = ProductForm {
         kept,
-        room: Room::new(alloc),
+        room: Workspace::new(alloc),
         most_found: FEW_FOUND,
         most_states: FEW_STATES,
     };
@@ -64,8 +63,8 @@ pub fn is_crowded<S: Hash + Drop>(products: &ProductForm<S>, table: &Table<S>) -
     table.founds.len() > products.most_found || table.states.len() > products.most_states
 }
 
-/// How many answers and how many states there may be before products with the numbers of this table get new ones. It is twice as many as it
-/// has, and no fewer than 24 and 64. Takes constant time.
+/// The numbers of answers and of states above which products with the numbers of this table get new ones. They are twice the numbers of the
+/// table, and at least 24 and 64. Takes constant time.
 pub fn to_come<S: Hash + Drop>(table: &Table<S>) -> (usize, usize) {
     (
         table.founds.len().saturating_mul(2).max(FEW_FOUND),

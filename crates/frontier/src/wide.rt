@@ -1,6 +1,6 @@
 //! Events of wide kinds, in functions of their own, so that the code for the plain kinds stays so short that it is laid into its callers.
-ghost use Rattle.models.specs.Objects.{object_of};
-ghost use Rattle.models.specs.declared.model_kind.ModelKind.TheVariants.{WideRegister as OfWideRegister, WideCasRegister as OfWideCasRegister, WideSet as OfWideSet, WideFifoQueue as OfWideFifoQueue, WideUnorderedQueue as OfWideUnorderedQueue};
+ghost use Rattle.kinds.specs.Kinds.{object_of};
+ghost use Rattle.kinds.specs.declared.model_kind.ModelKind.TheVariants.{WideRegister as OfWideRegister, WideCasRegister as OfWideCasRegister, WideSet as OfWideSet, WideFifoQueue as OfWideFifoQueue, WideUnorderedQueue as OfWideUnorderedQueue};
 ghost use Rattle.linspec.specs.Counts.{CountsMoreThan};
 ghost use Rattle.judging.specs.Meaning.{Observes, Prepares, mark_by};
 ghost use Rattle.wide_register.specs.Views.{view_of as wide_register_view_of};

@@ -1,4 +1,4 @@
-//! The search for an item. It changes no generator, and says along which path the item lies.
+//! The search for an item. It changes no generator, and returns the path to the item.
 ghost use Rattle.std.specs.Prelude.{◌≡◌, ℕ, Bool, List, IfOk, OnErr, length};
 ghost use Rattle.generators.specs.Generators.{Generator, Generators, generator_of, generators_of, ops, mix, each_thread};
 ghost use Rattle.generators.specs.Draws.{Draws, DrawsInTurn, ask_of, is_for, all_idle};

@@ -5,15 +5,15 @@ ghost use Rattle.generators.specs.declared.item.Drawn.{Drawn};
 ghost use Rattle.generators.specs.Generators.{Generator, AllItems};
 ghost use Rattle.generators.specs.Draws.{Ask, Draws, DrawOutcome, gives, is_for, MayAnswer, AreVain};
 
-/// An ask comes to one outcome at most, which the generator, the asker, the idle threads and the random words determine.
-/// The law [`one_run`] rests on it, and so does `one_step` of `machine`.
+/// An ask has at most one outcome, which the generator, the asker, the idle threads and the random words determine. The laws [`one_run`]
+/// and `one_step` of `machine` depend on it.
 pub fn one_outcome()
     ensures { (words : ℕ → ℕ) (ask : Ask) (g : Generator) (p : ℕ)
         (o u : DrawOutcome Generator)
         → Draws words ask g p o → Draws words ask g p u → o ≡ u }
 {}
 
-/// Each ask comes to an outcome, and by [`one_outcome`] to just one. No call rests on it.
+/// Each ask has an outcome, and by [`one_outcome`] exactly one. No call depends on this law.
 pub fn some_outcome()
     ensures { (words : ℕ → ℕ) (ask : Ask) (g : Generator) (p : ℕ)
         → (o : DrawOutcome Generator) × Draws words ask g p o }

@@ -2,8 +2,8 @@
 //!
 //! A generator is a tree of forms ([`Gen`]): items in turn, a mix, a limit, one after another, phases, one for each thread. A draw looks
 //! for the next item without a change, by the random words of a seed, and keeps the path to it. When the item is carried out, the generator
-//! moves along that path, and the stream past the words. So a draw that comes to nothing leaves no trace, and the same seed gives the same
-//! run.
+//! moves along that path, and the stream moves past the words that were used. So a draw without an item changes nothing, and the same seed
+//! gives the same run.
 //!
 //! A call allocates only if its result can be `AllocError`, or a refusal because memory ran out.
 #![tactic(auto)]

@@ -16,8 +16,8 @@ pub enum SearchResult {
 }
 
 impl SearchResult {
-    /// The answer of a child at a place as that of the generator above it. If the child declines, an item may come later also where
-    /// `others` says so. Only the path to an item needs memory.
+    /// The answer of the child at `place` as the answer of the generator above it. If the child declines, an item may come later if
+    /// `others` is true. Only the path to an item needs memory.
     pub fn under(self, place: usize, others: bool) -> Result<SearchResult, AllocError>
         ensures answer { IfOk result (λ answer. answer ≡ under place others self) }
         ensures item { OnErr result (IsItem self) }

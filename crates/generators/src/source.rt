@@ -85,13 +85,13 @@ impl Source {
         self.words.place()
     }
 
-    /// Draws for the asker, where `idle` says for each thread whether it has no open operation. Only an item changes the
-    /// generator and its place in the stream.
+    /// Draws for the asker. `idle` says for each thread whether it has no open operation. Only an item changes the generator and its place
+    /// in the stream.
     ///
     /// # Errors
     /// `AllocError` if there is an item, and no memory for it and the path to it; then all is as it was.
     ///
-    /// The time is that of the generators that are asked, of the children that are over on the way, and of the item.
+    /// Costs O(generators that are asked + children on the way that are over + size of the item).
     pub fn draw(&mut self, idle: &[bool], asker: Asker) -> Result<Drawn, AllocError>
         ensures answer { IfOk result (λ drawn.
             MayDraw (word self.old.seed) (ask_of asker idle.now) self.old.generator self.old.place
@@ -135,8 +135,8 @@ impl Source {
         }
     }
 
-    /// Brings what is prepared, if a draw is. Takes no memory and cannot fail. Costs O(length of the path to the item), and the children at its forms
-    /// that are dropped or move up.
+    /// Brings what is prepared, if a draw is. Takes no memory and cannot fail. Costs O(length of the path to the item), and the children at
+    /// its forms that are dropped or move up.
     pub fn commit(&mut self)
         ensures { self.new ≡ committed self.old }
     {

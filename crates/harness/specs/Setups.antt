@@ -6,7 +6,7 @@ use Rattle.history.specs.WellFormed.{IsConcurrency}
 use Rattle.generators.specs.Generators.{generator_of, AllItems, Each}
 use Rattle.test_store.specs.Store.{IsCount}
 use Rattle.linspec.specs.JudgedHistory.{IsBudget}
-use Rattle.models.specs.declared.model_kind.ModelKind.{ModelKind}
+use Rattle.kinds.specs.declared.model_kind.ModelKind.{ModelKind}
 use Rattle.machine.specs.Machine.{Setup}
 use Rattle.test_store.specs.declared.outcome.Mode.TheVariants.{Strict}
 use Rattle.generators.specs.Generators.{ops}

@@ -13,9 +13,9 @@ pub(crate) enum Change {
     Judged,
     /// A cut of the history at this length.
     Rewind(u32),
-    /// An invocation, and its ticket. It is large, so it stands apart.
+    /// An invocation, and its ticket. The ticket is large, so it is in a box.
     Draw(Box<Ticket>),
-    /// The serve of the ticket with this number, and what it comes to, which stands apart too.
+    /// The serve of the ticket with this number, and its outcome, which is in a box too.
     Serve(usize, Box<Outcome>),
     /// The fault that is due.
     StrikeDue,

@@ -6,7 +6,7 @@ use crate::fitness::{Test, all_items_pass, all_scheduled_pass};
 use edn::Refusal;
 use events::MOST_REPLICAS;
 use generators::{Cycle, Gen};
-use models::ModelKind;
+use kinds::ModelKind;
 use monitor::MOST_ENDS;
 use nemesis::Schedule;
 use processes::MOST_THREADS;
@@ -28,7 +28,7 @@ pub struct Config {
     pub mode: Mode,
     /// The items for clients and the nemesis.
     pub generator: Gen,
-    /// Which faults strike, whatever the generator says.
+    /// The faults that strike in addition to the generator's.
     pub schedule: Schedule,
     /// The seed of the generator's random words.
     pub seed: u64,
@@ -37,7 +37,7 @@ pub struct Config {
 impl Config {
     /// The configuration of an object that only judges a history of others: no operation to draw and no fault to come, one replica, strict,
     /// and seed 0. The numbers are not tested here.
-    pub fn to_judge(alloc: Global, concurrency: u32, kind: ModelKind, budget: u32) -> Config
+    pub fn judging_only(alloc: Global, concurrency: u32, kind: ModelKind, budget: u32) -> Config
         ensures { setup_of result ≡ judging concurrency kind budget }
     {
         Config {

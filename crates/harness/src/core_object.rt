@@ -18,9 +18,10 @@ use crate::tickets::{make_stale, note_outcome};
 use edn::Refusal;
 use events::Event;
 use generators::Source;
+use kinds::ModelKind;
 use linspec::Verdict;
 use machine::{Command, Reply, Ticket, no_false_alarm};
-use models::{Key, ModelKind};
+use models::Key;
 use monitor::Monitor;
 use nemesis::Schedule;
 use std::alloc::Global;
@@ -31,8 +32,8 @@ use test_store::Store;
 /// of faults. It also has a replicated store in the process, and a ticket for each operation that was drawn.
 /// Linearizability is that of Herlihy and Wing (1990).
 ///
-/// Each command is prepared, which may fail and changes nothing but the prepared change, and then committed; [`step`](Core::step) does both
-/// in one call.
+/// Each command is prepared and then committed. A prepare may fail, and changes only the prepared change. [`step`](Core::step) does both in
+/// one call.
 pub struct Core {
     pub(crate) alloc: Global,
     pub(crate) monitor: Monitor,
@@ -107,16 +108,15 @@ impl Core {
         })
     }
 
-    /// Prepares a command, and gives its reply and the verdict that [`commit`](Core::commit) will bring. The machine stays
-    /// as it is. The next `prepare` or `step` drops what is prepared.
+    /// Prepares a command, and returns its reply and the verdict after [`commit`](Core::commit). The machine stays as it is. The next
+    /// `prepare` or `step` drops what is prepared.
     ///
-    /// It costs what the change costs the [`Monitor`]: an append for an event, a draw, a finish and a fault. A draw and a
-    /// fault take besides the time of [`Source::prepare`](generators::Source::prepare), a serve that of
-    /// [`Store::prepare_serve`](test_store::Store::prepare_serve), a fault that of
-    /// [`Store::prepare_fault`](test_store::Store::prepare_fault). The verdict takes constant time.
+    /// Costs what the change costs the [`Monitor`], which is an append for an event, a draw, a finish and a fault. A draw and a fault also
+    /// cost a [`Source::prepare`](generators::Source::prepare), a serve a [`Store::prepare_serve`](test_store::Store::prepare_serve), and a
+    /// fault a [`Store::prepare_fault`](test_store::Store::prepare_fault). The verdict takes constant time.
     ///
     /// # Errors
-    /// The first test that the command does not pass, in the order that stands with each. An event: those of
+    /// The first test that the command does not pass, in this order. An event: those of
     /// [`History::prepare_push`](history::History::prepare_push). A rewind: [`Refusal::NoSuchIndex`] if there are fewer events. A budget:
     /// [`Refusal::BadBudget`] if it is not 1 to 65,536. A draw: [`Refusal::WrongProcess`] if there is no such thread, [`Refusal::Busy`] if
     /// it has an operation open, and [`Refusal::HistoryFull`] if there are 2^20 events. Also [`Refusal::TapeFull`] if there are 2^32 - 1
@@ -187,8 +187,8 @@ impl Core {
         }
     }
 
-    /// Carries out a command, and gives its reply, as [`prepare`](Core::prepare) and [`commit`](Core::commit) do, in the time
-    /// of both. An event goes to [`Monitor::append`], so that only the monitor notes what it prepares.
+    /// Carries out a command, and returns its reply, as [`prepare`](Core::prepare) and [`commit`](Core::commit) do, at the cost of both. An
+    /// event is given to [`Monitor::append`], so that only the monitor notes the prepared change.
     ///
     /// # Errors
     /// Those of [`prepare`](Core::prepare); the machine then stays as it was.
@@ -217,14 +217,14 @@ impl Core {
         }
     }
 
-    /// The verdict on the history as it stands. Takes constant time.
+    /// The verdict on the present history. Takes constant time.
     pub fn verdict(&self) -> Verdict
         ensures { IsVerdictOn self.now.machine.judged result }
     {
         self.monitor.verdict()
     }
 
-    /// The monitor as it stands: its history, and its keys by first event.
+    /// The monitor: its history, and its keys by first event.
     pub fn monitor(&self) -> &Monitor
         ensures { result.now.now ≡ self.now.machine.judged }
     {

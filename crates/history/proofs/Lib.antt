@@ -3,9 +3,9 @@ pub mod ProcessRule
 pub mod Keeping
 pub mod Carrying
 pub mod Kept
-pub mod Fronts
+pub mod Prefixes
 pub mod Behind
 pub mod OpenOperations
 pub mod Refusing
 pub mod OneRefusal
-pub mod KeyFronts
+pub mod KeyPrefixes

@@ -51,8 +51,8 @@ impl Clients {
         Ok(clients)
     }
 
-    /// After an event of this index the thread of its process moves on. If its process may not do so, nothing is said. Takes
-    /// constant time.
+    /// Moves the thread of the process after its event with this index. No clause says anything if the process may not have this event.
+    /// Takes constant time.
     pub fn move_on(&mut self, index: u32, kind: EventKind, process: Process)
         requires some { 0 < length self.old.opened.items }
         requires next { HasNext process }

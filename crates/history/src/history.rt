@@ -31,7 +31,7 @@ pub struct History {
     concurrency: u32,
     /// So many events are committed.
     count: u32,
-    /// Those that are committed, and behind them the one that is prepared, if one is.
+    /// The committed events, and then the prepared one, if there is one.
     events: Vec<Event>,
     clients: Clients,
     prepared: Prepared,
@@ -41,9 +41,9 @@ pub struct History {
 #[derive(Drop)]
 enum Prepared {
     Nothing,
-    /// The event that stands behind those that are committed.
+    /// The event behind the committed ones.
     Push,
-    /// The first n events alone, with their clients. It is rare, so these stand apart.
+    /// The first n events alone, with their clients. This case is rare, so the clients are in a box.
     Cut(u32, Box<Clients>),
 }
 

@@ -25,7 +25,7 @@ pub fn refusals_in_order()
     ensures completes { IsWellFormed 2 open_write (event 0 Ok (write 3)) }
 {}
 
-/// Events each of which is well-formed after those before it follow the process rule, as far as operations go.
+/// If each event is well-formed after the events before it, the events of operations follow the process rule.
 pub fn process_rule_law()
     ensures { (c : ℕ) (events : List Event) →
         IsHistoryOf c events → IsHistory (indexed_from 0 events) }

@@ -1,5 +1,5 @@
 //! Worked histories, with the answers that the rule gives.
-use crate::histories::Deed::{Cut, CutInHalves, PreparePush, Push, PushInHalves};
+use crate::histories::Action::{Cut, CutInHalves, PreparePush, Push, PushInHalves};
 use edn::Refusal::{BadConcurrency, BadValue, Mismatch, NoSuchIndex, NotOpen, WrongProcess};
 use edn::{Edn, Refusal, read_all};
 use edn_writer::{in_profile, write};
@@ -104,7 +104,7 @@ fn seen(history: &History) -> Seen {
 // A change of a history: an event of a write, by its process and value, or a cut. It is made in one call, in its first half alone, or in
 // two halves if the history is read between them.
 #[derive(Clone, Copy)]
-enum Deed {
+enum Action {
     Push(EventKind, u32, i64),
     PreparePush(EventKind, u32, i64),
     PushInHalves(EventKind, u32, i64, Seen),
@@ -131,8 +131,8 @@ fn cut_in_halves(history: &mut History, len: u32, between: Seen) -> Result<(), R
 }
 
 // Makes the change, and returns the answer.
-fn answer(history: &mut History, deed: Deed) -> Result<(), Refusal> {
-    match deed {
+fn answer(history: &mut History, action: Action) -> Result<(), Refusal> {
+    match action {
         Push(kind, process, value) => history.push(written(kind, process, value)),
         PreparePush(kind, process, value) => history.prepare_push(written(kind, process, value)),
         PushInHalves(kind, process, value, between) => {
@@ -144,13 +144,13 @@ fn answer(history: &mut History, deed: Deed) -> Result<(), Refusal> {
 }
 
 // The change, its answer, and the visible state then.
-type Row = (Deed, Result<(), Refusal>, Seen);
+type Row = (Action, Result<(), Refusal>, Seen);
 
 // The place of the first row that is answered or seen otherwise, in a new history.
 fn first_other(alloc: Global, concurrency: u32, rows: &[Row]) -> Result<Option<usize>, Refusal> {
     let mut history = History::new(alloc, concurrency)?;
-    for (place, (deed, want, then)) in rows.iter().enumerate() {
-        if answer(&mut history, *deed) != *want || seen(&history) != *then {
+    for (place, (action, want, then)) in rows.iter().enumerate() {
+        if answer(&mut history, *action) != *want || seen(&history) != *then {
             return Ok(Some(place));
         }
     }

@@ -1,7 +1,6 @@
 //! The outcomes of a dequeue without an order; and copies, comparisons and names.
-use models::{
-    Answer, FifoQueue, Found, ModelKind, Name, Op, Part, SeqObject, UnorderedQueue, fits,
-};
+use kinds::ModelKind;
+use models::{Answer, FifoQueue, Found, Name, Op, Part, SeqObject, UnorderedQueue, fits};
 use std::alloc::{AllocError, Global};
 use values::{Items, Members, Multiset, Spans};
 

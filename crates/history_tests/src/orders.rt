@@ -2,16 +2,16 @@
 use edn::{Refusal, read_all};
 use events::from_edn;
 use history::History;
-use models::ModelKind;
-use models::ModelKind::{CasRegister, FifoQueue, Mutex, Register, Set, UnorderedQueue};
+use kinds::ModelKind;
+use kinds::ModelKind::{CasRegister, FifoQueue, Mutex, Register, Set, UnorderedQueue};
 use std::alloc::{AllocError, Global};
-use witness::Misfit::{
+use witness::MismatchReason::{
     AnotherAnswer, CannotTakePlace, Failed, LeftOut, NoEvent, NoInvocation, TooLate, Twice,
 };
-use witness::{Confirmation, Misfit, Unfit, confirm};
+use witness::{Confirmation, Mismatch, MismatchReason, confirm};
 
 // An order, and what does not fit first: the place, the event there, and why.
-type Row = (&'static [u32], Option<(usize, usize, Misfit)>);
+type Row = (&'static [u32], Option<(usize, usize, MismatchReason)>);
 
 // A write that is open, and a read of its value.
 const OPEN_WRITE: &str = "
@@ -154,7 +154,7 @@ fn history_of(alloc: Global, text: &str) -> Result<History, Refusal> {
 fn said_by(row: Row) -> Confirmation {
     match row.1 {
         None => Confirmation::Linearizable,
-        Some((place, event, why)) => Confirmation::NoOrder(Unfit { place, event, why }),
+        Some((place, event, why)) => Confirmation::NoOrder(Mismatch { place, event, why }),
     }
 }
 

@@ -5,7 +5,7 @@ use Rattle.std.specs.declared.vec.IntoIter.{IntoIter}
 use Rattle.std.specs.declared.io.Error.{Error}
 use Rattle.edn.specs.declared.refusal.Refusal.{Refusal}
 use Rattle.edn.specs.declared.refusal.Refusal.TheVariants.{ReadFailed, WriteFailed}
-use Rattle.models.specs.declared.model_kind.ModelKind.{ModelKind}
+use Rattle.kinds.specs.declared.model_kind.ModelKind.{ModelKind}
 use Rattle.linspec.specs.declared.verdict.Verdict.{Verdict}
 use Rattle.test_store.specs.declared.outcome.Mode.TheVariants.{Strict}
 use Rattle.machine.specs.Machine.{Setup}
@@ -13,11 +13,11 @@ use Rattle.harness.specs.Setups.{IsSetup, MayNotOpen, setup_of}
 use Rattle.line_loop.specs.Logs.{Logged}
 use Rattle.line_loop.specs.Live.{IsLive}
 use Rattle.line_loop.specs.Stopping.{Finishes, KeepsUp, MayStop, Stops}
-use Rattle.scripts.specs.Reply.{Script, MayReply, Shows, script}
-use Rattle.checks.specs.ExitStatus.{status_of}
-use Rattle.checks.specs.Checks.{Checks, ChecksFile, IsPut}
-use Rattle.confirms.specs.Confirms.{ConfirmsFiles, ConfirmsInput}
-use Rattle.runs.specs.RunText.{MaySay}
+use Rattle.script_command.specs.Reply.{Script, MayReply, Shows, script}
+use Rattle.check_command.specs.ExitStatus.{status_of}
+use Rattle.check_command.specs.Checks.{Checks, ChecksFile, IsPut}
+use Rattle.confirm_command.specs.Confirms.{ConfirmsFiles, ConfirmsInput}
+use Rattle.run_command.specs.RunText.{MaySay}
 use Rattle.command_line.specs.Stops.{EndsWithoutOrder}
 use Rattle.command_line.specs.Words.{IsOrderGiven}
 use Rattle.command_line.specs.declared.order.Order.{Order}

@@ -7,9 +7,9 @@
 mod orders;
 mod run_line;
 
-use checks::SeenFile;
+use check_command::SeenFile;
 use line_loop::Watched;
-use onlookers::OnStandardError;
+use observers::OnStandardError;
 use orders::{INPUT, ended};
 use std::alloc::Global;
 use std::env;
@@ -23,7 +23,7 @@ fn main(rt: HostRuntime) -> ExitCode {
     let mut reader = SeenFile {
         file: Watched::new(rt.stdin()),
         path: INPUT,
-        onlooker: &aside,
+        observer: &aside,
     };
     let mut writer = Watched::new(rt.stdout());
     ended(

@@ -6,15 +6,15 @@ ghost use Rattle.command_line.specs.Orders.{IsWithinLimits};
 ghost use Rattle.jepmon.specs.Ends.{EndsAs, EndsByWords, IsARun, IsCarriedOut, IsCheck, IsConfirmation, IsScript};
 
 use crate::run_line::RunLine;
-use checks::{Opens, SeenFile, check_file, check_text};
+use check_command::{Opens, SeenFile, check_file, check_text};
 use command_line::{Order, Stop, TYPED, order_given, say_unwritten, status_after, status_of_stop};
-use confirms::{confirm_file, confirm_input};
+use confirm_command::{confirm_file, confirm_input};
 use harness::Config;
-use line_loop::{Failed, Flushes, ReadsBeside};
-use models::ModelKind;
-use onlookers::OnStandardError;
-use runs::run_store;
-use scripts::run_script;
+use kinds::ModelKind;
+use line_loop::{Failed, Flushes, ReadsWithWriter};
+use observers::OnStandardError;
+use run_command::run_store;
+use script_command::run_script;
 use std::alloc::Global;
 use std::env::Args;
 use std::io::{self, Eprint, IsTerminal, Read, Write};
@@ -34,7 +34,7 @@ fn greet<R: Eprint>(rt: &R, is_terminal: bool) {
 }
 
 /// Answers the lines of the reader. Says how to go on, if somebody at a terminal has to type them.
-pub fn script<'a, X: Wait + Clock + Eprint, R: ReadsBeside<W>, W: Write + Failed + Flushes>(
+pub fn script<'a, X: Wait + Clock + Eprint, R: ReadsWithWriter<W>, W: Write + Failed + Flushes>(
     rt: &X,
     alloc: Global,
     config: Config,
@@ -204,7 +204,7 @@ pub fn ended<
     'b,
     X: Wait + Threads + Opens + Sync + Clock + Eprint,
     T: IsTerminal,
-    R: ReadsBeside<W>,
+    R: ReadsWithWriter<W>,
     W: Write + Failed + Flushes,
 >(
     rt: &X,
@@ -244,7 +244,7 @@ fn status_given<
     'b,
     X: Wait + Threads + Opens + Sync + Clock + Eprint,
     T: IsTerminal,
-    R: ReadsBeside<W>,
+    R: ReadsWithWriter<W>,
     W: Write + Failed + Flushes,
 >(
     rt: &X,
@@ -286,7 +286,7 @@ fn carried_out<
     'b,
     X: Wait + Threads + Opens + Sync + Clock + Eprint,
     T: IsTerminal,
-    R: ReadsBeside<W>,
+    R: ReadsWithWriter<W>,
     W: Write + Failed + Flushes,
 >(
     rt: &X,

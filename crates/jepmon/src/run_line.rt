@@ -2,7 +2,7 @@
 
 use clients::Watch;
 use linspec::Verdict;
-use onlookers::MovingLine;
+use observers::MovingLine;
 use std::io::Eprint;
 use std::rt::Clock;
 

@@ -1,9 +1,9 @@
 //! Histories of queues.
-use crate::judge_rows::Said::{Nil, One};
+use crate::judge_rows::Answer::{Nil, One};
 use crate::judge_rows::{Case, Row, assert_steps};
 use events::EventKind::{Fail as Failed, Info as Crashed, Invoke, Ok as Done};
 use frontier::Step::{Alive, Dead, Over};
-use models::ModelKind;
+use kinds::ModelKind;
 use models::Name::{Dequeue, Enqueue, Read};
 
 const KIND: ModelKind = ModelKind::WideFifoQueue;

@@ -1,14 +1,15 @@
 //! Histories of one key as rows, and the answers of its judge to them.
 use events::EventKind;
 use frontier::{AnyFrontier, Step};
-use models::{ModelKind, Name, Op, Part};
+use kinds::ModelKind;
+use models::{Name, Op, Part};
 use std::alloc::{AllocError, Global};
 use std::process::Abort;
 use values::Members;
 
 /// The value of an event: nothing, an integer, two, or the members of a set.
 #[derive(Clone, Copy)]
-pub enum Said {
+pub enum Answer {
     Nil,
     One(i64),
     Two(i64, i64),
@@ -16,17 +17,17 @@ pub enum Said {
 }
 
 /// An event of the operation with this id, and the answer of the judge.
-pub type Row = (u32, EventKind, Name, Said, Step);
+pub type Row = (u32, EventKind, Name, Answer, Step);
 
 /// The budget of a judge, a history, and the steps that it takes. None if the judge has another answer to one of the rows.
 pub type Case = (u32, &'static [Row], Option<u64>);
 
-fn part_of(alloc: Global, said: Said) -> Result<Part, AllocError> {
+fn part_of(alloc: Global, said: Answer) -> Result<Part, AllocError> {
     Ok(match said {
-        Said::Nil => Part::Nil,
-        Said::One(value) => Part::Int(value),
-        Said::Two(old, new) => Part::Pair(old, new),
-        Said::All(values) => Part::Set(Members::of_unordered(Vec::from_slice(alloc, values)?)?),
+        Answer::Nil => Part::Nil,
+        Answer::One(value) => Part::Int(value),
+        Answer::Two(old, new) => Part::Pair(old, new),
+        Answer::All(values) => Part::Set(Members::of_unordered(Vec::from_slice(alloc, values)?)?),
     })
 }
 

@@ -1,9 +1,9 @@
 //! Histories of registers that are judged by lean ends.
-use crate::judge_rows::Said::{Nil, One, Two};
+use crate::judge_rows::Answer::{Nil, One, Two};
 use crate::judge_rows::{Case, Row, assert_steps, steps_of};
 use events::EventKind::{Fail as Failed, Info as Crashed, Invoke, Ok as Done};
 use frontier::Step::{Alive, Dead, Over};
-use models::ModelKind;
+use kinds::ModelKind;
 use models::Name::{Cas, Read, Write};
 use std::alloc::{AllocError, Global};
 use wide_register::WideRegister;

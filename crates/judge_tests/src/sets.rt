@@ -1,9 +1,9 @@
 //! Histories of sets.
-use crate::judge_rows::Said::{All, Nil, One};
+use crate::judge_rows::Answer::{All, Nil, One};
 use crate::judge_rows::{Case, Row, assert_steps};
 use events::EventKind::{Fail as Failed, Info as Crashed, Invoke, Ok as Done};
 use frontier::Step::{Alive, Dead};
-use models::ModelKind;
+use kinds::ModelKind;
 use models::Name::{Add, Read, Write};
 
 const KIND: ModelKind = ModelKind::WideSet;

@@ -1,5 +1,5 @@
-//! The promises of each judge of one key's history, whatever it counts. They are the answer to an event, and the definitions of the effect
-//! of an event on the histories that the judge stands for.
+//! The promises of every judge of one key's history, for every count. They are the answer to an event, and its effect on the histories that
+//! the judge represents.
 #![tactic(auto)]
 
 pub mod step;

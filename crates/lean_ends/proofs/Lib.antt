@@ -13,4 +13,4 @@ pub mod Stands
 pub mod Kept
 pub mod Sound
 pub mod Left
-pub mod BadFronts
+pub mod BadPrefixes

@@ -2,10 +2,10 @@
 ghost use Rattle.std.specs.Prelude.{◌≡◌, ◌↔◌, ℕ, List, ◌∷◌, ◌++◌, [], length};
 ghost use Rattle.std.specs.List.{Contains};
 ghost use Rattle.models.specs.Objects.{register};
-ghost use Rattle.events.specs.Events.{Mark, Entry, marks, IsFront};
+ghost use Rattle.events.specs.Events.{Mark, Entry, marks, IsPrefixOf};
 ghost use Rattle.linspec.specs.MarkRule.{AreWellFormed};
 ghost use Rattle.linspec.specs.Orders.{IsLinearizable};
-ghost use Rattle.linspec.specs.Verdicts.{EndsShortestBadFront};
+ghost use Rattle.linspec.specs.Verdicts.{EndsShortestBadPrefix};
 ghost use Rattle.linspec.specs.LeanEnds.{LeanEnd, IsLeanEnd, AreLeanEnds, HasMoreLeanEnds};
 
 /// A history of a register is linearizable exactly if it has a lean end. Nothing is lost if ends that are at most another one are left out at
@@ -27,8 +27,8 @@ pub fn count_law()
 /// The history of a register becomes illegal at the event that leaves none of its lean ends.
 pub fn illegal_at_law()
     ensures { (entries : List Entry) (last : Entry) → AreWellFormed (marks entries)
-        → EndsShortestBadFront register entries last
-        ↔ ((before : List Entry) × IsFront (before ++ last ∷ []) entries
+        → EndsShortestBadPrefix register entries last
+        ↔ ((before : List Entry) × IsPrefixOf (before ++ last ∷ []) entries
         × ((e : LeanEnd) × IsLeanEnd (marks before) e)
         × (¬ ((e : LeanEnd) × IsLeanEnd (marks (before ++ last ∷ [])) e))) }
 {}

@@ -4,9 +4,9 @@ ghost use Rattle.line_loop.specs.Live.{IsLive};
 ghost use Rattle.line_loop.specs.Stopping.{MayStop, Finishes, Stops, KeepsUp};
 
 use crate::line_machine::LineMachine;
-use crate::reading::{Brought, PIECE, read_beside};
+use crate::reading::{Brought, PIECE, read_with_writer};
 use crate::session::Session;
-use crate::watched::{Failed, Flushes, ReadsBeside};
+use crate::watched::{Failed, Flushes, ReadsWithWriter};
 use crate::writing::flush_all;
 use edn::Refusal;
 use std::alloc::Global;
@@ -16,16 +16,16 @@ use std::sync::Wait;
 /// Reads lines, has the machine answer each, and writes and flushes the replies to the lines of one read before the next. At the
 /// reader's end, or once the machine is closed, it gives the machine's verdict.
 ///
-/// A last line without a line feed counts if it has a byte. If a line has more than 65,536 bytes, its line feed not counted, the machine
-/// learns that there was one, and does not see it. Once the machine is closed nothing is read; it still gets the lines that were read with
-/// the one that closed it. Beside the machine it holds a piece of 8,192 bytes, one line, and the replies to the lines that end in one
-/// piece. It costs O(bytes), and the machine's answers.
+/// A last line without a line feed counts if it has a byte. If a line has more than 65,536 bytes without its line feed, the machine gets a
+/// call for a long line, and not the line. Once the machine is closed nothing is read. The machine still gets the lines that were read
+/// together with the line that closed it. In addition to the machine's memory, the loop holds a piece of 8,192 bytes, one line, and the
+/// replies to the lines that end in one piece. It costs O(bytes), and the machine's answers.
 ///
 /// # Errors
 ///
 /// `ReadFailed` and `WriteFailed` if the reader or the writer has failed, and else `NoMemory` if memory is refused. The
-/// writer has then taken a beginning of the replies.
-pub fn answer_lines<X: Wait, M: LineMachine, R: ReadsBeside<W>, W: Write + Failed + Flushes>(
+/// writer has then taken a prefix of the replies.
+pub fn answer_lines<X: Wait, M: LineMachine, R: ReadsWithWriter<W>, W: Write + Failed + Flushes>(
     rt: &X,
     alloc: Global,
     machine: M,
@@ -71,7 +71,7 @@ pub fn answer_lines<X: Wait, M: LineMachine, R: ReadsBeside<W>, W: Write + Faile
         if session.closed() {
             return Ok(session.verdict());
         }
-        match read_beside(reader, writer, &mut piece[..])? {
+        match read_with_writer(reader, writer, &mut piece[..])? {
             Brought::Piece(n) => session.take_piece(rt, writer, &piece[..n])?,
             Brought::End => {
                 session.finish(rt, writer)?;

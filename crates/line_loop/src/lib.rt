@@ -21,5 +21,5 @@ pub use line_machine::LineMachine;
 pub use reading::read_whole;
 pub use refusal_line::{append_refusal, place_text, refusal_text};
 pub use session::LINE_LIMIT;
-pub use watched::{Failed, Flushes, ReadsBeside, Watched};
+pub use watched::{Failed, Flushes, ReadsWithWriter, Watched};
 pub use writing::{flush_all, write_text};

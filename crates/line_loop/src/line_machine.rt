@@ -47,7 +47,7 @@ pub trait LineMachine: Drop {
     fn closed(&self) -> bool
         ensures { result ≡ is_closed (state self.now) };
 
-    /// The verdict on the state as it stands.
+    /// The verdict on the present state.
     fn verdict(&self) -> Self::Verdict
         ensures { shows (state self.now) result };
 }

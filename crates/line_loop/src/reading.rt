@@ -4,7 +4,7 @@ ghost use Rattle.std.specs.Io.KnownBytes.{Consumes, IsAtEnd};
 ghost use Rattle.line_loop.specs.Logs.{KeepsRead};
 ghost use Rattle.line_loop.specs.Stopping.{MayStopReading};
 
-use crate::watched::{Failed, Flushes, ReadsBeside};
+use crate::watched::{Failed, Flushes, ReadsWithWriter};
 use edn::Refusal;
 use std::alloc::Global;
 use std::io::{Read, Write};
@@ -50,7 +50,7 @@ fn read_some<R: Read + Failed>(reader: &mut R, piece: &mut [u8]) -> Result<Broug
 }
 
 /// One read of a reader that has not failed, with a writer in this state. An error after which `failed()` is still false counts as 0 bytes.
-pub(crate) fn read_beside<R: ReadsBeside<W>, W: Write + Flushes>(
+pub(crate) fn read_with_writer<R: ReadsWithWriter<W>, W: Write + Flushes>(
     reader: &mut R,
     writer: &W,
     piece: &mut [u8],
@@ -74,7 +74,7 @@ pub(crate) fn read_beside<R: ReadsBeside<W>, W: Write + Flushes>(
     ensures cause { IfErr result (λ e. (e ≡ Refusal.ReadFailed)
         × (R.has_failed reader.new ≡ true)) }
 {
-    match reader.read_beside(writer, piece) {
+    match reader.read_with_writer(writer, piece) {
         Ok(0) => Ok(Brought::End),
         Ok(n) => Ok(Brought::Piece(n)),
         Err(_) => {

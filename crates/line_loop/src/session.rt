@@ -151,7 +151,7 @@ impl<M: LineMachine> Session<M> {
         Ok(())
     }
 
-    // Answers a line of which nothing is held from where it lies.
+    // Answers a line that is whole in the piece, without a copy. No part of it is held from earlier pieces.
     fn answer_whole(&mut self, line: &[u8]) -> Result<(), Refusal>
         requires line { IsLine line.now }
         requires none { self.old.held ≡ [] }

@@ -32,16 +32,16 @@ pub trait Flushes {
 ///
 /// A clause over its log says that no reply is held back: the log has the writer's bytes at each read. The clause holds for any such
 /// reader, since the reading code knows nothing else of it.
-pub trait ReadsBeside<W: Write + Flushes>: Read + Failed {
+pub trait ReadsWithWriter<W: Write + Flushes>: Read + Failed {
     // The result of each read, in turn, if it is known.
     ghost log: { Self → Option (List Logged) } = { λ _. None };
 
-    /// Reads as [`Read::read`] does, while the writer stands so.
+    /// Reads as [`Read::read`] does. The log gets the state of the writer.
     ///
     /// # Errors
     ///
     /// Those of the reader.
-    fn read_beside(&mut self, writer: &W, buf: &mut [u8]) -> io::Result<usize>
+    fn read_with_writer(&mut self, writer: &W, buf: &mut [u8]) -> io::Result<usize>
         ensures bound { ReadsAtMost result buf.new }
         ensures bytes { ReadConsumes
             (Self.remaining self.old) (Self.remaining self.new) result buf.new }
@@ -139,8 +139,8 @@ impl<R: Read> Read for Watched<R> {
     }
 }
 
-impl<R: Read, W: Write + Flushes> ReadsBeside<W> for Watched<R> {
-    fn read_beside(&mut self, _writer: &W, buf: &mut [u8]) -> io::Result<usize>
+impl<R: Read, W: Write + Flushes> ReadsWithWriter<W> for Watched<R> {
+    fn read_with_writer(&mut self, _writer: &W, buf: &mut [u8]) -> io::Result<usize>
         ensures bound { ReadsAtMost result buf.new }
         ensures bytes { ReadConsumes
             (R.remaining self.old.inner) (R.remaining self.new.inner) result buf.new }

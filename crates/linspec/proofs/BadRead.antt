@@ -6,15 +6,16 @@ use Rattle.models.specs.declared.finding.Found.{Found}
 use Rattle.models.specs.declared.finding.Found.TheVariants.{Reg}
 use Rattle.models.specs.declared.finding.Answer.TheVariants.{Number}
 use Rattle.models.specs.declared.operation.Part.TheVariants.{Nil}
-use Rattle.models.specs.Objects.{object_of, register, Fits}
+use Rattle.models.specs.Objects.{register, Fits}
 use Rattle.models.proofs.Steps.{same_outcome}
-use Rattle.events.specs.Events.{Mark, Entry, of_key, marks, IsFront}
+use Rattle.kinds.specs.Kinds.{object_of}
+use Rattle.events.specs.Events.{Mark, Entry, of_key, marks, IsPrefixOf}
 use Rattle.events.specs.Events.Mark.{Invoked, Returned}
 use Rattle.linspec.specs.Operations.{HasReturned}
 use Rattle.linspec.specs.Orders.{Taken, Run, IsLegalOrder, product}
 use Rattle.linspec.specs.Ends.{End, Leaves, HasMoreThan, IsBlownBy, IsWithinBudget}
 use Rattle.linspec.specs.Counts.{CountsMoreThan}
-use Rattle.linspec.specs.Verdicts.{EndsShortestBadFront, IsVerdict}
+use Rattle.linspec.specs.Verdicts.{EndsShortestBadPrefix, IsVerdict}
 use Rattle.linspec.specs.declared.verdict.Verdict.TheVariants.{Illegal, Unknown}
 use Rattle.linspec.specs.Examples.{read, all_entries, bad_read_beside_blown, queue_at_one}
 use Rattle.linspec.proofs.Lists.{Contains-nil, Contains-head, Contains-cons_cases}
@@ -150,14 +151,14 @@ no_order (x ∷ order) s l =
         (Contains-cons_cases (Invoked 3 (read 2 Nil)) (Returned 3 (Number (pos 3)) ∷ []) _ h)
 
 -- a shorter front has no answer
-none_returned : (front : List Entry) → IsFront front (asks ∷ answers ∷ []) → length front ≤ 1 → (id : ℕ) → ¬ HasReturned (marks front) id
+none_returned : (front : List Entry) → IsPrefixOf front (asks ∷ answers ∷ []) → length front ≤ 1 → (id : ℕ) → ¬ HasReturned (marks front) id
 none_returned [] is le id r = Contains-nil _ r.1
 none_returned (x ∷ []) is le id r =
     let e : x ≡ asks = (let q : x ∷ is.0 ≡ asks ∷ answers ∷ [] = is.1 in cc) in
     ⊎_elim (λ q. (let clash : Invoked 3 (read 2 Nil) ≡ Returned id r.0 = ap (λ (w : Entry). w.mark) (sym e) ∙ q in cc)) (λ n. Contains-nil _ n) (Contains-cons_cases x.mark [] (Returned id r.0) r.1)
 none_returned (x ∷ y ∷ front) is le id r = absurd (omega arith)
 
-bad_front : EndsShortestBadFront (product queue_at_one) (asks ∷ answers ∷ []) answers
+bad_front : EndsShortestBadPrefix (product queue_at_one) (asks ∷ answers ∷ []) answers
 bad_front = record {
   before = asks ∷ [];
   front = ([], refl);

@@ -3,8 +3,8 @@ use Rattle.std.proofs.Common.{◌≡◌, ◌≢◌, ◌↔◌, ℕ, ◌≤◌, p
 use Rattle.std.specs.List.{Contains}
 use Rattle.std.proofs.lemmas.Bool.{cases_eq, eq-eqb, eqb-true, ne_eqb}
 use Rattle.models.specs.declared.finding.Answer.TheVariants.{Number}
-use Rattle.models.specs.declared.model_kind.ModelKind.TheVariants.{FifoQueue}
 use Rattle.models.specs.Objects.{fifo_queue}
+use Rattle.kinds.specs.declared.model_kind.ModelKind.TheVariants.{FifoQueue}
 use Rattle.events.specs.Events.{Entry, of_key}
 use Rattle.events.specs.Events.Mark.{Invoked, Returned}
 use Rattle.linspec.specs.Orders.{product}

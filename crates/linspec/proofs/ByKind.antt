@@ -1,15 +1,16 @@
 -- the count of each kind: the facts for the layers above, kind by kind
 use Rattle.std.proofs.Common.{◌≡◌, ℕ, ◌+◌, List, [], ◌∷◌, length, arith}
 use Rattle.std.specs.List.{Contains}
-use Rattle.models.specs.declared.model_kind.ModelKind.{ModelKind}
-use Rattle.models.specs.declared.model_kind.ModelKind.TheVariants.{Register, CasRegister, Mutex, FifoQueue, Set, UnorderedQueue, WideRegister, WideCasRegister, WideSet, WideFifoQueue, WideUnorderedQueue}
-use Rattle.models.specs.Objects.{Object, object_of}
+use Rattle.models.specs.Objects.{Object}
+use Rattle.kinds.specs.declared.model_kind.ModelKind.{ModelKind}
+use Rattle.kinds.specs.declared.model_kind.ModelKind.TheVariants.{Register, CasRegister, Mutex, FifoQueue, Set, UnorderedQueue, WideRegister, WideCasRegister, WideSet, WideFifoQueue, WideUnorderedQueue}
+use Rattle.kinds.specs.Kinds.{object_of}
 use Rattle.events.specs.Events.{Mark}
 use Rattle.linspec.specs.Orders.{IsLinearizable}
 use Rattle.linspec.specs.Ends.{End, IsEnd, HasMoreThan}
 use Rattle.linspec.specs.Counts.{CountsMoreThan, CountsMoreThanWithReads}
 use Rattle.linspec.proofs.Lists.{Contains-head}
-use Rattle.linspec.proofs.Fronts.{IsLinearizable-end}
+use Rattle.linspec.proofs.Prefixes.{IsLinearizable-end}
 use Rattle.linspec.proofs.CrashedReads.{CountsLess, less_with_reads}
 
 -- a history with an end has a legal order

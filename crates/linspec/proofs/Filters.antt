@@ -2,7 +2,7 @@
 use Rattle.std.proofs.Common.{◌≡◌, ◌⊎◌, inl, inr, ⊎_elim, Bool, true, false, cond, List, [], ◌∷◌, ◌++◌, map, refl, sym, ap, ◌∙◌, subst}
 use Rattle.std.specs.List.{filter, Contains}
 use Rattle.std.proofs.lemmas.Bool.{cases_Bool}
-use Rattle.events.specs.Events.{IsFront}
+use Rattle.events.specs.Events.{IsPrefixOf}
 use Rattle.linspec.specs.Orders.{Pairwise}
 use Rattle.linspec.proofs.Lists.{Contains-nil, Contains-head, Contains-tail, Contains-cons_cases}
 
@@ -126,7 +126,7 @@ map-cut f (x ∷ xs) (b ∷ before) after h =
     (x ∷ r.0, r.1, ap (λ l. x ∷ l) r.2, (λ i. head i ∷ r.3 i), r.4)
 
 -- of two cuts of one list one comes first
-pub two_cuts : {X : Type 0} (a b c d : List X) → a ++ b ≡ c ++ d → IsFront a c ⊎ IsFront c a
+pub two_cuts : {X : Type 0} (a b c d : List X) → a ++ b ≡ c ++ d → IsPrefixOf a c ⊎ IsPrefixOf c a
 two_cuts [] b c d h = inl (c, refl)
 two_cuts (x ∷ a) b [] d h = inr (x ∷ a, refl)
 two_cuts (x ∷ a) b (y ∷ c) d h =

@@ -15,7 +15,7 @@ use Rattle.linspec.specs.MarkRule.{id_of, IsNew, MayFollow, AreWellFormed, IsKey
 use Rattle.linspec.specs.Operations.{IsOpen}
 use Rattle.linspec.specs.Verdicts.{IsRising}
 use Rattle.linspec.proofs.Lists.{Contains-nil, Contains-head, Contains-cons_cases, snoc_cut, Pairwise-append}
-use Rattle.linspec.proofs.Fronts.{marks-append}
+use Rattle.linspec.proofs.Prefixes.{marks-append}
 use Rattle.linspec.proofs.Keyed.{from_marks}
 use Rattle.linspec.proofs.Open.{IsCompletion, stays_open, open_with_new, new_is_open}
 

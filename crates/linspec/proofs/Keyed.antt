@@ -8,7 +8,7 @@ use Rattle.events.specs.Events.Mark.{Invoked, Returned}
 use Rattle.linspec.specs.MarkRule.{id_of}
 use Rattle.linspec.specs.Operations.{Precedes}
 use Rattle.linspec.proofs.Filters.{from_filter, to_filter, to_map, from_map, map-cut, filter-cut}
-use Rattle.linspec.proofs.Fronts.{marks-append}
+use Rattle.linspec.proofs.Prefixes.{marks-append}
 
 -- a mark of a key's entries comes from an entry of that key, and the other way round
 pub from_of_key : (k : ℕ) (entries : List Entry) (m : Mark) → Contains (marks (of_key k entries)) m → (e : Entry) × Contains entries e × (e.key ≡ k) × (e.mark ≡ m)

@@ -10,7 +10,7 @@ use Rattle.events.specs.Events.{Entry, marks}
 use Rattle.events.specs.Events.Mark.{Invoked, Returned}
 use Rattle.linspec.specs.Orders.{IsLinearizable}
 use Rattle.linspec.specs.Ends.{Count, IsBlownIndexBy, IsWithinBudgetBy}
-use Rattle.linspec.specs.Verdicts.{EveryFrontIsLinearizable}
+use Rattle.linspec.specs.Verdicts.{EveryPrefixIsLinearizable}
 use Rattle.linspec.proofs.Lists.{Contains-nil, Contains-head, snoc_cut}
 use Rattle.linspec.proofs.Linearizable.{IsLinearizable-empty}
 
@@ -29,7 +29,7 @@ front_of_none : (front rest : List Entry) → front ++ rest ≡ [] → front ≡
 front_of_none [] rest e = refl
 front_of_none (x ∷ front) rest e = cc
 
-pub fronts_of_none : (o : Object) → EveryFrontIsLinearizable o []
+pub fronts_of_none : (o : Object) → EveryPrefixIsLinearizable o []
 fronts_of_none o front is = subst (λ l. IsLinearizable o (marks l)) (sym (front_of_none front is.0 is.1)) (IsLinearizable-empty o)
 
 module _ (xs : List Entry) (last : Entry) (others : (x : Entry) → Contains xs x → ¬ IsOk x) where

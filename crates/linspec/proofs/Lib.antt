@@ -9,7 +9,7 @@ pub mod Open
 pub mod Completions
 pub mod WithoutReads
 pub mod Reach
-pub mod Fronts
+pub mod Prefixes
 pub mod Filters
 pub mod Keyed
 pub mod Counts

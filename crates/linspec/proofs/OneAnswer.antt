@@ -4,13 +4,13 @@ use mathlib.Core.Path.{fun_ext}
 use Rattle.std.specs.List.{Contains}
 use Rattle.std.proofs.lemmas.Bool.{cases_order, eqb-true}
 use Rattle.std.proofs.lemmas.List.Elements.{Contains-append_right}
-use Rattle.models.specs.declared.model_kind.ModelKind.{ModelKind}
 use Rattle.models.specs.Objects.{Object}
+use Rattle.kinds.specs.declared.model_kind.ModelKind.{ModelKind}
 use Rattle.events.specs.Events.{Entry, of_key}
 use Rattle.linspec.specs.Orders.{product}
 use Rattle.linspec.specs.Ends.{Count, IsBlownAtBy, IsBlownIndexBy}
 use Rattle.linspec.specs.Counts.{CountsMoreThan}
-use Rattle.linspec.specs.Verdicts.{EndsShortestBadFront, EveryFrontIsLinearizable, IsKeyStatusBy, IsBlownKeyAtBy, set_aside, IsVerdictWithBy, IsVerdictBy, IsRising, IsVerdict}
+use Rattle.linspec.specs.Verdicts.{EndsShortestBadPrefix, EveryPrefixIsLinearizable, IsKeyStatusBy, IsBlownKeyAtBy, set_aside, IsVerdictWithBy, IsVerdictBy, IsRising, IsVerdict}
 use Rattle.linspec.specs.declared.verdict.KeyStatus.{KeyStatus}
 use Rattle.linspec.specs.declared.verdict.KeyStatus.TheVariants.{Alive, Dead, Over}
 use Rattle.linspec.specs.declared.verdict.Verdict.{Verdict}
@@ -34,13 +34,13 @@ same_last : {X : Type 0} (xs ys : List X) (x y : X) → length xs ≡ length ys 
 same_last xs ys x y n e = let q : x ∷ [] ≡ y ∷ [] = (same_cut xs ys (x ∷ []) (y ∷ []) e n).1 in cc
 
 -- a shortest bad front is no longer than another
-no_longer : (o : Object) (entries : List Entry) (a b : Entry) (s : EndsShortestBadFront o entries a) (t : EndsShortestBadFront o entries b) → length s.before < length t.before → ⊥
+no_longer : (o : Object) (entries : List Entry) (a b : Entry) (s : EndsShortestBadPrefix o entries a) (t : EndsShortestBadPrefix o entries b) → length s.before < length t.before → ⊥
 no_longer o entries a b s t lt =
     let n : length (s.before ++ a ∷ []) ≡ length s.before + 1 = length-append s.before (a ∷ []) in
     s.bad (t.shorter (s.before ++ a ∷ []) s.front (omega arith))
 
-one_bad_front : (o : Object) (entries : List Entry) (a b : Entry) → EndsShortestBadFront o entries a → EndsShortestBadFront o entries b → a ≡ b
-one_bad_front o entries a b s t =
+one_bad_prefix : (o : Object) (entries : List Entry) (a b : Entry) → EndsShortestBadPrefix o entries a → EndsShortestBadPrefix o entries b → a ≡ b
+one_bad_prefix o entries a b s t =
     ⊎_elim
     (λ n.
     let i : length (s.before ++ a ∷ []) ≡ length s.before + 1 = length-append s.before (a ∷ []) in
@@ -61,15 +61,15 @@ one_status more o budget entries (Over i) (Over j) h k = ap Over (one_blown_inde
 one_status more o budget entries (Over i) (Dead j) h k = absurd (k.0 i h.blown)
 one_status more o budget entries (Over i) Alive h k = absurd (k.0 i h.blown)
 one_status more o budget entries (Dead i) (Over j) h k = absurd (h.0 j k.blown)
-one_status more o budget entries (Dead i) (Dead j) h k = ap Dead (sym h.1.2 ∙ ap (λ (e : Entry). e.index) (one_bad_front o entries h.1.0 k.1.0 h.1.1 k.1.1) ∙ k.1.2)
+one_status more o budget entries (Dead i) (Dead j) h k = ap Dead (sym h.1.2 ∙ ap (λ (e : Entry). e.index) (one_bad_prefix o entries h.1.0 k.1.0 h.1.1 k.1.1) ∙ k.1.2)
 one_status more o budget entries (Dead i) Alive h k = absurd (bad_front h.1.0 h.1.1 k.1)
   where
-    bad_front : (last : Entry) → EndsShortestBadFront o entries last → EveryFrontIsLinearizable o entries → ⊥
+    bad_front : (last : Entry) → EndsShortestBadPrefix o entries last → EveryPrefixIsLinearizable o entries → ⊥
     bad_front last s every = s.bad (every (s.before ++ last ∷ []) s.front)
 one_status more o budget entries Alive (Over j) h k = absurd (h.0 j k.blown)
 one_status more o budget entries Alive (Dead j) h k = absurd (bad_front k.1.0 k.1.1 h.1)
   where
-    bad_front : (last : Entry) → EndsShortestBadFront o entries last → EveryFrontIsLinearizable o entries → ⊥
+    bad_front : (last : Entry) → EndsShortestBadPrefix o entries last → EveryPrefixIsLinearizable o entries → ⊥
     bad_front last s every = s.bad (every (s.before ++ last ∷ []) s.front)
 one_status more o budget entries Alive Alive h k = refl
 
@@ -109,12 +109,12 @@ module _ (more : ModelKind → Count) (kinds : ℕ → ModelKind) (budgets : ℕ
       let f = blown_entry l i c in
       sym e.2 ∙ ap (λ (w : Entry). w.key) (one_entry entries rising e.0 f.0 e.1 f.1 (e.3 ∙ sym f.3)) ∙ f.2
 
-  every_not_bad : (blown : ℕ → Bool) (last : Entry) → EndsShortestBadFront (product kinds) (set_aside blown entries) last → EveryFrontIsLinearizable (product kinds) (set_aside blown entries) → ⊥
+  every_not_bad : (blown : ℕ → Bool) (last : Entry) → EndsShortestBadPrefix (product kinds) (set_aside blown entries) last → EveryPrefixIsLinearizable (product kinds) (set_aside blown entries) → ⊥
   every_not_bad blown last s every = s.bad (every (s.before ++ last ∷ []) s.front)
 
   one_with : (blown : ℕ → Bool) (v w : Verdict) → IsVerdictWithBy more kinds budgets entries blown v → IsVerdictWithBy more kinds budgets entries blown w → v ≡ w
   one_with blown (Illegal k i) (Illegal l j) h g =
-      let e : h.0 ≡ g.0 = one_bad_front (product kinds) (set_aside blown entries) h.0 g.0 h.1 g.1 in
+      let e : h.0 ≡ g.0 = one_bad_prefix (product kinds) (set_aside blown entries) h.0 g.0 h.1 g.1 in
       let keys : k ≡ l = sym h.2 ∙ ap (λ (w : Entry). w.key) e ∙ g.2 in
       let indices : i ≡ j = sym h.3 ∙ ap (λ (w : Entry). w.index) e ∙ g.3 in
       cc

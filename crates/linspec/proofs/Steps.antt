@@ -1,13 +1,14 @@
 -- the steps of the states that the search keeps
 use Rattle.std.proofs.Common.{◌≡◌, ◌↔◌, inl, inr, ⊎_elim, ℕ, Some, None, Ok, Err, Result, IfOk, Vec, Global, Bool, true, false, not, IsTrue, List, [], ◌∷◌, refl, sym, ◌∙◌, subst}
 use Rattle.std.specs.List.{Contains}
-use Rattle.models.specs.declared.model_kind.ModelKind.{ModelKind}
 use Rattle.models.specs.declared.operation.Op.{Op}
 use Rattle.models.specs.declared.finding.Found.{Found}
-use Rattle.models.specs.declared.any_state.AnyState.{AnyState}
-use Rattle.models.specs.AnyState.{any, outcomes_of}
-use Rattle.models.specs.Objects.{IsOneOf, object_of}
-use Rattle.models.proofs.AnyStates.{outcome_of, step_of}
+use Rattle.models.specs.Objects.{IsOneOf}
+use Rattle.kinds.specs.declared.model_kind.ModelKind.{ModelKind}
+use Rattle.kinds.specs.declared.any_state.AnyState.{AnyState}
+use Rattle.kinds.specs.AnyState.{any, outcomes_of}
+use Rattle.kinds.specs.Kinds.{object_of}
+use Rattle.kinds.proofs.AnyStates.{outcome_of, step_of}
 use Rattle.linspec.specs.Attempts.{Keyed, LeadTo, state_at, StepsBy, Steps, PrecedesSome}
 use Rattle.events.specs.Events.{Mark}
 use Rattle.events.specs.Events.Mark.{Failed}

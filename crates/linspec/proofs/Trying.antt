@@ -8,6 +8,7 @@ use Rattle.models.specs.declared.operation.Op.{Op}
 use Rattle.models.specs.declared.finding.Found.{Found}
 use Rattle.models.specs.declared.finding.Answer.{Answer}
 use Rattle.models.specs.Objects.{Fits}
+use Rattle.kinds.specs.declared.any_state.AnyState.{AnyState}
 use Rattle.events.specs.Events.{Mark}
 use Rattle.events.specs.Events.Mark.{Invoked, Returned, Failed, Crashed}
 use Rattle.linspec.specs.declared.kept_marks.KeptMark as kept
@@ -16,7 +17,6 @@ use Rattle.linspec.specs.Orders.{Taken}
 use Rattle.linspec.specs.KeptMarks.{mark_of, marks_of_kept}
 use Rattle.linspec.specs.Finishing.{MayStandAfter, Finishes, CanFinish}
 use Rattle.linspec.specs.Attempts.{Keyed, LeadTo, Steps, AttemptView, FollowsBy, Follows, FollowsSome, Makes, MakesSome, with_state}
-use Rattle.models.specs.declared.any_state.AnyState.{AnyState}
 use Rattle.linspec.proofs.Steps.{in_listed, listed_in}
 use Rattle.linspec.proofs.Lists.{Contains-nil, Contains-head, Contains-tail, Contains-cons_cases}
 

@@ -1,9 +1,9 @@
 -- Promise: the count that the budget of a key limits, by the kind of its object (this project's own)
 use Rattle.std.specs.Prelude.{ℕ, Bool, List}
-use Rattle.models.specs.declared.model_kind.ModelKind.{ModelKind}
-use Rattle.models.specs.declared.model_kind.ModelKind.TheVariants.{Register, CasRegister, Mutex, FifoQueue, Set, UnorderedQueue, WideRegister, WideCasRegister, WideSet, WideFifoQueue, WideUnorderedQueue}
 use Rattle.models.specs.declared.operation.Op.{Op}
-use Rattle.models.specs.Objects.{object_of}
+use Rattle.kinds.specs.declared.model_kind.ModelKind.{ModelKind}
+use Rattle.kinds.specs.declared.model_kind.ModelKind.TheVariants.{Register, CasRegister, Mutex, FifoQueue, Set, UnorderedQueue, WideRegister, WideCasRegister, WideSet, WideFifoQueue, WideUnorderedQueue}
+use Rattle.kinds.specs.Kinds.{object_of}
 use Rattle.events.specs.Events.{Mark}
 use Rattle.linspec.specs.Ends.{every, is_no_read, HasMoreThanBy}
 use Rattle.linspec.specs.LeanEnds.{HasMoreLeanEndsThan}

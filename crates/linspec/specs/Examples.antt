@@ -4,8 +4,8 @@ use Rattle.models.specs.declared.operation.Name.TheVariants.{Read, Write, Cas, A
 use Rattle.models.specs.declared.operation.Part.{Part}
 use Rattle.models.specs.declared.operation.Part.TheVariants.{Nil, Int, Pair}
 use Rattle.models.specs.declared.operation.Op.{Op}
-use Rattle.models.specs.declared.model_kind.ModelKind.{ModelKind}
-use Rattle.models.specs.declared.model_kind.ModelKind.TheVariants.{Register, FifoQueue}
+use Rattle.kinds.specs.declared.model_kind.ModelKind.{ModelKind}
+use Rattle.kinds.specs.declared.model_kind.ModelKind.TheVariants.{Register, FifoQueue}
 use Rattle.events.specs.declared.event.EventKind.{EventKind}
 use Rattle.events.specs.declared.event.EventKind.TheVariants.{Invoke, Ok, Fail, Info}
 use Rattle.events.specs.declared.event.Process.TheVariants.{Client}

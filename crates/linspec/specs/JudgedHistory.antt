@@ -3,7 +3,7 @@ use Rattle.std.specs.Prelude.{ℕ, ◌≤◌, nat_eq, not, unwrap_or, List, [], 
 use Rattle.std.specs.List.{filter, filter_map}
 use Rattle.std.specs.Map.{lookup}
 use Rattle.indexmap.specs.IndexMap.{insert_entry}
-use Rattle.models.specs.declared.model_kind.ModelKind.{ModelKind}
+use Rattle.kinds.specs.declared.model_kind.ModelKind.{ModelKind}
 use Rattle.events.specs.declared.event.Event.{Event}
 use Rattle.events.specs.Events.{Entry, key_of, entries_of, indexed_from, events_of_key}
 use Rattle.linspec.specs.declared.verdict.Verdict.{Verdict}

@@ -1,7 +1,7 @@
 -- Promise: the judged history of one key (this project's own)
 use Rattle.std.specs.Prelude.{ℕ, Bool, List, [], ◌∷◌, ◌++◌, length, nat_lt}
 use Rattle.std.specs.List.{filter}
-use Rattle.models.specs.declared.model_kind.ModelKind.{ModelKind}
+use Rattle.kinds.specs.declared.model_kind.ModelKind.{ModelKind}
 use Rattle.events.specs.declared.event.Event.{Event}
 use Rattle.events.specs.Events.{entries_of}
 use Rattle.linspec.specs.declared.verdict.KeyStatus.{KeyStatus}

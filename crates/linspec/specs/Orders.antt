@@ -1,11 +1,12 @@
 -- Promise: legal orders and linearizability (Herlihy and Wing 1990, section 2)
 use Rattle.std.specs.Prelude.{◌≡◌, ◌≢◌, ℕ, List, [], ◌∷◌}
 use Rattle.std.specs.List.{Contains}
-use Rattle.models.specs.declared.model_kind.ModelKind.{ModelKind}
 use Rattle.models.specs.declared.operation.Op.{Op}
 use Rattle.models.specs.declared.finding.Found.{Found}
 use Rattle.models.specs.declared.finding.Answer.{Answer}
-use Rattle.models.specs.Objects.{Object, object_of, Fits}
+use Rattle.models.specs.Objects.{Object, Fits}
+use Rattle.kinds.specs.declared.model_kind.ModelKind.{ModelKind}
+use Rattle.kinds.specs.Kinds.{object_of}
 use Rattle.events.specs.Events.{Mark}
 use Rattle.events.specs.Events.Mark.{Invoked, Returned, Failed}
 use Rattle.linspec.specs.Operations.{HasReturned, Precedes}
@@ -30,7 +31,10 @@ abbrev pub Run : (o : Object) → o.State → List Taken → o.State → Type 0
 Run o s [] t = s ≡ t
 Run o s (x ∷ order) t = (mid : o.State) × o.Steps s x.op x.found mid × Run o mid order t
 
--- a legal order of the history, which ends in the state s
+-- a legal order of the history, which ends in the state s. Herlihy and Wing extend the history by returns, leave the other pending
+-- invocations out, and want a legal sequential history with the same operations of each process, which keeps the order of operations. Here
+-- the order has every operation that has returned, and pending ones as it likes. A process has one operation at a time, so `in_time` keeps
+-- the order of each process
 pub record IsLegalOrder (o : Object) (marks : List Mark) (order : List Taken) (s : o.State)
     : Type 0 where
   -- operations of the history, each at most once

@@ -1,9 +1,10 @@
 -- Promise: the status of a key and the verdict on a history (this project's own)
 use Rattle.std.specs.Prelude.{◌≡◌, ◌≢◌, ◌↔◌, ℕ, ◌≤◌, ◌<◌, Bool, not, List, [], ◌∷◌, ◌++◌, length, IsTrue}
 use Rattle.std.specs.List.{filter, Contains}
-use Rattle.models.specs.declared.model_kind.ModelKind.{ModelKind}
-use Rattle.models.specs.Objects.{Object, object_of}
-use Rattle.events.specs.Events.{Entry, marks, of_key, IsFront}
+use Rattle.models.specs.Objects.{Object}
+use Rattle.kinds.specs.declared.model_kind.ModelKind.{ModelKind}
+use Rattle.kinds.specs.Kinds.{object_of}
+use Rattle.events.specs.Events.{Entry, marks, of_key, IsPrefixOf}
 use Rattle.linspec.specs.Orders.{Pairwise, IsLinearizable, product}
 use Rattle.linspec.specs.Ends.{Count, IsBlownBy, IsBlownIndexBy, IsWithinBudgetBy}
 use Rattle.linspec.specs.Counts.{CountsMoreThan, CountsMoreThanWithReads}
@@ -13,16 +14,16 @@ use Rattle.linspec.specs.declared.verdict.Verdict.{Verdict}
 use Rattle.linspec.specs.declared.verdict.Verdict.TheVariants.{Legal, Illegal, Unknown}
 
 -- the shortest front that is not linearizable ends with this entry: each shorter front is linearizable
-pub record EndsShortestBadFront (o : Object) (entries : List Entry) (last : Entry) : Type 0 where
+pub record EndsShortestBadPrefix (o : Object) (entries : List Entry) (last : Entry) : Type 0 where
   pub before : List Entry
-  pub front : IsFront (before ++ last ∷ []) entries
+  pub front : IsPrefixOf (before ++ last ∷ []) entries
   pub bad : ¬ IsLinearizable o (marks (before ++ last ∷ []))
-  pub shorter : (front : List Entry) → IsFront front entries → length front ≤ length before
+  pub shorter : (front : List Entry) → IsPrefixOf front entries → length front ≤ length before
       → IsLinearizable o (marks front)
 
-abbrev pub EveryFrontIsLinearizable : Object → List Entry → Type 0
-EveryFrontIsLinearizable o entries =
-    (front : List Entry) → IsFront front entries → IsLinearizable o (marks front)
+abbrev pub EveryPrefixIsLinearizable : Object → List Entry → Type 0
+EveryPrefixIsLinearizable o entries =
+    (front : List Entry) → IsPrefixOf front entries → IsLinearizable o (marks front)
 
 -- Over if the budget is exceeded; else Dead if some prefix is not linearizable; else Alive. `more` says when a count is more than the
 -- budget
@@ -30,9 +31,9 @@ abbrev pub IsKeyStatusBy : Count → Object → ℕ → List Entry → KeyStatus
 IsKeyStatusBy more o budget entries (Over i) = IsBlownIndexBy more budget entries i
 IsKeyStatusBy more o budget entries (Dead i) =
     IsWithinBudgetBy more budget entries
-    × ((last : Entry) × EndsShortestBadFront o entries last × (last.index ≡ i))
+    × ((last : Entry) × EndsShortestBadPrefix o entries last × (last.index ≡ i))
 IsKeyStatusBy more o budget entries Alive =
-    IsWithinBudgetBy more budget entries × EveryFrontIsLinearizable o entries
+    IsWithinBudgetBy more budget entries × EveryPrefixIsLinearizable o entries
 
 -- the history without the events of the keys for which blown is true
 abbrev pub set_aside : (ℕ → Bool) → List Entry → List Entry
@@ -49,13 +50,13 @@ module _ (more : ModelKind → Count) (kinds : ℕ → ModelKind) (budgets : ℕ
   -- the verdict, if blown is true of the keys over budget
   abbrev pub IsVerdictWithBy : (ℕ → Bool) → Verdict → Type 0
   IsVerdictWithBy blown (Illegal key index) =
-      (last : Entry) × EndsShortestBadFront (product kinds) (set_aside blown entries) last
+      (last : Entry) × EndsShortestBadPrefix (product kinds) (set_aside blown entries) last
       × (last.key ≡ key) × (last.index ≡ index)
   IsVerdictWithBy blown (Unknown key index) =
-      EveryFrontIsLinearizable (product kinds) (set_aside blown entries)
+      EveryPrefixIsLinearizable (product kinds) (set_aside blown entries)
       × IsBlownKeyAtBy key index × ((k i : ℕ) → IsBlownKeyAtBy k i → index ≤ i)
   IsVerdictWithBy blown Legal =
-      EveryFrontIsLinearizable (product kinds) (set_aside blown entries)
+      EveryPrefixIsLinearizable (product kinds) (set_aside blown entries)
       × ((k : ℕ) → ¬ IsBlownKeyBy k)
 
   abbrev pub IsVerdictBy : Verdict → Type 0

@@ -1,8 +1,8 @@
 //! Whether a history is linearizable, found by trying orders.
 ghost use Rattle.std.specs.Prelude.{◌≡◌, ◌↔◌, ◌⊎◌, ℕ, [], ◌∷◌, ◌++◌, List, IsTrue, IfOk, OnOk, option_copied, map};
 ghost use Rattle.std.specs.List.{Contains};
-ghost use Rattle.models.specs.declared.model_kind.ModelKind.{ModelKind};
 ghost use Rattle.models.specs.declared.finding.Found.{Found};
+ghost use Rattle.kinds.specs.declared.model_kind.ModelKind.{ModelKind};
 ghost use Rattle.events.specs.Events.{entries_of, indexed_from, marks};
 ghost use Rattle.linspec.specs.Orders.{IsLinearizable, product};
 ghost use Rattle.linspec.specs.KindsOf.{AgreeWith, HaveKinds};
@@ -13,10 +13,11 @@ ghost use Rattle.linspec.specs.Attempts.{Follows, FollowsBy, FollowsSome, LeadTo
 ghost use Rattle.linspec.specs.Attempts.{PrecedesSome};
 
 use crate::kept_marks::{
-    KeptMark, all_done, fits_answer, has_failed, is_among, marks_of, precedes,
+    KeptMark, agrees_with_answer, all_done, has_failed, is_among, marks_of, precedes,
 };
 use history::History;
-use models::{AnyState, Found, Key, ModelKind, Op};
+use kinds::{AnyState, ModelKind};
+use models::{Found, Key, Op};
 use std::alloc::{AllocError, Global};
 use std::marker::Model;
 
@@ -45,7 +46,7 @@ fn state_of(states: &[(Key, AnyState)], key: Key) -> Option<&AnyState>
     None
 }
 
-/// The state of the entry's key, where the one of this key is now another.
+/// The state of the entry's key after the state of `key` has changed.
 fn state_after(
     alloc: Global,
     entry: &(Key, AnyState),
@@ -61,7 +62,7 @@ fn state_after(
     }
 }
 
-/// The states, but this one of the key.
+/// The states of all keys, with this one for `key`.
 fn states_with(
     alloc: Global,
     states: &[(Key, AnyState)],
@@ -101,7 +102,7 @@ fn precedes_some(marks: &[KeptMark], id: usize, taken: &[usize]) -> bool
     taken.iter().any(|other| precedes(marks, id, *other))
 }
 
-/// Whether the operation may stand after the taken ones.
+/// Whether the operation may come after the taken ones.
 fn may_stand_after(marks: &[KeptMark], taken: &[usize], id: usize) -> bool
     ensures { IsTrue result ↔ MayStandAfter (marks_of_kept marks.now) taken.now id }
 {
@@ -140,7 +141,7 @@ fn push_outcome(
         ↔ (Contains attempts.old.items after
         ⊎ Makes (marks_of_kept marks.now) order.now id key outcome.now after)) }
 {
-    if !fits_answer(marks, id, &outcome.1) {
+    if !agrees_with_answer(marks, id, &outcome.1) {
         return Ok(());
     }
     let next = with_outcome(alloc, order, id, key, &outcome.0)?;
@@ -253,12 +254,11 @@ fn start_states(
     Ok(states)
 }
 
-/// Whether the history is linearizable (Herlihy and Wing 1990, section 2.3), where the object of each key is of the kind
-/// that the list gives it. It tries each order in which the operations can take place one after another, and nothing
-/// else, so that it may serve as the measure of quicker ways. Nothing is said if the list lacks a key of the history,
-/// or gives one two kinds.
+/// Whether the history is linearizable (Herlihy and Wing 1990, section 2.3). The list has the kind of each key's object. This is the
+/// brute-force checker, with which tests compare quicker ones: it tries each order in which the operations can take place one after
+/// another. No clause says anything if the list lacks a key of the history, or has one key twice.
 ///
-/// Meant for at most eight operations: the time grows with the number of their orders, and beyond that it is out of reach.
+/// It is for at most eight operations, since its cost is O(orders of the operations).
 pub fn brute(
     alloc: Global,
     history: &History,

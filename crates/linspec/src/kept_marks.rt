@@ -145,7 +145,7 @@ fn agrees(mark: &KeptMark, id: usize, found: &Found) -> bool
 }
 
 /// Whether what the operation found fits its answer, if it has returned. Costs O(marks).
-pub fn fits_answer(marks: &[KeptMark], id: usize, found: &Found) -> bool
+pub fn agrees_with_answer(marks: &[KeptMark], id: usize, found: &Found) -> bool
     ensures { IsTrue result ↔ ((answer : Answer) →
         Contains (marks_of_kept marks.now) (Returned id answer) → Fits found.now answer) }
 {

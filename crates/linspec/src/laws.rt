@@ -1,10 +1,11 @@
 //! Laws that show that the definitions say what they should.
 ghost use Rattle.std.specs.Prelude.{◌≡◌, ◌≢◌, ◌↔◌, ◌≤◌, ℕ, ℤ, pos, Bool, List, [], ◌∷◌, ◌++◌};
-ghost use Rattle.models.specs.declared.model_kind.ModelKind.{ModelKind};
 ghost use Rattle.models.specs.declared.operation.Op.{Op};
-ghost use Rattle.models.specs.Objects.{object_of, register, cas_register, mutex, fifo_queue};
+ghost use Rattle.models.specs.Objects.{register, cas_register, mutex, fifo_queue};
+ghost use Rattle.kinds.specs.declared.model_kind.ModelKind.{ModelKind};
+ghost use Rattle.kinds.specs.Kinds.{object_of};
 ghost use Rattle.events.specs.declared.event.Event.{Event};
-ghost use Rattle.events.specs.Events.{Mark, Entry, IsFront, entries_of, indexed_from, marks};
+ghost use Rattle.events.specs.Events.{Mark, Entry, IsPrefixOf, entries_of, indexed_from, marks};
 ghost use Rattle.events.specs.Events.Mark.{Invoked, Crashed};
 ghost use Rattle.events.specs.ProcessRule.{IsHistory};
 ghost use Rattle.linspec.specs.MarkRule.{IsNew, IsKeyed, AreWellFormed};
@@ -29,11 +30,11 @@ pub fn empty_law()
 /// Each prefix of a linearizable history is linearizable, for one key and for all keys together.
 pub fn fronts_law()
     ensures one { (kind : ModelKind) (front entries : List Entry) →
-        AreWellFormed (marks entries) → IsFront front entries
+        AreWellFormed (marks entries) → IsPrefixOf front entries
         → IsLinearizable (object_of kind) (marks entries)
         → IsLinearizable (object_of kind) (marks front) }
     ensures all { (kinds : ℕ → ModelKind) (front entries : List Entry) →
-        AreWellFormed (marks entries) → IsFront front entries
+        AreWellFormed (marks entries) → IsPrefixOf front entries
         → IsLinearizable (product kinds) (marks entries)
         → IsLinearizable (product kinds) (marks front) }
 {}
@@ -41,11 +42,11 @@ pub fn fronts_law()
 /// No longer history revives a front that is not linearizable: then the whole isn't either.
 pub fn no_revival_law()
     ensures one { (kind : ModelKind) (front entries : List Entry) →
-        AreWellFormed (marks entries) → IsFront front entries
+        AreWellFormed (marks entries) → IsPrefixOf front entries
         → ¬ IsLinearizable (object_of kind) (marks front)
         → ¬ IsLinearizable (object_of kind) (marks entries) }
     ensures all { (kinds : ℕ → ModelKind) (front entries : List Entry) →
-        AreWellFormed (marks entries) → IsFront front entries
+        AreWellFormed (marks entries) → IsPrefixOf front entries
         → ¬ IsLinearizable (product kinds) (marks front)
         → ¬ IsLinearizable (product kinds) (marks entries) }
 {}

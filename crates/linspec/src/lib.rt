@@ -1,9 +1,10 @@
-//! The meaning of a linearizable history: the definitions, and laws that show them to be right. Every verdict is proved by these.
+//! The meaning of a linearizable history: definitions, and laws that show that the definitions are right. Every verdict is proved by these
+//! definitions.
 //!
 //! `specs/Orders.antt` has legal orders and linearizability, of one object and of many. `Ends.antt` has the ends of the legal orders of one
-//! key, and when they are more than a budget. `Counts.antt` has the count of each kind, and `Verdicts.antt` how a key stands and what joins
-//! the keys. `JudgedHistory.antt` has all of this for a history of many keys with its kinds and budgets. [`brute`] computes linearizability
-//! by trying orders, for tests.
+//! key, and when there are more than a budget. `Counts.antt` has the count of each kind, and `Verdicts.antt` the status of a key and the
+//! join of all keys. `JudgedHistory.antt` has the same for a history of many keys with its kinds and budgets. [`brute`] computes
+//! linearizability by trying orders, for tests.
 //!
 //! A call allocates only if its result can be `AllocError`, or a refusal because memory ran out.
 #![tactic(auto)]

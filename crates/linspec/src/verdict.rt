@@ -7,8 +7,8 @@ pub enum KeyStatus {
     Alive,
     /// The event with this index ends the shortest front that is not linearizable.
     Dead(u32),
-    /// At the ok event with this index more ends were possible than the budget allows, for the first time. Nothing else
-    /// is said of the key then.
+    /// Just before the ok event with this index, more ends were possible than the budget allows, for the first time. The key may be alive
+    /// or dead.
     Over(u32),
 }
 

@@ -4,9 +4,10 @@ use Rattle.std.specs.List.{Contains}
 use Rattle.std.proofs.lemmas.Bool.{cases_eq, eqb-true, ne_eqb, true≢false}
 use Rattle.std.proofs.lemmas.List.{append-nil}
 use Rattle.std.proofs.lemmas.List.Elements.{Contains-append_left, Contains-append_right, Contains-push, filter-append}
-use Rattle.models.specs.declared.model_kind.ModelKind.{ModelKind}
-use Rattle.models.specs.Objects.{Object, object_of}
-use Rattle.events.specs.Events.{Entry, of_key, marks, IsFront}
+use Rattle.models.specs.Objects.{Object}
+use Rattle.kinds.specs.declared.model_kind.ModelKind.{ModelKind}
+use Rattle.kinds.specs.Kinds.{object_of}
+use Rattle.events.specs.Events.{Entry, of_key, marks, IsPrefixOf}
 use Rattle.linspec.specs.declared.verdict.KeyStatus.{KeyStatus}
 use Rattle.linspec.specs.declared.verdict.KeyStatus.TheVariants.{Alive, Dead, Over}
 use Rattle.linspec.specs.declared.verdict.Verdict.{Verdict}
@@ -14,7 +15,7 @@ use Rattle.linspec.specs.declared.verdict.Verdict.TheVariants.{Legal, Illegal, U
 use Rattle.linspec.specs.MarkRule.{AreWellFormed, IsKeyed}
 use Rattle.linspec.specs.Orders.{Pairwise, IsLinearizable}
 use Rattle.linspec.specs.Ends.{Count, IsBlownAtBy, IsBlownIndexBy}
-use Rattle.linspec.specs.Verdicts.{EndsShortestBadFront, EveryFrontIsLinearizable}
+use Rattle.linspec.specs.Verdicts.{EndsShortestBadPrefix, EveryPrefixIsLinearizable}
 use Rattle.linspec.specs.Orders.{product}
 use Rattle.linspec.specs.Verdicts.{IsBlownKeyBy, IsBlownKeyAtBy, set_aside, IsVerdictWithBy, IsVerdictBy, IsRising, AreStatusesBy, IsJoin}
 use Rattle.linspec.proofs.Lists.{Contains-nil, Contains-head, Contains-tail, Contains-cons_cases, Pairwise-across}
@@ -44,7 +45,7 @@ one_status (x ∷ statuses) once k s t h j =
     (λ h. ⊎_elim (λ f. absurd (once.0 _ h (ap (λ (p : ℕ × KeyStatus). p.0) f))) (λ j. one_status statuses once.1 k s t h j) (Contains-cons_cases x statuses _ j))
     (Contains-cons_cases x statuses _ h)
 
-front_of_none : {X : Type 0} (xs : List X) → IsFront xs [] → xs ≡ []
+front_of_none : {X : Type 0} (xs : List X) → IsPrefixOf xs [] → xs ≡ []
 front_of_none [] is = refl
 front_of_none (x ∷ xs) is = (let q : x ∷ (xs ++ is.0) ≡ [] = is.1 in cc)
 
@@ -61,7 +62,7 @@ over_by (inl r) = is_over r.0
 over_by (inr q) = false
 
 -- a front without the entry at which the shortest bad one ends is linearizable
-not_yet : (o : Object) (entries : List Entry) (last : Entry) → EndsShortestBadFront o entries last → (front : List Entry) → IsFront front entries → ¬ Contains front last → IsLinearizable o (marks front)
+not_yet : (o : Object) (entries : List Entry) (last : Entry) → EndsShortestBadPrefix o entries last → (front : List Entry) → IsPrefixOf front entries → ¬ Contains front last → IsLinearizable o (marks front)
 not_yet o entries last s front is not_in =
     ⊎_elim
     (λ f. at_rest f.0 f.1)
@@ -136,23 +137,23 @@ module _ (more : ModelKind → Count) (kinds : ℕ → ModelKind) (budgets : ℕ
   rest_well : AreWellFormed (marks rest)
   rest_well = AreWellFormed-filter (λ e. not (blown e.key)) (λ e f q. ap (λ j. not (blown j)) q) entries keyed well
 
-  front_key : (front : List Entry) → IsFront front rest → (k : ℕ) → IsFront (of_key k front) (of_key k rest)
+  front_key : (front : List Entry) → IsPrefixOf front rest → (k : ℕ) → IsPrefixOf (of_key k front) (of_key k rest)
   front_key front is k = (of_key k is.0, sym (filter-append (λ (e : Entry). nat_eq e.key k) front is.0) ∙ ap (of_key k) is.1)
 
   -- a prefix of the rest, if the dead keys' parts are linearizable
-  front_lin : (front : List Entry) → IsFront front rest → ((k i : ℕ) → Contains statuses (k, Dead i) → blown k ≡ false → IsLinearizable (object_of (kinds k)) (marks (of_key k front))) → IsLinearizable (product kinds) (marks front)
+  front_lin : (front : List Entry) → IsPrefixOf front rest → ((k i : ℕ) → Contains statuses (k, Dead i) → blown k ≡ false → IsLinearizable (object_of (kinds k)) (marks (of_key k front))) → IsLinearizable (product kinds) (marks front)
   front_lin front is dead_ok = IsLinearizable-join kinds front (IsKeyed-front front rest is rest_keyed) (AreWellFormed-front front rest is rest_well) (λ k. by_case k (case_of k))
     where
       empty_lin : (k : ℕ) → of_key k rest ≡ [] → IsLinearizable (object_of (kinds k)) (marks (of_key k front))
-      empty_lin k none = subst (λ l. IsLinearizable (object_of (kinds k)) (marks l)) (sym (front_of_none (of_key k front) (subst (IsFront (of_key k front)) none (front_key front is k)))) (IsLinearizable-empty (object_of (kinds k)))
+      empty_lin k none = subst (λ l. IsLinearizable (object_of (kinds k)) (marks l)) (sym (front_of_none (of_key k front) (subst (IsPrefixOf (of_key k front)) none (front_key front is k)))) (IsLinearizable-empty (object_of (kinds k)))
 
       by_case : (k : ℕ) → CaseOf k → IsLinearizable (object_of (kinds k)) (marks (of_key k front))
       by_case k (over i h e) = empty_lin k (of_key-aside blown k entries e)
       by_case k (dead i h e) = dead_ok k i h e
-      by_case k (alive h e) = (are.each k Alive h).1 (of_key k front) (subst (IsFront (of_key k front)) (of_key-kept blown k entries e) (front_key front is k))
+      by_case k (alive h e) = (are.each k Alive h).1 (of_key k front) (subst (IsPrefixOf (of_key k front)) (of_key-kept blown k entries e) (front_key front is k))
       by_case k (without none e) = empty_lin k (of_key-kept blown k entries e ∙ none)
 
-  no_dead_lin : ((k i : ℕ) → ¬ Contains statuses (k, Dead i)) → EveryFrontIsLinearizable (product kinds) rest
+  no_dead_lin : ((k i : ℕ) → ¬ Contains statuses (k, Dead i)) → EveryPrefixIsLinearizable (product kinds) rest
   no_dead_lin none front is = front_lin front is (λ k i h. absurd (none k i h))
 
   -- a dead key is not set aside
@@ -189,21 +190,21 @@ module _ (more : ModelKind → Count) (kinds : ℕ → ModelKind) (budgets : ℕ
 
   illegal : (key index : ℕ) → IsJoin statuses (Illegal key index) → IsVerdictWithBy more kinds budgets entries blown (Illegal key index)
   illegal key index j =
-      let d : (last : Entry) × EndsShortestBadFront (object_of (kinds key)) (of_key key entries) last × (last.index ≡ index) = (are.each key (Dead index) j.0).1 in
-      let s : EndsShortestBadFront (object_of (kinds key)) (of_key key entries) d.0 = d.1 in
+      let d : (last : Entry) × EndsShortestBadPrefix (object_of (kinds key)) (of_key key entries) last × (last.index ≡ index) = (are.each key (Dead index) j.0).1 in
+      let s : EndsShortestBadPrefix (object_of (kinds key)) (of_key key entries) d.0 = d.1 in
       let cut : s.before ++ d.0 ∷ s.front.0 ≡ of_key key rest = sym (append_assoc s.before (d.0 ∷ []) s.front.0) ∙ s.front.1 ∙ sym (of_key-kept blown key entries (dead_kept key index j.0)) in
       let c = filter-cut_at (λ (e : Entry). nat_eq e.key key) rest s.before s.front.0 d.0 cut in
       let key_front : of_key key (c.0 ++ d.0 ∷ []) ≡ s.before ++ d.0 ∷ [] =
       filter-append (λ (e : Entry). nat_eq e.key key) c.0 (d.0 ∷ []) ∙ ap (λ l. of_key key c.0 ++ l) (filter-yes (λ (e : Entry). nat_eq e.key key) d.0 [] c.5) ∙ ap (λ l. l ++ d.0 ∷ []) (sym c.3) in
-      let is : IsFront (c.0 ++ d.0 ∷ []) rest = (c.1, append_assoc c.0 (d.0 ∷ []) c.1 ∙ sym c.2) in (
+      let is : IsPrefixOf (c.0 ++ d.0 ∷ []) rest = (c.1, append_assoc c.0 (d.0 ∷ []) c.1 ∙ sym c.2) in (
         d.0,
         record {
           before = c.0;
           front = is;
           bad = λ h. s.bad (subst (λ l. IsLinearizable (object_of (kinds key)) (marks l)) key_front (IsLinearizable-split kinds (c.0 ++ d.0 ∷ []) (IsKeyed-front (c.0 ++ d.0 ∷ []) rest is rest_keyed) h key));
           shorter = λ front is' le. front_lin front is' (λ k i h e.
-              let dk : (last : Entry) × EndsShortestBadFront (object_of (kinds k)) (of_key k entries) last × (last.index ≡ i) = (are.each k (Dead i) h).1 in
-              not_yet (object_of (kinds k)) (of_key k entries) dk.0 dk.1 (of_key k front) (subst (IsFront (of_key k front)) (of_key-kept blown k entries e) (front_key front is' k)) (λ there.
+              let dk : (last : Entry) × EndsShortestBadPrefix (object_of (kinds k)) (of_key k entries) last × (last.index ≡ i) = (are.each k (Dead i) h).1 in
+              not_yet (object_of (kinds k)) (of_key k entries) dk.0 dk.1 (of_key k front) (subst (IsPrefixOf (of_key k front)) (of_key-kept blown k entries e) (front_key front is' k)) (λ there.
               let in_us : Contains c.0 dk.0 = shorter_in c.0 (d.0 ∷ c.1) front is'.0 dk.0 (sym c.2 ∙ sym is'.1) le (from_filter (λ (e : Entry). nat_eq e.key k) front dk.0 there).0 in
               let before : dk.0.index < d.0.index = Pairwise-across (λ (e f : Entry). e.index < f.index) c.0 (d.0 ∷ c.1)
               (subst (Pairwise (λ (e f : Entry). e.index < f.index)) c.2 (Pairwise-filter (λ e. not (blown e.key)) (λ (e f : Entry). e.index < f.index) entries rising)) dk.0 d.0 in_us (Contains-head d.0 c.1) in

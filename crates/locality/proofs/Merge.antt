@@ -14,7 +14,7 @@ use Rattle.linspec.proofs.Lists.{Contains-nil, Contains-head, Pairwise-append, P
 use Rattle.linspec.proofs.Filters.{filter-all, filter-none, to_map, two_cuts}
 use Rattle.linspec.proofs.Marks.{Precedes-returned}
 use Rattle.linspec.proofs.Invocations.{Around, around}
-use Rattle.linspec.proofs.Fronts.{marks-append}
+use Rattle.linspec.proofs.Prefixes.{marks-append}
 use Rattle.locality.proofs.Products.{on_key, to_on_key}
 use Rattle.linspec.proofs.Keyed.{from_marks}
 

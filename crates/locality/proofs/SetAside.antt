@@ -3,13 +3,13 @@ use Rattle.std.proofs.Common.{◌≡◌, ℕ, ⊎_elim, Bool, true, false, not, 
 use Rattle.std.specs.List.{filter, Contains}
 use Rattle.std.proofs.lemmas.Bool.{cases_Bool, cases_eq, eq-eqb, ne_eqb, true≢false}
 use Rattle.std.proofs.lemmas.List.Elements.{Contains-append_left, Contains-append_right}
-use Rattle.events.specs.Events.{Mark, Entry, of_key, marks, IsFront}
+use Rattle.events.specs.Events.{Mark, Entry, of_key, marks, IsPrefixOf}
 use Rattle.events.specs.Events.Mark.{Invoked, Returned, Failed, Crashed}
 use Rattle.linspec.specs.MarkRule.{id_of, MayFollow, AreWellFormed, IsKeyed}
 use Rattle.linspec.specs.Operations.{IsOpen}
 use Rattle.linspec.proofs.Lists.{Contains-head}
 use Rattle.linspec.proofs.Filters.{from_filter, to_filter, to_map, from_map, map-cut, filter-cut_at, filter-yes, filter-no, filter-none}
-use Rattle.linspec.proofs.Fronts.{marks-append}
+use Rattle.linspec.proofs.Prefixes.{marks-append}
 use Rattle.linspec.proofs.Keyed.{from_marks}
 
 pub IsKeyed-filter : (p : Entry → Bool) (entries : List Entry) → IsKeyed entries → IsKeyed (filter p entries)
@@ -18,13 +18,13 @@ IsKeyed-filter p entries keyed = record {
   one_key = λ e f h k. keyed.one_key e f (from_filter p entries e h).0 (from_filter p entries f k).0;
 }
 
-pub IsKeyed-front : (front entries : List Entry) → IsFront front entries → IsKeyed entries → IsKeyed front
+pub IsKeyed-front : (front entries : List Entry) → IsPrefixOf front entries → IsKeyed entries → IsKeyed front
 IsKeyed-front front entries is keyed = record {
   op_key = λ e id op h. keyed.op_key e id op (subst (λ l. Contains l e) is.1 (Contains-append_left front is.0 e h));
   one_key = λ e f h k. keyed.one_key e f (subst (λ l. Contains l e) is.1 (Contains-append_left front is.0 e h)) (subst (λ l. Contains l f) is.1 (Contains-append_left front is.0 f k));
 }
 
-pub AreWellFormed-front : (front entries : List Entry) → IsFront front entries → AreWellFormed (marks entries) → AreWellFormed (marks front)
+pub AreWellFormed-front : (front entries : List Entry) → IsPrefixOf front entries → AreWellFormed (marks entries) → AreWellFormed (marks front)
 AreWellFormed-front front entries is well before after m cut = well before (after ++ marks is.0) m (sym (append_assoc before (m ∷ after) (marks is.0)) ∙ ap (λ l. l ++ marks is.0) cut ∙ sym (marks-append front is.0) ∙ ap marks is.1)
 
 fewer_marks : (p : Entry → Bool) (us : List Entry) (m : Mark) → Contains (marks (filter p us)) m → Contains (marks us) m

@@ -1,8 +1,8 @@
 //! Laws of histories of many keys.
 ghost use Rattle.std.specs.Prelude.{◌↔◌, ℕ, Bool, List, []};
-ghost use Rattle.models.specs.declared.model_kind.ModelKind.{ModelKind};
 ghost use Rattle.models.specs.declared.operation.Op.{Op};
-ghost use Rattle.models.specs.Objects.{object_of};
+ghost use Rattle.kinds.specs.declared.model_kind.ModelKind.{ModelKind};
+ghost use Rattle.kinds.specs.Kinds.{object_of};
 ghost use Rattle.events.specs.Events.{Entry, marks, of_key};
 ghost use Rattle.linspec.specs.declared.verdict.KeyStatus.{KeyStatus};
 ghost use Rattle.linspec.specs.declared.verdict.Verdict.{Verdict};

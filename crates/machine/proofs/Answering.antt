@@ -8,9 +8,10 @@ use Rattle.models.specs.declared.operation.Part.{Part}
 use Rattle.models.specs.declared.operation.Part.TheVariants.{Nil, Int, Pair}
 use Rattle.models.specs.declared.finding.Found.{Found}
 use Rattle.models.specs.declared.finding.Found.TheVariants.{Unit as Nothing, Reg, Item, Elements}
-use Rattle.models.specs.declared.model_kind.ModelKind.{ModelKind}
-use Rattle.models.specs.declared.model_kind.ModelKind.TheVariants.{Register, CasRegister, Mutex, FifoQueue, Set as SetOfNumbers, UnorderedQueue, WideRegister, WideCasRegister, WideSet, WideFifoQueue, WideUnorderedQueue}
-use Rattle.models.specs.Objects.{IsOneOf, object_of, register_apply, cas_register_apply, mutex_apply, queue_apply, set_apply, taken_from, unordered_apply}
+use Rattle.models.specs.Objects.{IsOneOf, register_apply, cas_register_apply, mutex_apply, queue_apply, set_apply, taken_from, unordered_apply}
+use Rattle.kinds.specs.declared.model_kind.ModelKind.{ModelKind}
+use Rattle.kinds.specs.declared.model_kind.ModelKind.TheVariants.{Register, CasRegister, Mutex, FifoQueue, Set as SetOfNumbers, UnorderedQueue, WideRegister, WideCasRegister, WideSet, WideFifoQueue, WideUnorderedQueue}
+use Rattle.kinds.specs.Kinds.{object_of}
 use Rattle.values.specs.Multisets.{with_one, without_one, values_of}
 use Rattle.machine.specs.Trials.{Answers}
 

@@ -4,7 +4,7 @@ use Rattle.edn.specs.declared.refusal.Refusal.{Refusal}
 use Rattle.events.specs.declared.event.Event.{Event}
 use Rattle.events.specs.declared.event.Fault.{Fault}
 use Rattle.history.specs.WellFormed.{IsHistoryOf}
-use Rattle.history.proofs.Fronts.{history-take}
+use Rattle.history.proofs.Prefixes.{history-take}
 use Rattle.generators.specs.declared.item.Item.TheVariants.{Op as AnOp}
 use Rattle.generators.specs.declared.item.Asker.TheVariants.{Thread}
 use Rattle.generators.specs.declared.item.Drawn.{Drawn}

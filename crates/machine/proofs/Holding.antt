@@ -8,8 +8,8 @@ use Rattle.models.specs.declared.operation.Op.{Op}
 use Rattle.models.specs.declared.operation.Part.{Part}
 use Rattle.models.specs.declared.finding.Found.{Found}
 use Rattle.models.specs.declared.finding.Found.TheVariants.{Unit as Nothing, Reg, Item, Elements}
-use Rattle.models.specs.declared.model_kind.ModelKind.{ModelKind}
 use Rattle.models.specs.Objects.{Fits, answer_of}
+use Rattle.kinds.specs.declared.model_kind.ModelKind.{ModelKind}
 use Rattle.events.specs.declared.event.Fault.{Fault}
 use Rattle.events.specs.declared.event.Event.{Event}
 use Rattle.events.specs.Events.{Mark}

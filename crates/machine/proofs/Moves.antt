@@ -3,8 +3,8 @@ use Rattle.std.proofs.Common.{◌≡◌, ℕ, ⊎_elim, nat_eq, unwrap_or, Optio
 use Rattle.std.specs.List.{cons_option}
 use Rattle.std.specs.Map.{lookup}
 use Rattle.edn.specs.declared.refusal.Refusal.{Refusal}
-use Rattle.models.specs.declared.model_kind.ModelKind.{ModelKind}
 use Rattle.models.specs.declared.operation.Op.{Op}
+use Rattle.kinds.specs.declared.model_kind.ModelKind.{ModelKind}
 use Rattle.events.specs.declared.event.Fault.{Fault}
 use Rattle.events.specs.Events.{marks}
 use Rattle.history.specs.WellFormed.{IsHistoryOf}

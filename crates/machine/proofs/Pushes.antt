@@ -8,7 +8,7 @@ use Rattle.history.proofs.ProcessRule.{is_history}
 use Rattle.linspec.specs.KeptMarks.{last_invocation, marks_made}
 use Rattle.linspec.specs.MarkRule.{MayFollow, AreWellFormed, IsKeyed}
 use Rattle.linspec.proofs.EventMarks.{last_invocation_from-push, entries_from-push}
-use Rattle.linspec.proofs.Fronts.{marks-append}
+use Rattle.linspec.proofs.Prefixes.{marks-append}
 use Rattle.linspec.proofs.Lists.{snoc_cut}
 use Rattle.linspec.proofs.Histories.{of_history}
 

@@ -3,11 +3,11 @@ use Rattle.std.proofs.Common.{◌≡◌, ◌↔◌, ℕ, zero, suc, ◌<◌, ⊎
 use Rattle.std.proofs.Math.Nat.{add-mul-mod_self_left, mod-eq_of_lt}
 use Rattle.std.proofs.lemmas.Bool.{ltb-true}
 use Rattle.std.proofs.lemmas.Option.{same_Some, slice_get-map}
-use Rattle.models.specs.declared.any_state.AnyState.{AnyState}
 use Rattle.models.specs.declared.operation.Op.{Op}
 use Rattle.models.specs.declared.finding.Found.{Found}
-use Rattle.models.specs.Objects.{table_of}
-use Rattle.models.specs.AnyState.{any}
+use Rattle.kinds.specs.declared.any_state.AnyState.{AnyState}
+use Rattle.kinds.specs.Kinds.{table_of}
+use Rattle.kinds.specs.AnyState.{any}
 use Rattle.processes.specs.MoveRule.{current_of, is_crash_on}
 use Rattle.events.specs.declared.event.Event.{Event}
 use Rattle.events.specs.Tables.{IsPart}

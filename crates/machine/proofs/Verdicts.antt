@@ -1,14 +1,14 @@
 -- A history that is linearizable is not Illegal, whatever keys are set aside
 use Rattle.std.proofs.Common.{ℕ, ⊎_elim, Bool, not, List, [], ◌∷◌, ◌++◌, sym, ap, subst}
 use Rattle.std.proofs.lemmas.Bool.{cases_Bool}
-use Rattle.models.specs.declared.model_kind.ModelKind.{ModelKind}
-use Rattle.models.specs.Objects.{object_of}
+use Rattle.kinds.specs.declared.model_kind.ModelKind.{ModelKind}
+use Rattle.kinds.specs.Kinds.{object_of}
 use Rattle.events.specs.Events.{Entry, marks, of_key}
 use Rattle.linspec.specs.Orders.{IsLinearizable, product}
 use Rattle.linspec.specs.MarkRule.{AreWellFormed, IsKeyed}
-use Rattle.linspec.specs.Verdicts.{IsVerdict, EndsShortestBadFront, set_aside}
+use Rattle.linspec.specs.Verdicts.{IsVerdict, EndsShortestBadPrefix, set_aside}
 use Rattle.linspec.specs.declared.verdict.Verdict.TheVariants.{Illegal}
-use Rattle.linspec.proofs.Fronts.{IsLinearizable-front}
+use Rattle.linspec.proofs.Prefixes.{IsLinearizable-front}
 use Rattle.linspec.proofs.Linearizable.{IsLinearizable-empty}
 use Rattle.locality.proofs.SetAside.{IsKeyed-filter, AreWellFormed-filter, of_key-kept, of_key-aside}
 use Rattle.locality.proofs.Locality.{IsLinearizable-keys}
@@ -29,7 +29,7 @@ module _ (kinds : ℕ → ModelKind) (entries : List Entry) (keyed : IsKeyed ent
   pub aside_linearizable : IsLinearizable (product kinds) (marks (set_aside blown entries))
   aside_linearizable = (IsLinearizable-keys kinds (set_aside blown entries) kept_keyed kept_well).1 each
 
-  pub no_bad_front : (last : Entry) → EndsShortestBadFront (product kinds) (set_aside blown entries) last → ⊥
+  pub no_bad_front : (last : Entry) → EndsShortestBadPrefix (product kinds) (set_aside blown entries) last → ⊥
   no_bad_front last bad =
       bad.bad (IsLinearizable-front (product kinds) (bad.before ++ last ∷ []) (set_aside blown entries) kept_well bad.front aside_linearizable)
 

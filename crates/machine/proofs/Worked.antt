@@ -1,8 +1,8 @@
 -- Worked trials happen
 use Rattle.std.proofs.Common.{ℕ, ℤ, inl, Option, Some, None, List, [], ◌∷◌, false, refl, arith}
 use Rattle.models.specs.declared.finding.Found.TheVariants.{Unit as Nothing}
-use Rattle.models.specs.declared.any_state.AnyState.TheVariants.{Register as OfRegister}
-use Rattle.models.specs.declared.model_kind.ModelKind.TheVariants.{Register, CasRegister, Mutex, FifoQueue, Set, UnorderedQueue, WideRegister, WideCasRegister, WideSet, WideFifoQueue, WideUnorderedQueue}
+use Rattle.kinds.specs.declared.any_state.AnyState.TheVariants.{Register as OfRegister}
+use Rattle.kinds.specs.declared.model_kind.ModelKind.TheVariants.{Register, CasRegister, Mutex, FifoQueue, Set, UnorderedQueue, WideRegister, WideCasRegister, WideSet, WideFifoQueue, WideUnorderedQueue}
 use Rattle.events.specs.declared.event.Event.{Event}
 use Rattle.events.specs.declared.event.Fault.TheVariants.{Pause, LoseReplies}
 use Rattle.test_store.specs.declared.held.Held.{Held}

@@ -5,7 +5,7 @@ use Rattle.models.specs.declared.operation.Name.TheVariants.{Write}
 use Rattle.models.specs.declared.operation.Part.TheVariants.{Int}
 use Rattle.models.specs.declared.finding.Found.TheVariants.{Unit as Nothing}
 use Rattle.models.specs.declared.finding.Answer.TheVariants.{Number}
-use Rattle.models.specs.declared.model_kind.ModelKind.TheVariants.{Register}
+use Rattle.kinds.specs.declared.model_kind.ModelKind.TheVariants.{Register}
 use Rattle.events.specs.declared.event.Fault.TheVariants.{Pause, LoseReplies}
 use Rattle.events.specs.Events.{Mark, marks}
 use Rattle.events.specs.Events.Mark.{Invoked, Returned, Failed, Crashed}

@@ -4,7 +4,7 @@ use Rattle.std.specs.List.{filter_map}
 use Rattle.edn.specs.declared.refusal.Refusal.{Refusal}
 use Rattle.edn.specs.declared.refusal.Refusal.TheVariants.{Busy, WrongProcess, NotOpen, HistoryFull, NoSuchIndex, BadBudget, TapeFull, Idle, NotServed, AlreadyServed, Stale}
 use Rattle.models.specs.declared.operation.Op.{Op}
-use Rattle.models.specs.declared.model_kind.ModelKind.{ModelKind}
+use Rattle.kinds.specs.declared.model_kind.ModelKind.{ModelKind}
 use Rattle.processes.specs.MoveRule.{current_of}
 use Rattle.events.specs.declared.event.Fault.{Fault}
 use Rattle.events.specs.declared.event.Event.{Event}

@@ -1,7 +1,8 @@
 //! Commands of a `Core`, and its replies.
 use events::{Event, Fault};
+use kinds::ModelKind;
 use linspec::Verdict;
-use models::{Key, ModelKind};
+use models::Key;
 use test_store::Outcome;
 
 /// The commands of the one-thread object.
@@ -30,7 +31,7 @@ pub enum Command {
 /// What it says.
 #[derive(Drop)]
 pub enum Reply {
-    /// The verdict on the history as it stands after the command.
+    /// The verdict on the history after the command.
     Verdict(Verdict),
     /// The ticket of the operation that was drawn, and the index of its invocation.
     Drawn { ticket: u32, index: u32 },

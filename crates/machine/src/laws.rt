@@ -19,10 +19,10 @@ ghost use Rattle.linspec.specs.JudgedHistory.{kind_of, entries_in, IsVerdictOn};
 ghost use Rattle.machine.specs.Machine.{Machine, Setup, opening, most_tickets, MayStep, Runs, serves_in, AreOfTrial};
 ghost use Rattle.machine.specs.Tickets.{served_of, StandsFor, IsAnswered, AreTickets};
 
-/// No false alarm. Whatever draws, serves, finishes, faults, budgets and questions lead there, refused ones among them, from an opening
-/// with a strict store, the history is linearizable (Herlihy and Wing 1990). This holds over all keys together: the serves that took place
-/// are a legal order of it. So no verdict on it is Illegal. `Core::step` of `harness` cites it, and so do the laws
-/// `no_false_alarm_on_a_tape` of `board` and `no_false_alarm_in_a_run` of `clients`.
+/// No false alarm. After an opening with a strict store and any draws, serves, finishes, faults, budgets and questions, also refused ones,
+/// the history is linearizable (Herlihy and Wing 1990). This holds over all keys together: the serves that took place are a legal order of
+/// it. So no verdict on it is Illegal. `Core::step` of `harness` cites this law, and so do the laws `no_false_alarm_on_a_tape` of `board`
+/// and `no_false_alarm_in_a_run` of `clients`.
 pub fn no_false_alarm()
     ensures order { (setup : Setup) (run : List (Command × Result Reply Refusal))
         (m : Machine) → setup.mode ≡ Strict → IsCount setup.replicas → AreOfTrial run
@@ -40,7 +40,7 @@ pub fn no_false_alarm()
         → ¬ IsVerdictOn m.judged (Verdict.Illegal key index) }
 {}
 
-/// A command has one outcome at most, and leads to one machine. The law `one_reply` of `scripts` rests on it.
+/// A command has one outcome at most, and leads to one machine. The law `one_reply` of `script_command` rests on it.
 pub fn one_step()
     ensures { (old new next : Machine) (command : Command) (outcome other : Result Reply Refusal)
         → MayStep old command outcome new → MayStep old command other next
@@ -72,9 +72,9 @@ pub fn counted_law()
         → length new.tickets ≤ most_tickets }
 {}
 
-/// Each ticket that is not stale stands for its invocation, and each can be completed as its serve came out: at the
-/// opening, and after each step. So an index is enough to know whether its operation is still open, and a completion of one
-/// that is open is well-formed wherever there is room. `harness` rests on it where it serves and finishes.
+/// At the opening and after each step, each ticket that is not stale has its invocation, and its operation can be completed by the outcome
+/// of its serve. So the index shows whether the operation is still open, and a completion of an open operation is well-formed if there is
+/// room. `harness` needs this law to serve and to finish.
 pub fn tickets_law()
     ensures opening { (c : ℕ) → AreTickets c [] [] }
     ensures step { (old new : Machine) (command : Command) (outcome : Result Reply Refusal)

@@ -1,9 +1,9 @@
 //! Laws of trials: a strict store raises no false alarm.
 ghost use Rattle.std.specs.Prelude.{ℕ, ℤ, List};
-ghost use Rattle.models.specs.declared.model_kind.ModelKind.{ModelKind};
 ghost use Rattle.models.specs.declared.operation.Op.{Op};
 ghost use Rattle.models.specs.declared.finding.Found.{Found};
-ghost use Rattle.models.specs.Objects.{object_of};
+ghost use Rattle.kinds.specs.declared.model_kind.ModelKind.{ModelKind};
+ghost use Rattle.kinds.specs.Kinds.{object_of};
 ghost use Rattle.events.specs.Events.{marks};
 ghost use Rattle.linspec.specs.Orders.{Taken, IsLegalOrder, IsLinearizable, product};
 ghost use Rattle.linspec.specs.declared.verdict.Verdict.{Verdict};
@@ -12,9 +12,9 @@ ghost use Rattle.test_store.specs.Store.{IsCount};
 ghost use Rattle.machine.specs.Trials.{Answers, Trial, Move, opening, Leads, serves_of, AreOfTickets, entries_in};
 ghost use Rattle.machine.specs.Examples.{IsDoneTrial, IsLostTrial, IsRefusedTrial};
 
-/// No false alarm. Whatever moves lead there from the opening, if the store is strict, the history is linearizable (Herlihy and Wing 1990),
-/// over all keys together. The serves that took place are a legal order of it. So no verdict on it is Illegal, with whatever budgets, and
-/// so with whatever keys set aside. The law [`no_false_alarm`](crate::no_false_alarm) says it of the one-thread object.
+/// No false alarm. If the store is strict, the history after any moves from the opening is linearizable (Herlihy and Wing 1990), over all
+/// keys together. The serves that took place are a legal order of it. So no verdict on it is Illegal, with any budgets, and so with any
+/// keys set aside. The law [`no_false_alarm`](crate::no_false_alarm) says the same of the one-thread object.
 pub fn no_trial_is_a_false_alarm()
     ensures order { (c n : ℕ) (kind : ModelKind) (moves : List Move) (m : Trial)
         → IsCount n → Leads (opening c n kind) moves m
@@ -37,8 +37,8 @@ pub fn answers_law()
         → (object_of kind).Steps s op found t → Answers op.name op.part found }
 {}
 
-/// There are trials: in one a write returns, in one its reply is lost, and in one it is refused. So what is said of all
-/// trials is said of some. No call rests on it.
+/// There are trials: in one a write returns, in one its reply is lost, and in one it is refused. So the laws of all trials are about some.
+/// No call depends on this law.
 pub fn trials_law()
     ensures done { (v : ℤ) → IsDoneTrial v }
     ensures lost { (v : ℤ) → IsLostTrial v }

@@ -1,6 +1,5 @@
--- no two outcomes of an operation in a state leave the same state
-use Rattle.std.proofs.Common.{◌≢◌, ◌↔◌, ◌<◌, ◌≤◌, ℕ, ℤ, IsTrue, Bool, true, false, if◌then◌else◌, Option, Some, List, [], ◌∷◌, length, sym, ap, arith}
-use Rattle.std.specs.List.{AllPairs}
+-- no two outcomes of an operation in a state leave the same state: most tables list one outcome at most
+use Rattle.std.proofs.Common.{◌↔◌, ◌<◌, ◌≤◌, ℕ, ℤ, IsTrue, Bool, true, false, if◌then◌else◌, Option, Some, List, [], ◌∷◌, length, sym, ap, arith}
 use Rattle.std.specs.Ordering.{int_eq}
 use Rattle.std.proofs.lemmas.Bool.{true≢false}
 use Rattle.models.specs.declared.operation.Name.{Name}
@@ -10,10 +9,7 @@ use Rattle.models.specs.declared.operation.Part.TheVariants.{Nil, Int, Pair}
 use Rattle.models.specs.declared.operation.Op.{Op}
 use Rattle.models.specs.declared.finding.Found.{Found}
 use Rattle.models.specs.declared.finding.Found.TheVariants.{Unit as Done}
-use Rattle.models.specs.declared.model_kind.ModelKind.{ModelKind}
-use Rattle.models.specs.declared.model_kind.ModelKind.TheVariants.{Register, CasRegister, Mutex, FifoQueue, Set as SetOfNumbers, UnorderedQueue, WideRegister, WideCasRegister, WideSet, WideFifoQueue, WideUnorderedQueue}
-use Rattle.models.specs.Objects.{AreApart, register_apply, cas_register_apply, mutex_apply, queue_apply, set_apply, table_of}
-use Rattle.models.proofs.Unordered.{unordered_apart}
+use Rattle.models.specs.Objects.{AreApart, register_apply, cas_register_apply, mutex_apply, queue_apply, set_apply}
 
 -- most tables have one outcome at most
 cas_at_most_one : (a : ℤ) (x : Option ℤ × Found) (same : Bool) → length (if same then x ∷ [] else []) ≤ 1
@@ -68,19 +64,3 @@ queue_alone op s most = at_most_one (queue_apply op.name op.part s) most (queue_
 
 pub set_alone : (op : Op) (s : List ℤ) (most : ℕ) → 1 ≤ most → AreFew most (set_apply op.name op.part s)
 set_alone op s most = at_most_one (set_apply op.name op.part s) most (set_at_most_one op.name op.part s)
-
-pub table_apart : (kind : ModelKind) (op : Op) (s : (table_of kind).State) → AreApart ((table_of kind).apply op s)
-table_apart Register op s = (register_alone op s 1 (omega arith)).1
-table_apart CasRegister op s = (cas_register_alone op s 1 (omega arith)).1
-table_apart Mutex op s = (mutex_alone op s 1 (omega arith)).1
-table_apart FifoQueue op s = (queue_alone op s 1 (omega arith)).1
-table_apart SetOfNumbers op s = (set_alone op s 1 (omega arith)).1
-table_apart UnorderedQueue op s = unordered_apart op.name op.part s
-table_apart WideRegister op s = (register_alone op s 1 (omega arith)).1
-table_apart WideCasRegister op s = (cas_register_alone op s 1 (omega arith)).1
-table_apart WideSet op s = (set_alone op s 1 (omega arith)).1
-table_apart WideFifoQueue op s = (queue_alone op s 1 (omega arith)).1
-table_apart WideUnorderedQueue op s = unordered_apart op.name op.part s
-
-pub none_listed_twice : (kind : ModelKind) (op : Op) (s : (table_of kind).State) → AllPairs (λ x y. x ≢ y) ((table_of kind).apply op s)
-none_listed_twice kind op s i j d lt fits e = table_apart kind op s i j d lt fits (ap (λ (x : (table_of kind).State × Found). x.0) e)

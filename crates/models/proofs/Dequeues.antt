@@ -4,7 +4,7 @@ use Rattle.std.proofs.lemmas.List.{map-append}
 use Rattle.models.specs.declared.finding.Found.TheVariants.{Item}
 use Rattle.values.specs.Multisets.{NeverFalls, without_one, values_of}
 use Rattle.models.specs.Objects.{taken_from}
-use Rattle.values.proofs.Firsts.{values_new, values_old, first_is_taken}
+use Rattle.values.proofs.Firsts.{values_new, first_is_taken}
 
 module _ (s : List ℤ) (at : ℕ) (d : ℤ) (fits : at < length s) (is : NeverFalls s) where
   -- a value that was not there
@@ -14,8 +14,3 @@ module _ (s : List ℤ) (at : ℕ) (d : ℤ) (fits : at < length s) (is : NeverF
         ap (taken_from s) (values_new s at d fits is new)
         ∙ map-append (λ w. (without_one w s, Item w)) (values_of (take at s)) (get_or s at d ∷ [])
         ∙ ap (λ r. taken_from s (values_of (take at s)) ++ (r, Item (get_or s at d)) ∷ []) (first_is_taken s at d fits is new)
-
-  -- one that was
-  module _ (p : ℕ) (before : p + 1 ≡ at) (equal : get_or s p d ≡ get_or s at d) where
-    pub taken_old : taken_from s (values_of (take (at + 1) s)) ≡ taken_from s (values_of (take at s))
-    taken_old = ap (taken_from s) (values_old s at d fits is p before equal)

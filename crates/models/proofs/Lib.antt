@@ -1,4 +1,3 @@
-pub mod AnyStates
 pub mod Dequeues
 pub mod Unordered
 pub mod Apart
@@ -6,4 +5,3 @@ pub mod Counting
 pub mod Steps
 pub mod Tables
 pub mod Fronts
-pub mod Crossing

@@ -12,8 +12,6 @@ use Rattle.models.specs.declared.finding.Found.{Found}
 use Rattle.models.specs.declared.finding.Found.TheVariants.{Unit as Done, Reg, Item, Elements}
 use Rattle.models.specs.declared.finding.Answer.{Answer}
 use Rattle.models.specs.declared.finding.Answer.TheVariants.{Nothing, Number, Numbers, Many}
-use Rattle.models.specs.declared.model_kind.ModelKind.{ModelKind}
-use Rattle.models.specs.declared.model_kind.ModelKind.TheVariants.{Register, CasRegister, Mutex, FifoQueue, Set as SetOfNumbers, UnorderedQueue, WideRegister, WideCasRegister, WideSet, WideFifoQueue, WideUnorderedQueue}
 use Rattle.values.specs.Members.{put_in}
 use Rattle.values.specs.Multisets.{with_one, without_one, values_of}
 
@@ -89,15 +87,14 @@ set_apply _ _ s = []
 abbrev pub taken_from : List ℤ → List ℤ → List (List ℤ × Found)
 taken_from s values = map (λ v. (without_one v s, Item v)) values
 
--- a queue without an order, its values ascending: enqueue v puts one v in. dequeue takes one of any value out and finds it, so it has one
--- outcome for each of the values, by ascending value
+-- a queue without an order, its values ascending: enqueue v puts one v in, dequeue takes one of any value out and finds it. So dequeue has one
+-- outcome for each value, by ascending value
 abbrev pub unordered_apply : Name → Part → List ℤ → List (List ℤ × Found)
 unordered_apply Enqueue (Int v) s = (with_one v s, Done) ∷ []
 unordered_apply Dequeue Nil s = taken_from s (values_of s)
 unordered_apply _ _ s = []
 
--- the tables of a register and of one with compare and set, which are nil at first, of a queue, of a queue without an order, and of a set,
--- which are empty
+-- the six tables. Registers are nil at first, a mutex is free, and queues and sets are empty
 abbrev pub register_table : Table
 register_table = record {
   State = Option ℤ;
@@ -110,6 +107,13 @@ cas_register_table = record {
   State = Option ℤ;
   start = None;
   apply = λ op s. cas_register_apply op.name op.part s;
+}
+
+abbrev pub mutex_table : Table
+mutex_table = record {
+  State = Bool;
+  start = false;
+  apply = λ op s. mutex_apply op.name op.part s;
 }
 
 abbrev pub queue_table : Table
@@ -133,45 +137,24 @@ set_table = record {
   apply = λ op s. set_apply op.name op.part s;
 }
 
--- the table of each kind. A mutex is free at first
-abbrev pub table_of : ModelKind → Table
-table_of Register = register_table
-table_of CasRegister = cas_register_table
-table_of Mutex = record {
-  State = Bool;
-  start = false;
-  apply = λ op s. mutex_apply op.name op.part s;
-}
-table_of FifoQueue = queue_table
-table_of SetOfNumbers = set_table
-table_of UnorderedQueue = unordered_table
-table_of WideRegister = register_table
-table_of WideCasRegister = cas_register_table
-table_of WideSet = set_table
-table_of WideFifoQueue = queue_table
-table_of WideUnorderedQueue = unordered_table
-
--- the object of each kind is that of its table. A wide kind has the table of its plain kind: only the count differs
-abbrev pub object_of : ModelKind → Object
-object_of kind = object_by (table_of kind)
-
+-- the object of each table
 abbrev pub register : Object
-register = object_of Register
+register = object_by register_table
 
 abbrev pub cas_register : Object
-cas_register = object_of CasRegister
+cas_register = object_by cas_register_table
 
 abbrev pub mutex : Object
-mutex = object_of Mutex
+mutex = object_by mutex_table
 
 abbrev pub fifo_queue : Object
-fifo_queue = object_of FifoQueue
+fifo_queue = object_by queue_table
 
 abbrev pub set_of_numbers : Object
-set_of_numbers = object_of SetOfNumbers
+set_of_numbers = object_by set_table
 
 abbrev pub unordered_queue : Object
-unordered_queue = object_of UnorderedQueue
+unordered_queue = object_by unordered_table
 
 -- the value that was found agrees with the answer. A register answers its state, or nil, which says nothing. A queue answers the item that
 -- was taken out alone, and a set its members alone. An operation that finds nothing agrees with every answer

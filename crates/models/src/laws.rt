@@ -1,27 +1,16 @@
 //! Laws that show that the tables say what they should.
-ghost use Rattle.std.specs.Prelude.{◌≡◌, ◌≢◌, ◌↔◌, ◌+◌, ℕ, ℤ, Bool, Some, Option, List, [], ◌++◌, map};
-ghost use Rattle.std.specs.List.{AllPairs, Contains};
+ghost use Rattle.std.specs.Prelude.{◌≡◌, ◌↔◌, ◌+◌, ℕ, ℤ, Bool, Some, Option, List, [], ◌++◌, map};
+ghost use Rattle.std.specs.List.{Contains};
 ghost use Rattle.std.specs.List.Sorted.{IsPermutation};
 ghost use Rattle.models.specs.declared.operation.Name.TheVariants.{Acquire, Cas, Dequeue};
 ghost use Rattle.models.specs.declared.operation.Op.{Op};
 ghost use Rattle.models.specs.declared.operation.Part.TheVariants.{Nil, Pair};
 ghost use Rattle.models.specs.declared.finding.Found.{Found};
 ghost use Rattle.models.specs.declared.finding.Found.TheVariants.{Unit as Done, Item};
-ghost use Rattle.models.specs.declared.model_kind.ModelKind.{ModelKind};
-ghost use Rattle.models.specs.declared.any_state.AnyState.{AnyState};
-ghost use Rattle.models.specs.AnyState.{any, kind_of_state};
 ghost use Rattle.values.specs.Multisets.{without_one};
-ghost use Rattle.models.specs.Objects.{IsOneOf, AreApart, cas_register_apply, mutex_apply, unordered_apply};
-ghost use Rattle.models.specs.Objects.{fifo_queue, unordered_queue, object_of, table_of};
+ghost use Rattle.models.specs.Objects.{IsOneOf, cas_register_apply, mutex_apply, unordered_apply};
+ghost use Rattle.models.specs.Objects.{fifo_queue, unordered_queue};
 ghost use Rattle.models.specs.Runs.{Runs, enqueued, dequeued, times_enqueued, times_dequeued, times_in};
-
-/// No table lists an outcome twice; and the outcomes of an operation in a state leave different states.
-pub fn table_law()
-    ensures once { (kind : ModelKind) (op : Op) (s : (table_of kind).State) →
-        AllPairs (λ x y. x ≢ y) ((table_of kind).apply op s) }
-    ensures apart { (kind : ModelKind) (op : Op) (s : (table_of kind).State) →
-        AreApart ((table_of kind).apply op s) }
-{}
 
 /// A cas takes place just where the state is its first value, and leaves its second.
 pub fn cas_law()
@@ -42,9 +31,9 @@ pub fn queue_law()
         Runs fifo_queue [] (map (enqueued key) values ++ map (dequeued key) values) [] }
 {}
 
-/// A queue without an order gives each value back as often as it was put in, and no more often. At every moment the enqueued values are
-/// those that dequeues have found and those that are still in. In which order it was enqueued does not matter: dequeues may find the values
-/// in any order. And a dequeue finds any value that is in, and takes one of it out.
+/// A queue without an order gives each value back as often as it was enqueued. At every moment the enqueued values are the values that
+/// dequeues have found and the values that are still in. Dequeues may find the values in any order. A dequeue finds any value that is in,
+/// and removes it once.
 pub fn unordered_queue_law()
     ensures each_once { (steps : List (Op × Found)) (t : List ℤ) (v : ℤ) →
         Runs unordered_queue [] steps t
@@ -54,12 +43,4 @@ pub fn unordered_queue_law()
     ensures any_value { (s t : List ℤ) (found : Found) →
         IsOneOf (unordered_apply Dequeue Nil s) (t, found)
         ↔ ((v : ℤ) × Contains s v × (t ≡ without_one v s) × (found ≡ Item v)) }
-{}
-
-/// Each state of any kind is a state of its own kind, and of no other.
-pub fn any_state_law()
-    ensures own { (a : AnyState) →
-        (s : (object_of (kind_of_state a)).State) × (a ≡ any (kind_of_state a) s) }
-    ensures alone { (kind : ModelKind) (s : (object_of kind).State) →
-        kind_of_state (any kind s) ≡ kind }
 {}

@@ -24,7 +24,7 @@ use Rattle.monitor.proofs.KeyPlaces.{rows_by, row_at, key_back, keys_of-rows_by,
 use Rattle.monitor.proofs.RowsAfter.{others_keep, rows_fault, rows_push, rows_first, rows_first_kept, rows_cut}
 use Rattle.monitor.proofs.Statuses.{JoinsWith, BadKeysDecide, joins_push, joins_set}
 use Rattle.history.proofs.Kept.{history-push}
-use Rattle.history.proofs.Fronts.{history-take}
+use Rattle.history.proofs.Prefixes.{history-take}
 
 abbrev pub JudgingLaw : Type 0
 JudgingLaw = (h : JudgedHistory) (rows : List (ℕ × KeyHistory)) (v : Verdict) → IsHistoryOf h.concurrency h.events → rows ≡ rows_of h → JoinsRows rows v → IsJudged h rows v

@@ -3,7 +3,7 @@ use denote.Param.Send.{IsSend, IsSync, sendable}
 use Rattle.std.proofs.Crossing.{crosses}
 use Rattle.history.proofs.history.History.TheSendSync as history
 use Rattle.indexmap.proofs.map.IndexMap.TheSendSync as map
-use Rattle.models.proofs.model_kind.ModelKind.TheSendSync as kind
+use Rattle.kinds.proofs.model_kind.ModelKind.TheSendSync as kind
 use Rattle.linspec.proofs.verdict.Verdict.TheSendSync as verdict
 use Rattle.checkpoints.proofs.Crossing.{line_send, line_sync}
 use Rattle.monitor.proofs.settings.Settings.TheSendSync as settings

@@ -1,6 +1,6 @@
 -- the join of how the keys stand is the verdict
 use Rattle.std.proofs.Common.{◌≡◌, ℕ, List, map, All, refl, subst}
-use Rattle.models.specs.declared.model_kind.ModelKind.{ModelKind}
+use Rattle.kinds.specs.declared.model_kind.ModelKind.{ModelKind}
 use Rattle.events.specs.declared.event.Event.{Event}
 use Rattle.events.specs.Events.{Entry, entries_of, indexed_from}
 use Rattle.history.specs.WellFormed.{IsHistoryOf}
@@ -11,7 +11,7 @@ use Rattle.linspec.specs.KeyHistory.{IsStatusOf}
 use Rattle.linspec.specs.JudgedHistory.{JudgedHistory, IsVerdictOn, kind_of, budget_of, entries_in, keys_in_order, history_of_key}
 use Rattle.monitor.specs.Judged.{IsJudged, rows_of}
 use Rattle.monitor.proofs.Changes.{JudgingLaw}
-use Rattle.monitor.proofs.FrontVerdicts.{has_join, statuses_of_rows}
+use Rattle.monitor.proofs.PrefixVerdicts.{has_join, statuses_of_rows}
 
 pub verdict_joins : JudgingLaw
     → ((kinds : ℕ → ModelKind) (budgets : ℕ → ℕ) (entries : List Entry) (v w : Verdict) → IsRising entries → IsVerdict kinds budgets entries v → IsVerdict kinds budgets entries w → v ≡ w)

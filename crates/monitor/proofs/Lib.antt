@@ -6,12 +6,12 @@ pub mod Changing
 pub mod Committing
 pub mod Cutting
 pub mod EachOnce
-pub mod FrontVerdicts
+pub mod PrefixVerdicts
 pub mod JoinOf
 pub mod Joins
 pub mod KeyPlaces
 pub mod KeyedEvents
-pub mod Lent
+pub mod Borrowed
 pub mod LoadedLines
 pub mod Opening
 pub mod PiecesOf

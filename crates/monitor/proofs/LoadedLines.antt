@@ -5,7 +5,7 @@ use Rattle.std.specs.Map.{keys_of}
 use Rattle.std.proofs.lemmas.Grind.{common_steps}
 use Rattle.std.proofs.lemmas.List.{take-map, take_more, length-map, length-take-le, get_or-map}
 use Rattle.std.proofs.lemmas.Map.Made.{keys_of-map_values}
-use Rattle.models.specs.declared.model_kind.ModelKind.{ModelKind}
+use Rattle.kinds.specs.declared.model_kind.ModelKind.{ModelKind}
 use Rattle.events.specs.declared.event.Event.{Event}
 use Rattle.events.specs.Events.{key_of}
 use Rattle.history.specs.WellFormed.{IsHistoryOf}

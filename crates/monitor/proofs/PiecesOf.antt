@@ -5,7 +5,7 @@ use Rattle.std.proofs.lemmas.List.{map-append, take_more, length-take-le}
 use Rattle.std.specs.Map.{keys_of}
 use Rattle.std.proofs.lemmas.Option.{same_Some, slice_get-map}
 use Rattle.indexmap.specs.Layout.{set_value_at}
-use Rattle.models.specs.declared.model_kind.ModelKind.{ModelKind}
+use Rattle.kinds.specs.declared.model_kind.ModelKind.{ModelKind}
 use Rattle.events.specs.declared.event.Event.{Event}
 use Rattle.events.specs.Events.{key_of, indexed_from, events_of_key}
 use Rattle.events.specs.ProcessRule.{IsHistory}
@@ -18,7 +18,7 @@ use Rattle.monitor.specs.Loading.{alone, rows_of_pieces}
 use Rattle.monitor.proofs.KeyPlaces.{keys_of-rows_by, row_at, position_none}
 use Rattle.monitor.proofs.KeyedEvents.{events-none}
 use Rattle.monitor.proofs.RowsAfter.{rows_fault, rows_push, rows_first}
-use Rattle.history.proofs.Fronts.{history-take}
+use Rattle.history.proofs.Prefixes.{history-take}
 use Rattle.monitor.proofs.Verdicts.{follows as next_of_key}
 
 abbrev pub as_piece : ℕ × KeyHistory → ℕ × PieceView

@@ -6,7 +6,7 @@ use Rattle.std.specs.List.{filter, position}
 use Rattle.std.specs.Map.{keys_of}
 use Rattle.std.proofs.lemmas.List.{length_push}
 use Rattle.indexmap.specs.Layout.{set_value_at}
-use Rattle.models.specs.declared.model_kind.ModelKind.{ModelKind}
+use Rattle.kinds.specs.declared.model_kind.ModelKind.{ModelKind}
 use Rattle.events.specs.declared.event.Event.{Event}
 use Rattle.events.specs.Events.{key_of}
 use Rattle.events.specs.ProcessRule.{IsHistory}

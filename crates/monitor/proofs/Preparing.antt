@@ -8,8 +8,8 @@ use Rattle.events.specs.declared.event.Event.{Event}
 use Rattle.linspec.specs.declared.verdict.KeyStatus.{KeyStatus}
 use Rattle.linspec.specs.KeyHistory.{KeyHistory, IsStatusOf}
 use Rattle.checkpoints.specs.KeyLineView.{KeyLineView, at_rest, with_next}
-use Rattle.checkpoints.specs.Lent.{AreLentBy}
-use Rattle.monitor.specs.Rows.{LinesView, nows, change_at, without_next, AreRowsLentBy, PreparesAt}
+use Rattle.checkpoints.specs.Borrowed.{AreBorrowedBy}
+use Rattle.monitor.specs.Rows.{LinesView, nows, change_at, without_next, AreRowsBorrowedBy, PreparesAt}
 use Rattle.monitor.proofs.Changing.{written}
 use Rattle.monitor.proofs.Places.{same_written, map_written}
 use Rattle.monitor.proofs.Joins.{now_read}
@@ -38,8 +38,8 @@ module _ {es : List (ℕ × KeyLineView)} (old : LinesView) (seen : es ≡ old.r
   changed f = ap (λ l. set_value_at l place (f line)) seen ∙ written f old.rows place row_at.0 line row_at.1
 
   -- it borrows its events if all are there
-  pub line_lent : (lent : List Event) → AreRowsLentBy lent (nows old.rows) → AreLentBy lent line.now.events
-  line_lent lent are = subst (λ (o : Option (ℕ × KeyHistory)). IfSome o (λ row. AreLentBy lent row.1.events)) (now_read old.rows place row_at.0 line row_at.1) (are place)
+  pub line_borrowed : (borrowed : List Event) → AreRowsBorrowedBy borrowed (nows old.rows) → AreBorrowedBy borrowed line.now.events
+  line_borrowed borrowed are = subst (λ (o : Option (ℕ × KeyHistory)). IfSome o (λ row. AreBorrowedBy borrowed row.1.events)) (now_read old.rows place row_at.0 line row_at.1) (are place)
 
   pub prepared_at : {E : Type 0} {r : Result KeyStatus E} {change : KeyHistory → KeyHistory} {due : KeyHistory → ℕ} {new : LinesView} (after : KeyLineView)
       → new.rows ≡ set_value_at es place after → old.room ≤ new.room → IfOk r (IsStatusOf (change line.now)) → OnOk r (after ≡ with_next (change line.now) (due line.now) line)

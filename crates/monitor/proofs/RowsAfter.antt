@@ -6,7 +6,7 @@ use Rattle.std.proofs.lemmas.List.{take-append-drop, map-append, append-nil}
 use Rattle.std.proofs.Math.Seq.{take-append_seam}
 use Rattle.std.proofs.lemmas.List.Elements.{filter-append, filter_map-append}
 use Rattle.indexmap.specs.Layout.{set_value_at}
-use Rattle.models.specs.declared.model_kind.ModelKind.{ModelKind}
+use Rattle.kinds.specs.declared.model_kind.ModelKind.{ModelKind}
 use Rattle.events.specs.declared.event.Event.{Event}
 use Rattle.events.specs.Events.{key_of, indexed_from, is_event_of, events_of_key}
 use Rattle.linspec.proofs.Filters.{filter-all, filter-none, from_filter, from_map}

@@ -1,7 +1,7 @@
 -- the joined status of the keys is the verdict
 use Rattle.std.proofs.Common.{◌≡◌, ◌≢◌, ℕ, Some, List, [], ◌∷◌, ◌++◌, length, sym, ap, ◌∙◌, subst}
 use Rattle.std.specs.List.{Contains, filter_map}
-use Rattle.models.specs.declared.model_kind.ModelKind.{ModelKind}
+use Rattle.kinds.specs.declared.model_kind.ModelKind.{ModelKind}
 use Rattle.events.specs.declared.event.Event.{Event}
 use Rattle.events.specs.Events.{Entry, key_of, marks, of_key, entries_of, indexed_from, events_of_key}
 use Rattle.events.specs.ProcessRule.{IsHistory}

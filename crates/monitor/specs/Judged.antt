@@ -1,7 +1,7 @@
 -- Promise and invariant: how the rows of the lines, which public clauses cite, and the verdict follow from the judged history
 use Rattle.std.specs.Prelude.{◌≡◌, ℕ, Option, Some, None, List, map, slice_get}
 use Rattle.indexmap.specs.Layout.{set_value_at}
-use Rattle.models.specs.declared.model_kind.ModelKind.{ModelKind}
+use Rattle.kinds.specs.declared.model_kind.ModelKind.{ModelKind}
 use Rattle.history.specs.WellFormed.{IsHistoryOf}
 use Rattle.linspec.specs.declared.verdict.Verdict.{Verdict}
 use Rattle.linspec.specs.KeyHistory.{KeyHistory, judged_by}

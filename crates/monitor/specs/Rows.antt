@@ -7,7 +7,7 @@ use Rattle.linspec.specs.declared.verdict.Verdict.{Verdict}
 use Rattle.linspec.specs.Verdicts.{IsJoin}
 use Rattle.linspec.specs.KeyHistory.{KeyHistory, IsStatusOf, cut_at, begins_below, loses_at}
 use Rattle.checkpoints.specs.KeyLineView.{KeyLineView, at_rest, with_next, replays_at, count_on}
-use Rattle.checkpoints.specs.Lent.{AreLentBy}
+use Rattle.checkpoints.specs.Borrowed.{AreBorrowedBy}
 
 -- a row for each key: the key and its line; and the room for more
 pub record LinesView : Type 0 where
@@ -33,8 +33,8 @@ abbrev pub JoinsRows : List (ℕ × KeyHistory) → Verdict → Type 0
 JoinsRows rows v = (statuses : List (ℕ × KeyStatus)) × AreStatusesOf rows statuses × IsJoin statuses v
 
 -- the borrowed list has the events of each row
-abbrev pub AreRowsLentBy : List Event → List (ℕ × KeyHistory) → Type 0
-AreRowsLentBy lent rows = (place : ℕ) → IfSome (slice_get rows place) (λ row. AreLentBy lent row.1.events)
+abbrev pub AreRowsBorrowedBy : List Event → List (ℕ × KeyHistory) → Type 0
+AreRowsBorrowedBy borrowed rows = (place : ℕ) → IfSome (slice_get rows place) (λ row. AreBorrowedBy borrowed row.1.events)
 
 -- how many events of all these keys a cut at n judges again; and those of the keys that lose events by it
 abbrev pub replays_in : ℕ → List (ℕ × KeyHistory) → ℕ

@@ -1,7 +1,7 @@
 -- Invariant: the settings of keys
 use Rattle.std.specs.Prelude.{ℕ, List, nat_eq}
 use Rattle.indexmap.specs.IndexMap.{insert_entry}
-use Rattle.models.specs.declared.model_kind.ModelKind.{ModelKind}
+use Rattle.kinds.specs.declared.model_kind.ModelKind.{ModelKind}
 use Rattle.linspec.specs.JudgedHistory.{JudgedHistory}
 use Rattle.monitor.specs.declared.settings.Setting.{Setting}
 use Rattle.monitor.specs.declared.settings.Setting.TheVariants.{Kind, Budget}

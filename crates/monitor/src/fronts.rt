@@ -14,8 +14,8 @@ use history::process_rule_law;
 use linspec::laws::history_law;
 use locality::laws::join_law;
 
-/// A history of which it is known how each key stands in the end has a verdict at each length. A key that is alive was so all along, and
-/// one that is dead was alive until its index. One that is over its budget had a legal order just before its index, and so before that.
+/// If the final status of each key is known, the history has a verdict at each length. A key that is alive at the end was alive at each
+/// length. A key that is dead was alive before its index. A key that is over its budget had a legal order at each length before its index.
 pub fn some_verdict_law()
     ensures { (h : JudgedHistory) (statuses : List (ℕ × KeyStatus)) (n : ℕ) →
         IsHistoryOf h.concurrency h.events
@@ -24,11 +24,11 @@ pub fn some_verdict_law()
         → (v : Verdict) × IsVerdictOn (rewound n h) v }
 {
     judging_law();
-    judged_fronts_law();
+    judged_prefixes_law();
 }
 
 /// A history that was judged has a verdict at each length.
-pub(crate) fn judged_fronts_law()
+pub(crate) fn judged_prefixes_law()
     ensures { (h : JudgedHistory) (rows : List (ℕ × KeyHistory)) (v : Verdict) (n : ℕ) →
         IsJudged h rows v → (w : Verdict) × IsVerdictOn (rewound n h) w }
 {

@@ -11,9 +11,9 @@ ghost use Rattle.linspec.specs.JudgedHistory.{JudgedHistory, IsVerdictOn, keys_i
 use crate::laws::judging_law;
 use linspec::laws::{one_answer_law, places_rise};
 
-/// The verdict on a history joins how its keys stand: the least index at which a key is dead, else the least at which one is
-/// over its budget, else legal. So whoever knows how each key with events stands, in the order of first events, knows the
-/// verdict from scratch, and the other way round.
+/// The verdict on a history is the join of the statuses of its keys. It is illegal at the least index at which a key is dead, else unknown at
+/// the least index at which a key is over its budget, else legal. So the statuses of the keys with events, in the order of first events,
+/// determine the verdict from scratch.
 pub fn verdict_joins_law()
     ensures { (h : JudgedHistory) (statuses : List (ℕ × KeyStatus)) (v : Verdict) →
         IsHistoryOf h.concurrency h.events

@@ -1,12 +1,12 @@
 //! The live verdict on a history of many keys, each with its own kind of object and its own budget.
 //!
-//! An event is taken or refused by the history, and goes to the line of its key alone; the verdict joins how the lines stand. So an
-//! event costs what it costs its key, whatever the number of keys. A rewind drops the lines of the keys that lose all their events,
-//! and cuts every other one; the cut of a line that loses none copies nothing and judges nothing. Another kind or budget has the
-//! line of its key judged again; it is kept for a key without events too, and outlives a rewind. A history that is there already is
-//! loaded at once, its keys judged by workers.
+//! The history takes or refuses an event, and only the line of the event's key gets it. The verdict is the join of the statuses of all
+//! lines. So an event costs what it costs its key, for any number of keys. A rewind drops the lines of the keys that lose all their events,
+//! and cuts the other lines; the cut of a line that loses no event copies nothing and judges nothing. After another kind or budget the line
+//! of the key is judged again. These settings are kept for a key without events too, and outlive a rewind. A whole history is loaded at
+//! once, and workers judge its keys.
 //!
-//! A function whose name ends in `_law` does nothing when it runs: its call hands the prover what its clause says.
+//! A function whose name ends in `_law` does nothing when it runs. The prover uses its clause where it is called.
 //!
 //! A call allocates only if its result can be `AllocError`, or a refusal because memory ran out.
 #![tactic(auto)]

@@ -4,15 +4,15 @@ ghost use Rattle.events.specs.declared.event.Event.{Event};
 ghost use Rattle.events.specs.ProcessRule.{IsHistory};
 ghost use Rattle.linspec.specs.KeyHistory.{KeyHistory, with_pushed, without_events};
 ghost use Rattle.checkpoints.specs.KeyLineView.{at_rest, count_on};
-ghost use Rattle.monitor.specs.Rows.{nows, events_at, JoinsRows, AreRowsLentBy};
+ghost use Rattle.monitor.specs.Rows.{nows, events_at, JoinsRows, AreRowsBorrowedBy};
 ghost use Rattle.monitor.specs.Judged.{AreRowsWith, IsRebuilt};
 
 use crate::lines::Lines;
 use checkpoints::KeyLine;
 use events::Event;
 use history::History;
+use kinds::ModelKind;
 use linspec::Verdict;
-use models::ModelKind;
 use std::alloc::{AllocError, Global};
 
 /// The event that is prepared to come next in a history.
@@ -44,18 +44,18 @@ pub(crate) fn first_line(
     Ok(Box::new(alloc, line)?)
 }
 
-/// Prepares that the key with the line at this place, if there is one, is judged by this kind and budget. `lent` has all events. Gives the
-/// verdict that joins how the keys then stand, where this one joins how they stand now. Each event that is judged again is counted.
+/// Prepares to judge the key with the line at this place, if there is one, by this kind and budget. `borrowed` has all events. Returns the
+/// join of the statuses after the change; `verdict` is the join of the present statuses. Each event that is judged again is counted.
 pub(crate) fn prepare_rebuild(
     lines: &mut Lines,
     verdict: Verdict,
     place: Option<usize>,
     kind: ModelKind,
     budget: u32,
-    lent: &[Event],
+    borrowed: &[Event],
     judged_again: &mut u64,
 ) -> Result<Verdict, AllocError>
-    requires lent { AreRowsLentBy lent.now (nows lines.old.rows) }
+    requires borrowed { AreRowsBorrowedBy borrowed.now (nows lines.old.rows) }
     requires within { IfSome place (λ place. place < length lines.old.rows) }
     requires joined { JoinsRows (nows lines.old.rows) verdict }
     ensures rebuilt { IfOk result (IsRebuilt kind budget place lines.old lines.new) }
@@ -68,7 +68,7 @@ pub(crate) fn prepare_rebuild(
     let Some(place) = place else {
         return Ok(verdict);
     };
-    let status = lines.prepare_rebuild(place, kind, budget, lent)?;
+    let status = lines.prepare_rebuild(place, kind, budget, borrowed)?;
     *judged_again = judged_again.saturating_add(lines.key_and_line(place).1.prepared_replays());
     Ok(lines.joined_with(place, status))
 }

@@ -3,20 +3,20 @@ ghost use Rattle.std.specs.Prelude.{◌≡◌, ◌<◌, ◌≤◌, [], ◌∷◌
 ghost use Rattle.std.specs.List.{filter};
 ghost use Rattle.std.specs.Map.{keys_of};
 ghost use Rattle.indexmap.specs.Layout.{set_value_at};
-ghost use Rattle.models.specs.declared.model_kind.ModelKind.{ModelKind};
+ghost use Rattle.kinds.specs.declared.model_kind.ModelKind.{ModelKind};
 ghost use Rattle.events.specs.ProcessRule.{IsHistory};
 ghost use Rattle.linspec.specs.KeyHistory.{KeyHistory, IsStatusOf, with_pushed, judged_by, cut_at, begins_below};
-ghost use Rattle.checkpoints.specs.KeyLineView.{at_rest, with_next, replays_at, count_on};
-ghost use Rattle.checkpoints.specs.Lent.{AreLentBy};
-ghost use Rattle.monitor.specs.Rows.{nows, cut_rows, change_at, each_line, with_cut, cut_done, without_next, replays_in, JoinsRows, AreRowsLentBy, AreCutAt, PreparesAt};
+ghost use Rattle.checkpoints.specs.KeyLineView.{at_rest, replays_at, count_on};
+ghost use Rattle.monitor.specs.Rows.{nows, cut_rows, change_at, each_line, with_cut, cut_done, without_next, replays_in, JoinsRows, AreRowsBorrowedBy, AreCutAt, PreparesAt};
 
 use checkpoints::KeyLine;
 use events::Event;
 use indexmap::IndexMap;
+use kinds::ModelKind;
 use linspec::{KeyStatus, Verdict};
 use locality::join_with;
 use locality::laws::no_keys_law;
-use models::{Key, ModelKind};
+use models::Key;
 use std::alloc::{AllocError, Global};
 use std::marker::Model;
 
@@ -99,29 +99,29 @@ impl Lines {
         place: usize,
         kind: ModelKind,
         budget: u32,
-        lent: &[Event],
+        borrowed: &[Event],
     ) -> Result<KeyStatus, AllocError>
         requires within { place < length self.old.rows }
-        requires lent { AreRowsLentBy lent.now (nows self.old.rows) }
+        requires borrowed { AreRowsBorrowedBy borrowed.now (nows self.old.rows) }
         ensures { PreparesAt place (judged_by kind budget) (λ h. length h.events)
             self.old self.new result }
     {
         match self.map.get_index_mut(place) {
-            Some(line) => line.prepare_rebuild(kind, budget, lent),
+            Some(line) => line.prepare_rebuild(kind, budget, borrowed),
             None => unreachable!(),
         }
     }
 
-    /// Prepares a cut at `n` of each line that has an event before `n`. `lent` has all events. Gives the number of these lines, and the
-    /// verdict that joins how they then stand. It costs O(lines), and a cut of those that lose events. Each event that is judged again is
-    /// counted. `AllocError` if memory was refused: then no line has anything prepared.
+    /// Prepares a cut at `n` of each line that has an event before `n`. `borrowed` has all events. Returns the number of these lines, and
+    /// the join of their statuses after the cut. Costs O(lines), and a cut of each line that loses events. Each event that is judged again
+    /// is counted. `AllocError` if there is no memory: then no line has a prepared change.
     pub fn prepare_cut(
         &mut self,
         n: u32,
-        lent: &[Event],
+        borrowed: &[Event],
         judged_again: &mut u64,
     ) -> Result<(usize, Verdict), AllocError>
-        requires { AreRowsLentBy lent.now (nows self.old.rows) }
+        requires { AreRowsBorrowedBy borrowed.now (nows self.old.rows) }
         ensures kept_lines { IfOk result (λ cut.
             cut.0 ≡ length (filter (λ row. begins_below n row.1) (nows self.old.rows))) }
         ensures verdict { IfOk result (λ cut.
@@ -144,7 +144,7 @@ impl Lines {
             if !line.begins_below(n) {
                 continue;
             }
-            let Ok(status) = self.prepare_line_cut(place, n, lent) else {
+            let Ok(status) = self.prepare_line_cut(place, n, borrowed) else {
                 self.drop_prepared();
                 return Err(AllocError);
             };
@@ -157,8 +157,7 @@ impl Lines {
         Ok((kept, verdict))
     }
 
-    /// The verdict that joins how the keys stand, where the one at a place stands so. It takes no memory, and the time of all
-    /// lines.
+    /// The join of the statuses of all keys, with `status` for the key at `place`. Costs O(lines), and no memory.
     pub fn joined_with(&self, place: usize, status: KeyStatus) -> Verdict
         ensures { (next : KeyHistory) → IsStatusOf next status
             → JoinsRows (set_value_at (nows self.now.rows) place next) result }
@@ -246,14 +245,14 @@ impl Lines {
         &mut self,
         place: usize,
         n: u32,
-        lent: &[Event],
+        borrowed: &[Event],
     ) -> Result<KeyStatus, AllocError>
         requires within { place < length self.old.rows }
-        requires lent { AreRowsLentBy lent.now (nows self.old.rows) }
+        requires borrowed { AreRowsBorrowedBy borrowed.now (nows self.old.rows) }
         ensures { PreparesAt place (cut_at n) (replays_at n) self.old self.new result }
     {
         match self.map.get_index_mut(place) {
-            Some(line) => line.prepare_cut(n, lent),
+            Some(line) => line.prepare_cut(n, borrowed),
             None => unreachable!(),
         }
     }

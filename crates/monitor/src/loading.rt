@@ -1,6 +1,5 @@
 //! The monitor of a history that is there already.
-ghost use Rattle.std.specs.Prelude.{◌≡◌, ◌≢◌, ◌<◌, ◌≤◌, None, Some, [], ◌∷◌, ◌++◌, length, map, nat_eq, position, slice_get, OnOk, IfOk, IfErr};
-ghost use Rattle.std.specs.Map.{keys_of};
+ghost use Rattle.std.specs.Prelude.{◌≡◌, ◌≢◌, ◌<◌, ◌≤◌, map, OnOk, IfOk, IfErr};
 ghost use Rattle.linspec.specs.Orders.{Pairwise};
 ghost use Rattle.parallel_recheck.specs.Pieces.{line_of};
 ghost use Rattle.linspec.specs.JudgedHistory.{IsBudget, opening_of};
@@ -16,10 +15,11 @@ use crate::pieces::pieces_from;
 use checkpoints::KeyLine;
 use edn::{Gate, Refusal};
 use history::History;
+use kinds::ModelKind;
 use linspec::Verdict;
 use locality::join_with;
 use locality::laws::no_keys_law;
-use models::{Key, ModelKind};
+use models::Key;
 use parallel_recheck::{KeyEvents, recheck};
 use std::alloc::{AllocError, Global};
 use std::thread::Threads;
@@ -79,7 +79,7 @@ fn judged<R: Threads + Sync, G: Gate + Sync>(
     joined(alloc, pieces, lines)
 }
 
-// The lines of these pieces, each once, under their keys, and the verdict that joins how they stand.
+// The lines of these pieces by their keys, each once, and the join of their statuses.
 fn joined(
     alloc: Global,
     pieces: &[KeyEvents],

@@ -11,7 +11,7 @@ ghost use Rattle.monitor.specs.Judged.{rows_of, IsJudged};
 ghost use Rattle.monitor.specs.Loading.{with_all};
 ghost use Rattle.monitor.specs.Settings.{with_setting};
 
-use crate::fronts::judged_fronts_law;
+use crate::fronts::judged_prefixes_law;
 use crate::laws::{judging_law, next_event_law};
 use crate::line_changes::{commit_line, first_line, next_event, prepare_rebuild};
 use crate::lines::Lines;
@@ -21,10 +21,11 @@ use checkpoints::laws::final_status_law;
 use edn::Refusal;
 use events::Event;
 use history::History;
+use kinds::ModelKind;
 use linspec::{KeyStatus, Verdict};
 use locality::join_with;
 use locality::laws::{bad_keys_law, no_keys_law};
-use models::{Key, ModelKind};
+use models::Key;
 use std::alloc::{AllocError, Global};
 use std::marker::Model;
 
@@ -70,7 +71,7 @@ enum Change {
 /// A key has the default kind and budget until another is set for it. The settings of a key without events are kept too, and outlive a
 /// rewind.
 ///
-/// Each change is prepared, which may fail and changes nothing but what is prepared, and then committed. A change that was prepared before
+/// Each change is prepared and then committed. A prepare may fail, and changes only the prepared change. A change that was prepared before
 /// is dropped.
 pub struct Monitor {
     alloc: Global,
@@ -159,8 +160,8 @@ impl Monitor {
         }
     }
 
-    /// Prepares to append an event, and gives the verdict that [`commit`](Self::commit) will bring. It costs what the
-    /// event's own key costs (see [`KeyLine::prepare_push`]), whatever the number of keys.
+    /// Prepares to append an event, and returns the verdict after [`commit`](Self::commit). Costs [`KeyLine::prepare_push`] for the event's
+    /// own key, for any number of keys.
     ///
     /// # Errors
     /// The refusals of [`History::prepare_push`], in their order: [`Refusal::NoMemory`] last. Then nothing is prepared.
@@ -352,7 +353,7 @@ impl Monitor {
         Ok(verdict)
     }
 
-    /// The verdict on the history as it stands. Takes constant time.
+    /// The verdict on the present history. Takes constant time.
     pub fn verdict(&self) -> Verdict
         ensures { IsVerdictOn self.now.now result }
     {
@@ -363,12 +364,12 @@ impl Monitor {
     pub fn some_verdicts(&self)
         ensures { (n : ℕ) → (v : Verdict) × IsVerdictOn (rewound n self.now.now) v }
     {
-        judged_fronts_law();
+        judged_prefixes_law();
         // So that the prover takes the invariant, which speaks of the verdict.
         let _verdict = self.verdict;
     }
 
-    /// The history as it stands.
+    /// The present history.
     pub fn history(&self) -> &History
         ensures events { result.now.events ≡ self.now.now.events }
         ensures concurrency { result.now.concurrency ≡ self.now.now.concurrency }
@@ -391,7 +392,7 @@ impl Monitor {
         self.lines.len()
     }
 
-    /// The `i`-th key by first event: its kind, its budget, how many events it has, and how it stands.
+    /// The `i`-th key by first event: its kind, its budget, the number of its events, and its status.
     pub fn key_at(&self, i: usize) -> KeyRow
         requires { i < length (keys_in_order self.now.now.events) }
         ensures key { slice_get (keys_in_order self.now.now.events) i ≡ Some result.key }
@@ -509,7 +510,7 @@ impl Monitor {
         judging_law();
         let (kind, budget) = self.settings.prepare(key, setting)?;
         let place = self.lines.find(key);
-        let lent = self.history.events();
+        let borrowed = self.history.events();
         let mut judged_again = self.judged_again;
         let verdict = prepare_rebuild(
             &mut self.lines,
@@ -517,7 +518,7 @@ impl Monitor {
             place,
             kind,
             budget,
-            lent,
+            borrowed,
             &mut judged_again,
         )?;
         self.judged_again = judged_again;

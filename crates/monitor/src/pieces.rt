@@ -11,7 +11,8 @@ ghost use Rattle.monitor.specs.Loading.{pieces_of, rows_of_pieces};
 use events::{Event, key_events_law};
 use history::process_rule_law;
 use indexmap::IndexMap;
-use models::{Key, ModelKind};
+use kinds::ModelKind;
+use models::Key;
 use parallel_recheck::KeyEvents;
 use std::alloc::{AllocError, Global};
 

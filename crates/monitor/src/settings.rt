@@ -4,7 +4,8 @@ ghost use Rattle.linspec.specs.JudgedHistory.{opening_of, kind_of, budget_of};
 ghost use Rattle.monitor.specs.Settings.{room_for, with_setting};
 
 use indexmap::IndexMap;
-use models::{Key, ModelKind};
+use kinds::ModelKind;
+use models::Key;
 use std::alloc::{AllocError, Global};
 use std::marker::Model;
 

@@ -3,20 +3,20 @@ use Rattle.std.proofs.Common.{◌≡◌, ◌≢◌, ℕ, ◌+◌, ◌<◌, ◌�
 use Rattle.std.specs.List.{Contains}
 use Rattle.std.proofs.lemmas.List.{append-nil, length-take-le, drop-append-le}
 use Rattle.std.proofs.lemmas.List.Elements.{Contains-append_left, Contains-push, Contains-push_cases}
-use Rattle.events.specs.Events.{IsFront}
+use Rattle.events.specs.Events.{IsPrefixOf}
 use Rattle.linspec.proofs.Lists.{Contains-nil, Contains-cons_cases, Pairwise-append}
-use Rattle.interned.proofs.Lists.{one_more}
+use Rattle.interner.proofs.Lists.{one_more}
 use Rattle.moves.specs.EndSteps.{Along, Adds}
 
 -- fronts
-pub IsFront-itself : {X : Type 0} (xs : List X) → IsFront xs xs
-IsFront-itself xs = ([], append-nil xs)
+pub IsPrefixOf-itself : {X : Type 0} (xs : List X) → IsPrefixOf xs xs
+IsPrefixOf-itself xs = ([], append-nil xs)
 
-pub IsFront-push : {X : Type 0} (xs : List X) (x : X) → IsFront xs (xs ++ x ∷ [])
-IsFront-push xs x = (x ∷ [], refl)
+pub IsPrefixOf-push : {X : Type 0} (xs : List X) (x : X) → IsPrefixOf xs (xs ++ x ∷ [])
+IsPrefixOf-push xs x = (x ∷ [], refl)
 
-pub IsFront-trans : {X : Type 0} (xs ys zs : List X) → IsFront xs ys → IsFront ys zs → IsFront xs zs
-IsFront-trans xs ys zs f g = (f.0 ++ g.0, sym (append_assoc xs f.0 g.0) ∙ ap (λ l. l ++ g.0) f.1 ∙ g.1)
+pub IsPrefixOf-trans : {X : Type 0} (xs ys zs : List X) → IsPrefixOf xs ys → IsPrefixOf ys zs → IsPrefixOf xs zs
+IsPrefixOf-trans xs ys zs f g = (f.0 ++ g.0, sym (append_assoc xs f.0 g.0) ∙ ap (λ l. l ++ g.0) f.1 ∙ g.1)
 
 -- facts about a list with one more element
 pub Along-push : {C Y : Type 0} (R : C → Y → Type 0) (cs : List C) (c : C) (y : Y) → Along R (cs ++ c ∷ []) y → Along R cs y ⊎ R c y

@@ -18,7 +18,7 @@ use Rattle.moves.specs.Moves.{AreMoves, AreTo, IsKnown, IsTo, LeadsTo, known_at,
 use Rattle.moves.specs.Notes.{AreUntried}
 use Rattle.moves.specs.Tables.{Widens, told_by}
 use Rattle.moves.proofs.Rows.{slot_more}
-use Rattle.interned.proofs.Lists.{get_front, one_of}
+use Rattle.interner.proofs.Lists.{get_front, one_of}
 
 -- places of pairs
 place_lt : (n m w a b : ℕ) → a < w → n < m → n * w + a ≡ m * w + b → ⊥

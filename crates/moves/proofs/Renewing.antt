@@ -3,15 +3,15 @@ use Rattle.std.proofs.Common.{◌≡◌, ℕ, ◌+◌, ◌<◌, ⊎_elim, Some, 
 use Rattle.std.proofs.lemmas.Bool.{cases_eq}
 use Rattle.std.proofs.lemmas.List.{get_or-set_same, get_or-set_other, length-set}
 use Rattle.std.proofs.lemmas.Option.{slice_get_within}
-use Rattle.events.specs.Events.{IsFront}
+use Rattle.events.specs.Events.{IsPrefixOf}
 use Rattle.linspec.specs.Ends.{End}
 use Rattle.models.specs.declared.finding.Found.{Found}
 use Rattle.moves.specs.declared.pending_op.PendingOp.{PendingOp}
 use Rattle.moves.specs.declared.table.Table.{Table}
 use Rattle.moves.specs.Tables.{AreShown, IsSameTable, Says, SaysTheSame, SayTheSame, ShowTheSame, found_by, rows_of}
-use Rattle.interned.specs.Numbers.{IsOnceIn, IsSlot}
+use Rattle.interner.specs.Numbers.{IsOnceIn, IsSlot}
 use Rattle.words.specs.Puts.{IsPut}
-use Rattle.interned.proofs.Lists.{get_front, get_last, get_left, one_of, some_at}
+use Rattle.interner.proofs.Lists.{get_front, get_last, get_left, one_of, some_at}
 use Rattle.moves.proofs.Showing.{shown_more, widens_rows}
 
 module _ {S : Type 0} (states others : List S) (founds : List Found) (calls : List PendingOp) (row new : List ℕ) (e : End S) (same : SaysTheSame states others row new) where
@@ -66,7 +66,7 @@ module _ {S : Type 0} (t u : Table S) (same : SayTheSame t u (length (rows_of t)
   }
 
 -- a row more
-module _ {S : Type 0} (t u v : Table S) (n : ℕ) (row new : List ℕ) (a : SayTheSame t u n) (here : slice_get (rows_of t) n ≡ Some row) (founds : v.founds ≡ u.founds) (front : IsFront u.states v.states) (once : IsOnceIn v.states)
+module _ {S : Type 0} (t u v : Table S) (n : ℕ) (row new : List ℕ) (a : SayTheSame t u n) (here : slice_get (rows_of t) n ≡ Some row) (founds : v.founds ≡ u.founds) (front : IsPrefixOf u.states v.states) (once : IsOnceIn v.states)
     (says : SaysTheSame t.states v.states row new) (put : IsPut new (rows_of u) (rows_of v)) (more : n < length (rows_of v)) where
   pushed : rows_of v ≡ rows_of u ++ new ∷ []
   pushed = ⊎_elim (λ p. absurd (let l = ap length p.1 in let k = a.long in omega (arith, l, k, more))) (λ p. p.1) put

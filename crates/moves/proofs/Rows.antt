@@ -10,15 +10,15 @@ use Rattle.std.proofs.lemmas.Option.{slice_get_within, slice_get-get_or, get_or_
 use Rattle.std.proofs.lemmas.Grind.{same_number_lists}
 use Rattle.models.specs.declared.finding.Found.{Found}
 use Rattle.models.specs.declared.finding.Found.TheVariants.{Unit as Nothing}
-use Rattle.events.specs.Events.{IsFront}
+use Rattle.events.specs.Events.{IsPrefixOf}
 use Rattle.linspec.specs.Ends.{End}
 use Rattle.linspec.proofs.FinLaws.{get-insert_same, get-insert_other, contains-insert_same, contains-insert_other}
-use Rattle.interned.proofs.Lists.{clash, get_front, get_last, has_place, one_of, place_of, some_at}
+use Rattle.interner.proofs.Lists.{clash, get_front, get_last, has_place, one_of, place_of, some_at}
 use Rattle.moves.specs.declared.pending_op.PendingOp.{PendingOp}
 use Rattle.moves.specs.EndSteps.{is_in, with_call}
 use Rattle.moves.specs.KeptEnds.{IsIncluded}
 use Rattle.moves.specs.Tables.{HasEachOnce, Says, found_by, found_in_end, nothing_if, told_by}
-use Rattle.interned.specs.Numbers.{IsOnceIn, IsSlot}
+use Rattle.interner.specs.Numbers.{IsOnceIn, IsSlot}
 use Rattle.moves.proofs.Changes.{same_parts}
 
 -- calls of other operations
@@ -138,7 +138,7 @@ module _ (founds : List Found) where
   zero_none slot None e a = refl
   zero_none slot (Some x) e a = absurd (omega (arith, e, a.1))
 
-  pub slot_more : (more : List Found) (slot : ℕ) (p : Option Found) → IsFront founds more → IsSlot founds slot p → IsSlot more slot p
+  pub slot_more : (more : List Found) (slot : ℕ) (p : Option Found) → IsPrefixOf founds more → IsSlot founds slot p → IsSlot more slot p
   slot_more more slot None front a = a
   slot_more more slot (Some x) front a = (a.0, a.1, get_front founds more a.0 x front a.2)
 
@@ -158,7 +158,7 @@ module _ {S : Type 0} (states : List S) (founds : List Found) (calls : List Pend
           let c = some_at calls i less in
           subst (λ k. get_or row k 0 ≡ get_or other k 0) (add-one i) (one_slot founds (get_or row (i + 1) 0) (get_or other (i + 1) 0) (found_by e c.0) founds_once (a.slots i c.0 c.1) (b.slots i c.0 c.1))
 
-  pub says_more : (more_states : List S) (more_founds : List Found) (row : List ℕ) (e : End S) → IsFront states more_states → IsFront founds more_founds → Says states founds calls row e → Says more_states more_founds calls row e
+  pub says_more : (more_states : List S) (more_founds : List Found) (row : List ℕ) (e : End S) → IsPrefixOf states more_states → IsPrefixOf founds more_founds → Says states founds calls row e → Says more_states more_founds calls row e
   says_more more_states more_founds row e f g a = record {
     long = a.long;
     state = get_front states more_states (get_or row 0 0) e.state f a.state;
@@ -212,7 +212,7 @@ in_unless founds e c row k within slot other = by (is_in e c.id c.crashed) refl
         absurd (other (slice_get-get_or row k 0 within ∙ ap Some zero'))
 
 -- a row that is made, a number after another
-pub slots_more : {S : Type 0} (founds more : List Found) (calls : List PendingOp) (e : End S) (row longer : List ℕ) (n slot : ℕ) (c : PendingOp) → IsFront founds more → length row ≡ n + 1 → longer ≡ row ++ slot ∷ []
+pub slots_more : {S : Type 0} (founds more : List Found) (calls : List PendingOp) (e : End S) (row longer : List ℕ) (n slot : ℕ) (c : PendingOp) → IsPrefixOf founds more → length row ≡ n + 1 → longer ≡ row ++ slot ∷ []
     → slice_get calls n ≡ Some c → IsSlot more slot (found_by e c) → ((i : ℕ) (d : PendingOp) → i < n → slice_get calls i ≡ Some d → IsSlot founds (get_or row (i + 1) 0) (found_by e d))
     → (i : ℕ) (d : PendingOp) → i < n + 1 → slice_get calls i ≡ Some d → IsSlot more (get_or longer (i + 1) 0) (found_by e d)
 slots_more founds more calls e row longer n slot c front long is here new so_far i d lt h =

@@ -5,7 +5,7 @@ use Rattle.std.proofs.lemmas.List.{get_or_append_left, take-append-le, take_all}
 use Rattle.std.proofs.lemmas.List.Elements.{Contains-push_cases}
 use Rattle.std.proofs.lemmas.Option.{slice_get_within, get_or_from_slice_get}
 use Rattle.models.specs.Objects.{Object}
-use Rattle.events.specs.Events.{IsFront}
+use Rattle.events.specs.Events.{IsPrefixOf}
 use Rattle.linspec.specs.Ends.{End}
 use Rattle.moves.specs.declared.pending_op.PendingOp.{PendingOp}
 use Rattle.moves.specs.declared.table.Table.{Table}
@@ -13,21 +13,21 @@ use Rattle.moves.specs.EndSteps.{Adds, TakesLast, Next, Along, Grows}
 use Rattle.models.specs.declared.finding.Found.{Found}
 use Rattle.moves.specs.KeptEnds.{AreIncluded}
 use Rattle.moves.specs.Tables.{AreLed, AreShown, KeepsRows, OnlyAdds, OnlyTries, Says, Shows, ShownWith, Widens, row_led, rows_of, with_rows}
-use Rattle.interned.specs.Numbers.{IsOnceIn}
+use Rattle.interner.specs.Numbers.{IsOnceIn}
 use Rattle.words.specs.Puts.{IsPut}
-use Rattle.moves.proofs.Adding.{IsFront-itself, IsFront-push, IsFront-trans, Adds-old, Adds-new, Adds-change, Adds-more, Adds-more_from, Adds-start}
-use Rattle.interned.proofs.Lists.{one_more, clash, place_of, has_place, some_at, get_push}
+use Rattle.moves.proofs.Adding.{IsPrefixOf-itself, IsPrefixOf-push, IsPrefixOf-trans, Adds-old, Adds-new, Adds-change, Adds-more, Adds-more_from, Adds-start}
+use Rattle.interner.proofs.Lists.{one_more, clash, place_of, has_place, some_at, get_push}
 use Rattle.moves.proofs.Reaching.{reached_next}
 use Rattle.moves.proofs.Rows.{one_end, one_row, says_more}
 
 -- tables that widen
 pub widens_itself : {S : Type 0} (t : Table S) → Widens t t
-widens_itself t = record { states = IsFront-itself t.states; founds = IsFront-itself t.founds; states_once = λ h. h; founds_once = λ h. h }
+widens_itself t = record { states = IsPrefixOf-itself t.states; founds = IsPrefixOf-itself t.founds; states_once = λ h. h; founds_once = λ h. h }
 
 pub widens_on : {S : Type 0} (t u v : Table S) → Widens t u → Widens u v → Widens t v
 widens_on t u v a b = record {
-  states = IsFront-trans t.states u.states v.states a.states b.states;
-  founds = IsFront-trans t.founds u.founds v.founds a.founds b.founds;
+  states = IsPrefixOf-trans t.states u.states v.states a.states b.states;
+  founds = IsPrefixOf-trans t.founds u.founds v.founds a.founds b.founds;
   states_once = λ h. b.states_once (a.states_once h);
   founds_once = λ h. b.founds_once (a.founds_once h);
 }
@@ -40,7 +40,7 @@ pub keeps_on : {S : Type 0} (t u v : Table S) → KeepsRows t u → KeepsRows u 
 keeps_on t u v a b = record { widens = widens_on t u v a.widens b.widens; rows = b.rows ∙ a.rows }
 
 pub adds_itself : {S : Type 0} (t : Table S) (n : ℕ) → OnlyAdds t t n n
-adds_itself t n = record { widens = widens_itself t; front = IsFront-itself (rows_of t); never_falls = omega arith }
+adds_itself t n = record { widens = widens_itself t; front = IsPrefixOf-itself (rows_of t); never_falls = omega arith }
 
 module _ {S : Type 0} {t u v : Table S} {a b c : ℕ} where
   pub tries_on : OnlyTries t u a b → OnlyTries u v b c → OnlyTries t v a c
@@ -53,31 +53,31 @@ module _ {S : Type 0} {t u v : Table S} {a b c : ℕ} where
   pub adds_on : OnlyAdds t u a b → OnlyAdds u v b c → OnlyAdds t v a c
   adds_on one more = record {
     widens = widens_on t u v one.widens more.widens;
-    front = IsFront-trans (rows_of t) (rows_of u) (rows_of v) one.front more.front;
+    front = IsPrefixOf-trans (rows_of t) (rows_of u) (rows_of v) one.front more.front;
     never_falls = (let x = one.never_falls in let y = more.never_falls in omega (arith, x, y));
   }
 
 -- a table whose states or whose found things are more
-pub widens_states : {S : Type 0} (t u : Table S) (states : List S) → Widens t u → IsFront u.states states → (IsOnceIn u.states → IsOnceIn states) → Widens t (record { alloc = u.alloc; states = states; founds = u.founds; rows = u.rows })
+pub widens_states : {S : Type 0} (t u : Table S) (states : List S) → Widens t u → IsPrefixOf u.states states → (IsOnceIn u.states → IsOnceIn states) → Widens t (record { alloc = u.alloc; states = states; founds = u.founds; rows = u.rows })
 widens_states t u states w front once = record {
-  states = IsFront-trans t.states u.states states w.states front;
+  states = IsPrefixOf-trans t.states u.states states w.states front;
   founds = w.founds;
   states_once = λ h. once (w.states_once h);
   founds_once = w.founds_once;
 }
 
-pub widens_founds : {S : Type 0} (t u : Table S) (founds : List Found) → Widens t u → IsFront u.founds founds → (IsOnceIn u.founds → IsOnceIn founds) → Widens t (record { alloc = u.alloc; states = u.states; founds = founds; rows = u.rows })
+pub widens_founds : {S : Type 0} (t u : Table S) (founds : List Found) → Widens t u → IsPrefixOf u.founds founds → (IsOnceIn u.founds → IsOnceIn founds) → Widens t (record { alloc = u.alloc; states = u.states; founds = founds; rows = u.rows })
 widens_founds t u founds w front once = record {
   states = w.states;
-  founds = IsFront-trans t.founds u.founds founds w.founds front;
+  founds = IsPrefixOf-trans t.founds u.founds founds w.founds front;
   states_once = w.states_once;
   founds_once = λ h. once (w.founds_once h);
 }
 
 pub widens_rows : {S : Type 0} (t u : Table S) → u.states ≡ t.states → u.founds ≡ t.founds → Widens t u
 widens_rows t u a b = record {
-  states = subst (IsFront t.states) (sym a) (IsFront-itself t.states);
-  founds = subst (IsFront t.founds) (sym b) (IsFront-itself t.founds);
+  states = subst (IsPrefixOf t.states) (sym a) (IsPrefixOf-itself t.states);
+  founds = subst (IsPrefixOf t.founds) (sym b) (IsPrefixOf-itself t.founds);
   states_once = λ h. subst IsOnceIn (sym a) h;
   founds_once = λ h. subst IsOnceIn (sym b) h;
 }
@@ -104,7 +104,7 @@ shown_no_rows calls left t ends shown rows none = record {
 }
 
 pub shown_first : {S : Type 0} (calls : List PendingOp) (t : Table S) (R : End S → End S → Type 0) → AreShown t calls [] → ShownWith t calls [] (Along R [])
-shown_first calls t R a = record { more = []; shown = a; front = IsFront-itself []; adds = Adds-start R [] }
+shown_first calls t R a = record { more = []; shown = a; front = IsPrefixOf-itself []; adds = Adds-start R [] }
 
 module _ {S : Type 0} (calls : List PendingOp) (t u : Table S) where
   pub shows_more : (row : List ℕ) (e : End S) → Widens t u → Shows t calls row e → Shows u calls row e
@@ -150,7 +150,7 @@ module _ {S : Type 0} (calls : List PendingOp) (t u : Table S) where
     pub shown_put : IsPut row (rows_of t) (rows_of u) → ShownWith u calls ends (λ g. f ≡ g)
     shown_put put =
         ⊎_elim
-        (λ h. record { more = ends; shown = shown_more ends w h.1 a; front = IsFront-itself ends; adds = Adds-old ends f (there h.0) })
+        (λ h. record { more = ends; shown = shown_more ends w h.1 a; front = IsPrefixOf-itself ends; adds = Adds-old ends f (there h.0) })
         (λ h. record {
           more = ends ++ f ∷ [];
           shown = record {
@@ -160,7 +160,7 @@ module _ {S : Type 0} (calls : List PendingOp) (t u : Table S) where
                 ap length h.1 ∙ length-append (rows_of t) (row ∷ []) ∙ ap (λ n. n + 1) a.long ∙ sym (length-append ends (f ∷ []));
             each = pushed h.1;
           };
-          front = IsFront-push ends f;
+          front = IsPrefixOf-push ends f;
           adds = Adds-new ends f (λ k. h.0 (back k));
         })
         put
@@ -174,16 +174,16 @@ end_at calls t ends a i row h =
     (e.0, e.1, a.each i row e.0 h e.1)
 
 -- rows that stay where more are put
-pub front_stays : (old new : List (List ℕ)) (i : ℕ) → i < length old → IsFront old new → get_or new i [] ≡ get_or old i []
+pub front_stays : (old new : List (List ℕ)) (i : ℕ) → i < length old → IsPrefixOf old new → get_or new i [] ≡ get_or old i []
 front_stays old new i lt front = ap (λ l. get_or l i []) (sym front.1) ∙ get_or_append_left old front.0 [] i lt
 
-pub front_within : (old new : List (List ℕ)) (i : ℕ) → i < length old → IsFront old new → i < length new
+pub front_within : (old new : List (List ℕ)) (i : ℕ) → i < length old → IsPrefixOf old new → i < length new
 front_within old new i lt front = let long = ap length (sym front.1) ∙ length-append old front.0 in omega (arith, lt, long)
 
-pub front_by : (old same new : List (List ℕ)) (row : List ℕ) → same ≡ old → IsPut row same new → IsFront old new
+pub front_by : (old same new : List (List ℕ)) (row : List ℕ) → same ≡ old → IsPut row same new → IsPrefixOf old new
 front_by old same new row is put =
-    subst (λ l. IsFront l new) is
-    (⊎_elim (λ h. subst (IsFront same) (sym h.1) (IsFront-itself same)) (λ h. subst (IsFront same) (sym h.1) (IsFront-push same row)) put)
+    subst (λ l. IsPrefixOf l new) is
+    (⊎_elim (λ h. subst (IsPrefixOf same) (sym h.1) (IsPrefixOf-itself same)) (λ h. subst (IsPrefixOf same) (sym h.1) (IsPrefixOf-push same row)) put)
 
 -- the row of the end at a place
 pub end_here : {S : Type 0} (calls : List PendingOp) (t : Table S) (ends : List (End S)) → AreShown t calls ends → (i : ℕ) (e : End S) → slice_get ends i ≡ Some e → Says t.states t.founds calls (get_or (rows_of t) i []) e
@@ -210,7 +210,7 @@ module _ (o : Object) (calls : List PendingOp) (e : End o.State) (ends : List (E
   next_there from low t u s p = record {
     more = p.more;
     shown = p.shown;
-    front = IsFront-trans ends s.more p.more s.front p.front;
+    front = IsPrefixOf-trans ends s.more p.more s.front p.front;
     adds = Adds-more_from (TakesLast o e) calls ends s.more p.more from i c low within is_here s.adds p.adds;
   }
 
@@ -226,14 +226,14 @@ led_more {S} calls first t u row at targets place to ends here states founds sam
     record {
       more = p.more;
       shown = p.shown;
-      front = IsFront-trans ends s.more p.more s.front p.front;
+      front = IsPrefixOf-trans ends s.more p.more s.front p.front;
       adds = Adds-more R targets ends s.more p.more place to (slice_get_within targets place to here) (sym (get_or_from_slice_get targets place to to here)) s.adds
           (Adds-change (λ g. f ≡ g) (R to) s.more p.more (λ g e. subst (Shows first calls (row_led row at to)) e shows) (λ g k. one_end first.states first.founds calls (row_led row at to) f g shows k) p.adds);
     }
 
 -- none, and one alone
 pub led_none : {S : Type 0} (calls : List PendingOp) (t : Table S) (R : ℕ × ℕ → End S → Type 0) (ends : List (End S)) → AreShown t calls ends → ShownWith t calls ends (Along R [])
-led_none calls t R ends shown = record { more = ends; shown = shown; front = IsFront-itself ends; adds = Adds-start R ends }
+led_none calls t R ends shown = record { more = ends; shown = shown; front = IsPrefixOf-itself ends; adds = Adds-start R ends }
 
 pub led_one : {S : Type 0} (calls : List PendingOp) (t u : Table S) (row : List ℕ) (at : ℕ) (to : ℕ × ℕ) (ends : List (End S)) → u.states ≡ t.states → u.founds ≡ t.founds → (f : End S) → Shows t calls (row_led row at to) f
     → IsPut (row_led row at to) (rows_of t) (rows_of u) → AreShown t calls ends → ShownWith u calls ends (Along (λ x g. Shows t calls (row_led row at x) g) (to ∷ []))
@@ -271,7 +271,7 @@ pub none_more : (o : Object) (calls : List PendingOp) (t : Table o.State) (first
 none_more o calls t first e ends le shown = record {
   more = ends;
   shown = shown;
-  front = IsFront-itself ends;
+  front = IsPrefixOf-itself ends;
   adds = subst (λ l. Adds (Next o l e) ends ends) (sym (none_left first calls le)) (Adds-start (TakesLast o e) ends);
 }
 
@@ -308,7 +308,7 @@ shown_after calls t u v R cs i c f row here to from w same shows x put s =
     record {
       more = p.more;
       shown = p.shown;
-      front = IsFront-trans [] s.more p.more s.front p.front;
+      front = IsPrefixOf-trans [] s.more p.more s.front p.front;
       adds = Adds-more R cs [] s.more p.more i c (slice_get_within cs i c here) (sym (get_or_from_slice_get cs i c c here)) s.adds (Adds-change (λ g. f ≡ g) (R c) s.more p.more to from p.adds);
     }
 

@@ -13,7 +13,7 @@ use Rattle.moves.specs.EndSteps.{with_call, is_in}
 use Rattle.moves.specs.KeptEnds.{IsIncluded}
 use Rattle.moves.specs.Tables.{HasEachOnce, IsToldBefore, found_by, found_in_end, nothing_if, told_by}
 use Rattle.moves.proofs.Rows.{other_ids, included_with, not_in_by, same_told, told_with, told_without, with_state}
-use Rattle.interned.proofs.Lists.{clash, one_of, place_of, has_place}
+use Rattle.interner.proofs.Lists.{clash, one_of, place_of, has_place}
 
 told_crash : (b : Bool) (x : Found) → nothing_if b ≡ Some x → Nothing ≡ x
 told_crash true x e = one_of Nothing x e
@@ -45,18 +45,6 @@ module _ {S : Type 0} where
         (λ c h. let p = place_of calls c h in a.before p.0 c p.1 (let lt = slice_get_within calls p.0 c p.1 in omega (arith, lt, le)))
 
     module _ (c : PendingOp) (here : slice_get calls n ≡ Some c) where
-      pub told_not : found_by e c ≡ None → IsToldBefore calls e k (n + 1)
-      told_not none = record {
-        state = a.state;
-        included = a.included;
-        before = λ i d h lt.
-            ⊎_elim
-            (λ q. let same : c ≡ d = one_of c d (sym here ∙ ap (slice_get calls) (sym q) ∙ h) in subst (λ x. found_by k x ≡ found_by e x) same (a.after n c here (omega arith) ∙ sym none))
-            (λ ne. a.before i d h (omega (arith, lt, ne)))
-            (cases_eq i n);
-        after = λ i d h le. a.after i d h (omega (arith, le));
-      }
-
       pub not_yet : is_in k c.id c.crashed ≡ false
       not_yet = not_in_by k c.id c.crashed (a.after n c here (omega arith))
 

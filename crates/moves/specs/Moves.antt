@@ -12,7 +12,7 @@ use Rattle.moves.specs.declared.moves.Move.{Move}
 use Rattle.moves.specs.declared.moves.Moves.{Moves}
 use Rattle.moves.specs.declared.moves.Move.TheVariants.{Untried, Nowhere, To, ToEach}
 use Rattle.moves.specs.Tables.{told_by}
-use Rattle.interned.specs.Numbers.{IsSlot}
+use Rattle.interner.specs.Numbers.{IsSlot}
 
 -- the target is this outcome: the state with the first number, and the record of the answer with the second
 abbrev pub IsTo : {S : Type 0} → Table S → Bool → S × Found → ℕ × ℕ → Type 0

@@ -6,10 +6,10 @@ use Rattle.std.specs.FinSet as finset
 use Rattle.models.specs.declared.finding.Found.{Found}
 use Rattle.models.specs.declared.finding.Found.TheVariants.{Unit as Nothing}
 use Rattle.models.specs.Objects.{Object}
-use Rattle.events.specs.Events.{IsFront}
+use Rattle.events.specs.Events.{IsPrefixOf}
 use Rattle.linspec.specs.Orders.{Pairwise}
 use Rattle.linspec.specs.Ends.{End}
-use Rattle.interned.specs.Numbers.{IsOnceIn, IsSlot}
+use Rattle.interner.specs.Numbers.{IsOnceIn, IsSlot}
 use Rattle.moves.specs.declared.pending_op.PendingOp.{PendingOp}
 use Rattle.moves.specs.declared.table.Table.{Table}
 use Rattle.moves.specs.KeptEnds.{IsIncluded}
@@ -69,8 +69,8 @@ pub record AreShown {S : Type 0} (t : Table S) (calls : List PendingOp) (ends : 
 
 -- more stands there than before, and what stood there stays
 pub record Widens {S : Type 0} (old new : Table S) : Type 0 where
-  pub states : IsFront old.states new.states
-  pub founds : IsFront old.founds new.founds
+  pub states : IsPrefixOf old.states new.states
+  pub founds : IsPrefixOf old.founds new.founds
   pub states_once : IsOnceIn old.states → IsOnceIn new.states
   pub founds_once : IsOnceIn old.founds → IsOnceIn new.founds
 
@@ -88,7 +88,7 @@ pub record OnlyTries {S : Type 0} (old new : Table S) (before after : ℕ) : Typ
 -- rows are added and no more: the table has what it had and its rows stand before the new ones, and so with the count
 pub record OnlyAdds {S : Type 0} (old new : Table S) (before after : ℕ) : Type 0 where
   pub widens : Widens old new
-  pub front : IsFront (rows_of old) (rows_of new)
+  pub front : IsPrefixOf (rows_of old) (rows_of new)
   pub never_falls : before ≤ after
 
 -- the row with these numbers of a state and at this place
@@ -112,7 +112,7 @@ pub record ShownWith {S : Type 0} (t : Table S) (calls : List PendingOp) (ends :
     (P : End S → Type 0) : Type 0 where
   pub more : List (End S)
   pub shown : AreShown t calls more
-  pub front : IsFront ends more
+  pub front : IsPrefixOf ends more
   pub adds : Adds P ends more
 
 -- the end k is e with the calls before this place alone

@@ -4,7 +4,7 @@ ghost use Rattle.moves.specs.Tables.{IsSameTable, SayTheSame, ShowTheSame, rows_
 
 use crate::pending_op::PendingOp;
 use crate::table::Table;
-use interned::{States, founds, states};
+use interner::{States, founds, states};
 use models::SeqObject;
 use rows::RowSet;
 use std::alloc::AllocError;
@@ -24,8 +24,8 @@ pub fn copied_whole<M: SeqObject>(table: &Table<M::State>) -> Result<Table<M::St
     })
 }
 
-// Puts the row at this place behind those of the other table, by the number that its state has there. False if it has no state,
-// or is there already.
+// Appends the row at this place to the other table, with the number that its state has there. Returns false if the row has no state, or is
+// there already.
 fn put_again<M: SeqObject>(
     table: &Table<M::State>,
     from: usize,

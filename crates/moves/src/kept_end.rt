@@ -1,5 +1,5 @@
 //! Ends by themselves, which rows become when they are made again.
-ghost use Rattle.std.specs.Prelude.{◌≡◌, true, false, IfOk, OnOk, option_copied};
+ghost use Rattle.std.specs.Prelude.{◌≡◌, false, IfOk, OnOk, option_copied};
 ghost use Rattle.moves.specs.KeptEnds.{end_kept, found_at, has_crashed};
 ghost use Rattle.moves.specs.EndSteps.{settled, after_crash, is_in, with_call};
 

@@ -9,8 +9,8 @@ ghost use Rattle.moves.specs.Tables.{KeepsRows, OnlyTries};
 use crate::notes::{MOST_KEPT, Notes};
 use crate::pending_op::PendingOp;
 use crate::table::{self, Table};
-use interned::founds;
-use interned::states::number_of;
+use interner::founds;
+use interner::states::number_of;
 use models::{Found, SeqObject};
 use std::alloc::{AllocError, Global};
 
@@ -260,7 +260,7 @@ fn is_alike(call: &PendingOp, other: &PendingOp) -> bool
         && call.crashed == other.crashed
 }
 
-// Where the first of the calls stands that does the same as the one at this place, if it is among the first few.
+// The place of the first call that does the same as the call at `at`, if it is among the first few calls.
 fn first_alike(calls: &[PendingOp], at: usize) -> usize
     requires within { at < length calls.now }
     ensures { IsAlike calls.now at result }
@@ -308,7 +308,7 @@ fn like_before(calls: &[PendingOp], at: usize, next: Like) -> Like
     }
 }
 
-// Whether the call at this place is the one at the other place, which stands before it, or does the same.
+// Whether both places are the same, or the call at `place` comes earlier and does the same as the call at `at`.
 #[inline(always)]
 fn does_as(calls: &[PendingOp], at: usize, place: usize) -> bool
     requires within { at < length calls.now }
@@ -383,8 +383,8 @@ pub fn recalled<S>(moves: &Moves<S>, number: usize, at: usize, call_count: usize
     }
 }
 
-/// Tries the call in the state with this number, and remembers where it leads. `AllocError` if there is no memory for its outcomes or for
-/// the move. Takes one step, the time of looking its outcomes up, and that of the list of moves if this grows.
+/// Tries the call in the state with this number, and remembers its move. `AllocError` if there is no memory for the outcomes or for the
+/// move. Takes one step. Costs a look-up of each outcome, and O(moves) if the list of moves grows.
 pub fn try_call<M: SeqObject>(
     table: &mut Table<M::State>,
     moves: &mut Moves<M::State>,

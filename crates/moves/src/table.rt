@@ -1,20 +1,20 @@
 //! Ends as rows of numbers.
 ghost use Rattle.std.specs.Prelude.{◌≡◌, ℕ, ◌+◌, ◌-◌, ◌^◌, ◌<◌, ◌≤◌, min, Some, slice_get, get_or, map, length};
-ghost use Rattle.std.specs.Prelude.{IfOk, OnOk, IsSome, IsSomeAnd, option_copied, List, [], ◌∷◌, ◌++◌};
+ghost use Rattle.std.specs.Prelude.{IfOk, OnOk, IsSome, IsSomeAnd, option_copied, List, []};
 ghost use Rattle.models.specs.Objects.{of_table};
-ghost use Rattle.events.specs.Events.{IsFront};
+ghost use Rattle.events.specs.Events.{IsPrefixOf};
 ghost use Rattle.linspec.specs.Ends.{End};
 ghost use Rattle.moves.specs.KeptEnds.{AreIncluded, IsIncluded, end_kept};
 ghost use Rattle.moves.specs.EndSteps.{Along};
 ghost use Rattle.moves.specs.Moves.{AreMoves, IsAlike, IsKnown, KeepMoves, targets_of};
-ghost use Rattle.interned.specs.Numbers.{IsOnceIn, IsSlot};
+ghost use Rattle.interner.specs.Numbers.{IsOnceIn, IsSlot};
 ghost use Rattle.moves.specs.Tables.{AreShown, HasEachOnce, IsThat, IsToldBefore, ShownWith, told_by};
 ghost use Rattle.moves.specs.Tables.{AreLed, KeepsRows, OnlyTries, Shows, found_by, rows_of};
 
 use crate::kept_end::{KeptEnd, found_in, has};
 use crate::moves::{self, Attempt, Move, Moves};
 use crate::pending_op::PendingOp;
-use interned::{Founds, States, founds, states};
+use interner::{FoundTable, States, founds, states};
 use models::{Found, Op, SeqObject};
 use rows::{Row, RowSet};
 use std::alloc::{AllocError, Global};
@@ -23,13 +23,13 @@ use std::hash::Hash;
 // So many states are few.
 const FEW_STATES: usize = 64;
 
-/// The ends that a frontier keeps, and while an ok works those too that it finds, each a row of numbers. The first says where
-/// its state stands; then comes one for each call: zero if it is not in, and else one more than where what it found stands.
-/// States and what was found stand once, so equal ends are equal rows. Its memory comes from `alloc`.
+/// The ends that a frontier keeps, and during an ok also the ends that it finds, each as a row of numbers. The first number is the place of
+/// the state. Then each call has a number: zero if the end does not include the call, else the place of its answer plus one. Each state and
+/// each answer is stored once, so equal ends are equal rows. The memory comes from `alloc`.
 pub struct Table<S: Hash + Drop> {
     pub alloc: Global,
     pub states: States<S>,
-    pub founds: Founds,
+    pub founds: FoundTable,
     pub rows: RowSet,
 }
 
@@ -46,9 +46,9 @@ impl<S: Hash + Drop> Drop for Table<S> {
 }
 
 // The number of the answer, and zero if there is none.
-fn slot_of(founds: &mut Founds, found: Option<Found>) -> Result<usize, AllocError>
+fn slot_of(founds: &mut FoundTable, found: Option<Found>) -> Result<usize, AllocError>
     ensures slot { IfOk result (λ slot. IsSlot founds.new slot found) }
-    ensures front { IsFront founds.old founds.new }
+    ensures front { IsPrefixOf founds.old founds.new }
     ensures once { IsOnceIn founds.old → IsOnceIn founds.new }
 {
     match found {
@@ -113,7 +113,7 @@ pub fn step<M: SeqObject>(
     M::append_outcomes(alloc, state, op, outcomes)
 }
 
-/// The state with this number: that of the end of each row that has this number first. Takes constant time.
+/// The state with this number. It is the state of each row whose first number this is. Takes constant time.
 pub fn state_numbered<S: Hash + Drop>(table: &Table<S>, number: usize) -> Option<&S>
     ensures { (calls : List PendingOp) (row : List ℕ) (e : End S) → number ≡ get_or row 0 0
         → Shows table.now calls row e → IsSomeAnd result (λ s. s.now ≡ e.state) }
@@ -121,8 +121,8 @@ pub fn state_numbered<S: Hash + Drop>(table: &Table<S>, number: usize) -> Option
     table.states.get(number)
 }
 
-/// The first state for which moves are remembered. It is that of the first row, since states before it are seldom those of a row; or the
-/// first state if there are few states, which come again and again. Takes constant time.
+/// The first state for which moves are remembered. It is the state of the first row, since rows seldom have earlier states. If there are
+/// few states, it is the first state, since few states are met again and again. Takes constant time.
 pub fn first_remembered_state<S: Hash + Drop>(table: &Table<S>) -> usize {
     if table.states.len() > FEW_STATES {
         table.rows.number(0, 0)
@@ -178,7 +178,7 @@ pub fn empty<S: Hash + Drop>(alloc: Global) -> Table<S>
     Table {
         alloc,
         states: States::new(alloc),
-        founds: Founds::new(alloc),
+        founds: FoundTable::new(alloc),
         rows: RowSet::new(alloc, 0),
     }
 }
@@ -192,8 +192,8 @@ pub fn clear<S: Hash + Drop>(table: &mut Table<S>)
     table.rows.restart(0);
 }
 
-/// Puts the ends as rows, in order, in place of those of the table; ends that are the same become one row. `AllocError` if there is no
-/// memory for them: then some of them are there. Costs a copy of each end's state, and a search for each call in each end.
+/// Replaces the rows of the table by the rows of these ends, in order. Equal ends become one row. `AllocError` if there is no memory: then
+/// some of the rows are there. Costs a copy of each end's state, and a search for each call in each end.
 pub fn refill<M: SeqObject>(
     table: &mut Table<M::State>,
     ends: &[KeptEnd<M::State>],
@@ -250,7 +250,7 @@ pub fn found_in_row<'a, S: Hash + Drop>(
     }
 }
 
-// The record of the call at this place goes into the end.
+// Adds the record of the call at this place to the end.
 fn include_at<S: Hash + Drop>(
     kept: &mut KeptEnd<S>,
     table: &Table<S>,
@@ -273,7 +273,7 @@ fn include_at<S: Hash + Drop>(
     }
 }
 
-// The row at `row_at` as an end. None if the row has no state, which is not so of a row that stands for an end.
+// The row at `row_at` as an end. `None` if the row has no state; each row of an end has one.
 fn kept_of<M: SeqObject>(
     table: &Table<M::State>,
     row_at: usize,

@@ -6,8 +6,8 @@ use Rattle.linspec.specs.KeyHistory.{KeyHistory}
 use Rattle.checkpoints.specs.KeyLineView.{KeyLineView, at_rest, count_on}
 
 -- borrowed events, as they are
-abbrev pub lent : List (ℕ × Bor Event) → List (ℕ × Event)
-lent events = map (λ x. (x.0, x.1.now)) events
+abbrev pub borrowed : List (ℕ × Bor Event) → List (ℕ × Event)
+borrowed events = map (λ x. (x.0, x.1.now)) events
 
 -- the judged part of one key
 pub record PieceView : Type 0 where

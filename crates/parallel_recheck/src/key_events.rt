@@ -6,7 +6,8 @@ ghost use Rattle.parallel_recheck.specs.Pieces.{piece_of, line_of};
 
 use checkpoints::KeyLine;
 use events::Event;
-use models::{Key, ModelKind};
+use kinds::ModelKind;
+use models::Key;
 use std::alloc::{AllocError, Global};
 use std::marker::Model;
 
@@ -22,16 +23,16 @@ pub struct KeyEvents<'a> {
 
 impl<'a> Model for KeyEvents<'a> {
     ghost use Rattle.events.specs.ProcessRule.{IsHistory};
-    ghost use Rattle.parallel_recheck.specs.Pieces.{PieceView, lent};
+    ghost use Rattle.parallel_recheck.specs.Pieces.{PieceView, borrowed};
 
     ghost Value = { PieceView };
 
     ghost view = { λ a. record {
       key = a.key;
-      judged = record { kind = a.kind; budget = a.budget; events = lent a.events.items };
+      judged = record { kind = a.kind; budget = a.budget; events = borrowed a.events.items };
     } };
 
-    ghost invariant = { λ a. IsHistory (lent a.events.items) };
+    ghost invariant = { λ a. IsHistory (borrowed a.events.items) };
 }
 
 impl<'a> KeyEvents<'a> {

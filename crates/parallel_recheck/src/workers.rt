@@ -18,15 +18,14 @@ struct Placed {
     line: KeyLine,
 }
 
-/// The lines of these pieces, in their order, made by 1 to 64 workers. Piece `i` goes to worker `i mod workers`: the last worker is the
-/// calling thread, and each other one has a thread of its own. A worker whose thread can't be started leaves its pieces to the calling
-/// thread. The lines are the same whatever the number of workers. Each costs what [`KeyEvents::line`] costs, and those of different threads
-/// are made at once.
+/// The lines of these pieces, in their order, made by 1 to 64 workers. Worker `i mod workers` makes the line of piece `i`. The last worker
+/// is the calling thread, and each other worker has a thread of its own. If a thread cannot be started, the calling thread does its work.
+/// The lines are the same for each number of workers. Each line costs what [`KeyEvents::line`] costs, and the workers run at the same time.
 ///
-/// The gate is called as each piece begins and as it ends, by its place.
+/// The gate is called at the begin and at the end of each piece, with the piece's place.
 ///
 /// # Errors
-/// `AllocError` if an allocation fails, in whichever thread.
+/// `AllocError` if an allocation fails, in any thread.
 pub fn recheck<R: Threads + Sync, G: Gate + Sync>(
     rt: &R,
     alloc: Global,
@@ -44,8 +43,8 @@ pub fn recheck<R: Threads + Sync, G: Gate + Sync>(
     in_order(alloc, slots)
 }
 
-// The lines of the workers from this one on. Each but the last one has a thread of its own if one can be started; where none
-// can, the calling thread judges its pieces, once it has judged its own.
+// The lines of the workers from this one on. Each worker except the last one has a thread of its own, if one can be started. Else the
+// calling thread judges its pieces after its own.
 fn judged_from<R: Threads + Sync, G: Gate + Sync>(
     rt: &R,
     alloc: Global,

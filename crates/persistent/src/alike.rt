@@ -4,7 +4,7 @@ ghost use Rattle.persistent.specs.Eights.{AreSameAt};
 
 use crate::placed::Placed;
 
-// Whether the two values at each of these places are the same. Those at both places are compared, whatever comes of the first.
+// Whether a and b have the same values at both places. Both places are compared, also if the first ones differ.
 #[inline(always)]
 fn two_are_same<T: Placed>(xs: &[T], ys: &[T], first: usize, second: usize) -> bool
     requires first_of_xs { first < length xs.now }
@@ -17,8 +17,8 @@ fn two_are_same<T: Placed>(xs: &[T], ys: &[T], first: usize, second: usize) -> b
     xs[first].is_same(&ys[first]) & xs[second].is_same(&ys[second])
 }
 
-// Whether the eight values from this place on are the same. All are compared, whatever comes of one, which takes a processor fewer
-// steps than to ask after each.
+// Whether the eight values from this place on are the same. All eight are compared, also if some differ: that takes a processor fewer
+// steps than a test after each value.
 fn eight_are_same<T: Placed>(xs: &[T], ys: &[T], at: usize) -> bool
     requires xs { at + 8 ≤ length xs.now }
     requires ys { at + 8 ≤ length ys.now }
@@ -31,7 +31,7 @@ fn eight_are_same<T: Placed>(xs: &[T], ys: &[T], at: usize) -> bool
     first & second & third & fourth
 }
 
-// Whether the values are the same in the same order, which are as many, and few.
+// Whether two short lists of the same length have the same values in the same order.
 fn few_are_same<T: Placed>(xs: &[T], ys: &[T]) -> bool
     requires { length xs.now ≡ length ys.now }
     ensures { IsTrue result ↔ (xs.now ≡ ys.now) }

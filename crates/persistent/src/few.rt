@@ -3,10 +3,10 @@ ghost use Rattle.std.specs.Prelude.{◌≡◌, ◌+◌, ◌<◌, ◌≤◌, ◌�
 
 use std::marker::Model;
 
-/// So many values at most lie in place.
+/// The greatest number of values that are stored in place.
 pub const IN_PLACE: usize = 6;
 
-/// Values in place, this number from one place on. The values before them and behind mean nothing.
+/// Values in place: `len` values from place `from` on. The values before and behind them mean nothing.
 #[derive(Drop)]
 pub struct Few<T: Copy> {
     places: [T; IN_PLACE],
@@ -37,7 +37,7 @@ fn put<T: Copy>(places: &mut [T; IN_PLACE], at: usize, values: &[T])
 }
 
 impl<T: Copy> Few<T> {
-    /// These values, one part behind the other, with one between both.
+    /// The values of both parts, one part behind the other, with one value between them.
     #[inline(always)]
     pub fn around(first: &[T], value: T, second: &[T]) -> Few<T>
         requires { length first.now + length second.now < IN_PLACE }
@@ -54,7 +54,7 @@ impl<T: Copy> Few<T> {
         }
     }
 
-    /// These values, one part behind the other, with any value as the blank.
+    /// The values of both parts, one part behind the other. Unused places get `blank`.
     #[inline(always)]
     pub fn of(blank: T, first: &[T], second: &[T]) -> Few<T>
         requires { length first.now + length second.now ≤ IN_PLACE }
@@ -95,7 +95,7 @@ impl<T: Copy> Few<T> {
         }
     }
 
-    /// The values with one more behind them, if there is a place for it.
+    /// The values with one more behind them, or `None` if all places are used.
     #[inline(always)]
     pub fn with_last(&self, value: T) -> Option<Few<T>>
         ensures with { IfSome result (λ more. more ≡ self.now ++ value ∷ []) }

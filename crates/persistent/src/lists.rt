@@ -3,7 +3,7 @@ ghost use Rattle.std.specs.Prelude.{◌≡◌, IfOk, ◌∷◌, ◌++◌};
 
 use std::alloc::{AllocError, Global};
 
-/// These values, one part behind the other.
+/// The values of both parts, one part behind the other.
 pub fn list_of<T: Copy>(alloc: Global, first: &[T], second: &[T]) -> Result<Vec<T>, AllocError>
     ensures { IfOk result (λ list. list.items ≡ first.now ++ second.now) }
 {

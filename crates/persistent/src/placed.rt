@@ -1,7 +1,7 @@
 //! The elements of rows.
 ghost use Rattle.std.specs.Prelude.{◌≡◌, ◌↔◌, IsTrue, ℤ};
 
-/// Values that lie in rows: each has a place among the integers, and a row that has them in order is searched by it.
+/// An element of a row. It has a place among the integers, and a row with ascending places is searched by place.
 pub trait Placed: Copy {
     ghost place: { Self → ℤ };
 

@@ -15,15 +15,14 @@ use std::marker::Model;
 /// A row with more values than this is a tree.
 pub const FLAT: usize = 128;
 
-/// Values in a row, each by its place. A change gives another row. A few values lie in place, and are copied; so are some more, which lie
-/// in a list. If there are many, the other row shares all except the way to the place, which grows with the logarithm of their number, and
-/// a copy shares all.
+/// Values in a row, each at its place. A change returns another row. Up to 128 values are copied. If there are more, the other row
+/// shares all except the path to the changed place, which has O(log n) parts, and a copy shares all.
 #[derive(Drop)]
 pub struct Row<T: Copy> {
     form: Form<T>,
 }
 
-// Where the values lie.
+// The form of a row.
 #[derive(Drop)]
 enum Form<T: Copy> {
     Empty,
@@ -65,7 +64,7 @@ fn row_of_list<T: Copy>(alloc: Global, list: Vec<T>) -> Result<Row<T>, AllocErro
     })
 }
 
-// The row of these values, one part behind the other, with any value as a blank.
+// The row of both parts, one behind the other. Unused places get `blank`.
 fn row_of<T: Copy>(alloc: Global, blank: T, first: &[T], second: &[T]) -> Result<Row<T>, AllocError>
     ensures { IfOk result (λ row. row ≡ first.now ++ second.now) }
 {
@@ -137,7 +136,7 @@ impl<T: Copy> Row<T> {
         }
     }
 
-    /// How many there are. Takes constant time.
+    /// The number of values. Takes constant time.
     pub fn len(&self) -> usize
         ensures { result ≡ length self.now }
     {
@@ -147,7 +146,7 @@ impl<T: Copy> Row<T> {
         }
     }
 
-    /// The first of them. Takes constant time.
+    /// The first value. Takes constant time.
     pub fn first(&self) -> T
         requires { 0 < length self.now }
         ensures { (d : T) → result ≡ get_or self.now 0 d }
@@ -158,8 +157,8 @@ impl<T: Copy> Row<T> {
         }
     }
 
-    /// The same values. Takes the time and the memory of the values in a list, and else constant time and no memory; `AllocError`
-    /// too if as many share them as can be counted.
+    /// A row of the same values. Costs time and memory in O(values) up to 128 values, and else constant time and no memory. `AllocError`
+    /// if there is no memory, or if as many rows share the values as can be counted.
     pub fn copy(&self) -> Result<Row<T>, AllocError>
         ensures { IfOk result (λ row. row ≡ self.now) }
     {
@@ -174,8 +173,7 @@ impl<T: Copy> Row<T> {
         Ok(Row { form })
     }
 
-    /// The values with one more at this place. Takes the time and the memory of the values in a list, and else those of the way to
-    /// the place, which grow with the logarithm of how many values there are.
+    /// The values with `value` inserted at place `at`. Costs time and memory in O(values) up to 128 values, and else in O(log n).
     pub fn with(&self, alloc: Global, at: usize, value: T) -> Result<Row<T>, AllocError>
         requires { at ≤ length self.now }
         ensures { IfOk result (λ row. row ≡ insert self.now at value) }
@@ -195,7 +193,7 @@ impl<T: Copy> Row<T> {
         }
     }
 
-    /// The values without the one at this place. Takes time and memory as above.
+    /// The values without the one at place `at`. Costs time and memory in O(values) up to 128 values, and else in O(log n).
     pub fn without(&self, alloc: Global, at: usize) -> Result<Row<T>, AllocError>
         requires { at < length self.now }
         ensures { IfOk result (λ row. row ≡ remove self.now at) }
@@ -213,8 +211,8 @@ impl<T: Copy> Row<T> {
         }
     }
 
-    /// The values with this one in place of those from one place up to another, which are two at most. Takes time and memory as
-    /// above.
+    /// Replaces the values in from..to (at most two) by `value`. Costs time and memory in O(values) up to 128 values, and else in
+    /// O(log n).
     pub fn spliced(
         &self,
         alloc: Global,
@@ -233,7 +231,7 @@ impl<T: Copy> Row<T> {
         }
     }
 
-    /// The values from this place on, as far as they lie in one piece of memory. Costs O(log n).
+    /// The values from place `at` on that are stored in one piece of memory. Costs O(log n).
     pub fn part_at(&self, at: usize) -> &[T]
         requires { at < length self.now }
         ensures some { 0 < length result.now }
@@ -259,8 +257,8 @@ impl<T: Copy> Row<T> {
 }
 
 impl<T: Placed> Row<T> {
-    /// A place that splits the row: the value before it, if any, is below this one, and the value at it, if any, is not. In a row that
-    /// never falls there is one alone. Costs O(log n).
+    /// A place that splits the row: the element before it, if any, has a place below `value`, and the element at it, if any, has not. A row
+    /// that never falls has exactly one such place. Costs O(log n).
     pub fn place_of(&self, value: i64) -> usize
         ensures within { result ≤ length self.now }
         ensures before { (k : ℕ) (d : T) → result ≡ k + 1 → T.place (get_or self.now k d) <ℤ value }

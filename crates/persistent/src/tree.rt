@@ -10,18 +10,18 @@ use std::alloc::{AllocError, Global};
 use std::marker::Model;
 use std::sync::Arc;
 
-// So many values lie in one piece of memory at most, once a change has come there.
+// The greatest number of values in one piece of memory that a change made.
 const MOST: usize = 64;
 
-/// Many values in a row, each by its place. A change gives another tree, which shares with this one all but what is on the way to
-/// the place: that grows with the logarithm of how many values there are. A copy shares all.
+/// Many values in a row, each at its place. A change returns another tree, which shares with this one all except the path to the changed
+/// place, which has O(log n) nodes. A copy shares all.
 #[cycle(tree)]
 #[derive(Drop)]
 pub struct Tree<T: Copy> {
     node: Node<T>,
 }
 
-// A leaf has the values from one place on of those that lie there.
+// A leaf has a list and the place of its first value in that list.
 #[cycle(tree)]
 #[derive(Drop)]
 enum Node<T: Copy> {
@@ -30,7 +30,7 @@ enum Node<T: Copy> {
     Fork(Arc<Pair<T>>),
 }
 
-// Two rows, one behind the other; how many values both have, which is the first, and how many forks are above the deepest leaf.
+// Two rows, one behind the other, with the number of values of both, their first value, and the number of forks above the deepest leaf.
 #[cycle(tree)]
 #[derive(Drop)]
 struct Pair<T: Copy> {
@@ -59,7 +59,7 @@ impl<T: Copy> Model for Tree<T> {
     ghost size_decreases = { λ a h. depth_le-length _ a.node h };
 }
 
-/// A place that splits the values: the value before it, if any, is below this one, and the value at it, if any, is not.
+/// A place that splits the values: the element before it, if any, has a place below `value`, and the element at it, if any, has not.
 pub fn place_in<T: Placed>(values: &[T], value: i64) -> usize
     ensures within { result ≤ length values.now }
     ensures before { (k : ℕ) (d : T) → result ≡ k + 1 → T.place (get_or values.now k d) <ℤ value }
@@ -459,7 +459,7 @@ impl<T: Copy> Tree<T> {
         Tree { node: Node::Empty }
     }
 
-    /// How many there are. Takes constant time.
+    /// The number of values. Takes constant time.
     pub fn len(&self) -> usize
         ensures { result ≡ length self.now }
     {
@@ -478,7 +478,7 @@ impl<T: Copy> Tree<T> {
         }
     }
 
-    /// The first of them. Takes constant time.
+    /// The first value. Takes constant time.
     pub fn first(&self) -> T
         requires { 0 < length self.now }
         ensures { (d : T) → result ≡ get_or self.now 0 d }
@@ -490,8 +490,7 @@ impl<T: Copy> Tree<T> {
         }
     }
 
-    /// The same values, all of them shared. Takes constant time, and no memory; `AllocError` if as many share them as can be
-    /// counted.
+    /// A tree that shares all values. Takes constant time, and no memory; `AllocError` if as many trees share them as can be counted.
     pub fn copy(&self) -> Result<Tree<T>, AllocError>
         ensures { IfOk result (λ tree. tree ≡ self.now) }
     {
@@ -506,8 +505,7 @@ impl<T: Copy> Tree<T> {
         }
     }
 
-    /// The values with one more at this place. Takes the time and the memory of the way to the place, which grow with the logarithm
-    /// of how many values there are.
+    /// The values with `value` inserted at place `at`. Costs time and memory in O(log n).
     pub fn with(&self, alloc: Global, at: usize, value: T) -> Result<Tree<T>, AllocError>
         requires { at ≤ length self.now }
         ensures { IfOk result (λ tree. tree ≡ insert self.now at value) }
@@ -527,7 +525,7 @@ impl<T: Copy> Tree<T> {
         }
     }
 
-    /// The values without the one at this place. Takes the time and the memory of the way to the place, as above.
+    /// The values without the one at place `at`. Costs time and memory in O(log n).
     pub fn without(&self, alloc: Global, at: usize) -> Result<Tree<T>, AllocError>
         requires { at < length self.now }
         ensures { IfOk result (λ tree. tree ≡ remove self.now at) }
@@ -554,7 +552,7 @@ impl<T: Copy> Tree<T> {
         }
     }
 
-    /// The values with this one in place of the one at this place. Takes the time and the memory of the way there, as above.
+    /// Replaces the value at place `at` by `value`. Costs time and memory in O(log n).
     pub fn replaced(&self, alloc: Global, at: usize, value: T) -> Result<Tree<T>, AllocError>
         requires { at < length self.now }
         ensures { IfOk result (λ tree. tree ≡ take at self.now ++ value ∷ drop (at + 1) self.now) }
@@ -574,8 +572,7 @@ impl<T: Copy> Tree<T> {
         }
     }
 
-    /// The values with this one in place of those from one place up to another, which are two at most. Takes time and memory as
-    /// above.
+    /// Replaces the values in from..to (at most two) by `value`. Costs time and memory in O(log n).
     pub fn spliced(
         &self,
         alloc: Global,
@@ -598,7 +595,7 @@ impl<T: Copy> Tree<T> {
         fewer.replaced(alloc, from, value)
     }
 
-    /// The values from this place on, as far as they lie in one piece of memory. Costs O(log n).
+    /// The values from place `at` on that are stored in one piece of memory. Costs O(log n).
     pub fn part_at(&self, at: usize) -> &[T]
         requires { at < length self.now }
         ensures some { 0 < length result.now }
@@ -626,7 +623,7 @@ impl<T: Copy> Tree<T> {
         self.part_at(at)[0]
     }
 
-    /// Puts the values behind those in the list; `AllocError` if there is no memory for them, and then some may be put. Costs O(values).
+    /// Appends the values to the list; `AllocError` if there is no memory for them, and then some may be appended. Costs O(values).
     pub fn append_to(&self, list: &mut Vec<T>) -> Result<(), AllocError>
         ensures { OnOk result (list.new.items ≡ list.old.items ++ self.now) }
     {
@@ -642,8 +639,8 @@ impl<T: Copy> Tree<T> {
 }
 
 impl<T: Placed> Tree<T> {
-    /// A place that splits the row: the value before it, if any, is below this one, and the value at it, if any, is not. In a row that
-    /// never falls there is one alone. Costs O(log n).
+    /// A place that splits the row: the element before it, if any, has a place below `value`, and the element at it, if any, has not. A row that
+    /// never falls has exactly one such place. Costs O(log n).
     pub fn place_of(&self, value: i64) -> usize
         ensures within { result ≤ length self.now }
         ensures before { (k : ℕ) (d : T) → result ≡ k + 1 → T.place (get_or self.now k d) <ℤ value }

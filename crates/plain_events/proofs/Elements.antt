@@ -7,7 +7,7 @@ use Rattle.edn.specs.Text.{SkipsGap, Reads, ReadsAll}
 use Rattle.edn.specs.Text.SkipsGap.{no_gap, white, comment, discard}
 use Rattle.edn.specs.Text.Reads.{atom, in_brackets, in_braces}
 use Rattle.edn.specs.Text.ReadsAll.{no_more, one_more}
-use Rattle.plain_events.specs.Fronts.{IsWordAt, IsByteAt, IsElementAt, IsAtomAt, IsPairAt}
+use Rattle.plain_events.specs.Prefixes.{IsWordAt, IsByteAt, IsElementAt, IsAtomAt, IsPairAt}
 
 pub gap_after : {d : ℕ} {t u r : List ℕ} → SkipsGap d t u → SkipsGap d u r → SkipsGap d t r
 gap_after no_gap s = s

@@ -6,7 +6,7 @@ use Rattle.edn.specs.Text.SkipsGap.{no_gap}
 use Rattle.edn.specs.Text.Reads.{in_quotes, in_brackets}
 use Rattle.edn.specs.Text.ReadsAll.{no_more}
 use Rattle.edn.proofs.Beginnings.{gap_shorter, reads_shorter}
-use Rattle.plain_events.specs.Fronts.{IsByteAt, IsElementAt}
+use Rattle.plain_events.specs.Prefixes.{IsByteAt, IsElementAt}
 use Rattle.plain_events.specs.Passed.{IsStringAt, IsPassedAt, IsScalarAt}
 use Rattle.plain_events.proofs.Elements.{all_after, element_then}
 

@@ -7,3 +7,4 @@ pub mod Runs
 pub mod Insides
 pub mod Pairs
 pub mod Told
+pub mod UsualTexts

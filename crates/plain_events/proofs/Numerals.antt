@@ -5,7 +5,7 @@ use Rattle.edn.specs.Value.{int}
 use Rattle.edn.specs.Bytes.IsAtom.{plain, minus}
 use Rattle.edn.proofs.Digits.{DigitsSoFar}
 use Rattle.events.specs.EventMap.{number}
-use Rattle.plain_events.specs.Fronts.{IsAtomAt, BeginsNumeral, IsNumeralAt}
+use Rattle.plain_events.specs.Prefixes.{IsAtomAt, BeginsNumeral, IsNumeralAt}
 use Rattle.plain_events.proofs.Elements.{atom_at, word_behind}
 
 pub zero_begins : (text rest : List ℕ) → text ≡ 48 ∷ rest → BeginsNumeral text 0 rest

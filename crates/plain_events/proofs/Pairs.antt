@@ -10,7 +10,7 @@ use Rattle.edn.specs.Text.{SkipsGap, ReadsAll}
 use Rattle.edn.specs.Text.SkipsGap.{no_gap}
 use Rattle.edn.specs.Text.Reads.{in_braces}
 use Rattle.edn.specs.Text.ReadsAll.{no_more}
-use Rattle.plain_events.specs.Fronts.{IsByteAt, IsElementAt}
+use Rattle.plain_events.specs.Prefixes.{IsByteAt, IsElementAt}
 use Rattle.plain_events.specs.Keys.{mark_of, followed_by, push, ArePairsAt, AreMarked}
 use Rattle.plain_events.specs.Passed.{IsPassedAt}
 use Rattle.plain_events.proofs.Elements.{all_after, element_then}

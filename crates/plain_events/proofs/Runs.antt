@@ -1,10 +1,10 @@
 -- Strings that are passed over, run by run
-use Rattle.std.proofs.Common.{◌≡◌, ℕ, zero, suc, ◌<◌, false, List, [], ◌∷◌, ◌++◌, length, sym, subst, arith}
+use Rattle.std.proofs.Common.{◌≡◌, ℕ, zero, suc, ◌<◌, false, List, [], ◌∷◌, ◌++◌, sym, subst, arith}
 use Rattle.std.specs.Prelude.{slice_index}
 use Rattle.std.specs.Str.{IsUtf8}
 use Rattle.std.proofs.lemmas.Str.{IsUtf8-append, IsUtf8-nil, IsUtf8-from_ascii}
 use Rattle.edn.specs.Bytes.{SpellsByte}
-use Rattle.edn.specs.Bytes.SpellsByte.{itself, escaped}
+use Rattle.edn.specs.Bytes.SpellsByte.{itself}
 use Rattle.edn.specs.Text.{ReadsString}
 use Rattle.edn.specs.Text.ReadsString.{closing, one_byte}
 use Rattle.plain_events.specs.Passed.{ends_run, IsRun, IsStringAt}
@@ -26,16 +26,9 @@ ascii_at b (suc i) h = omega arith
 one_utf8 : (b : ℕ) → b < 128 → IsUtf8 (b ∷ [])
 one_utf8 b h = IsUtf8-from_ascii (b ∷ []) (λ i. ascii_at b i h)
 
-pub spelled_shorter : {t u : List ℕ} {b : ℕ} → SpellsByte t b u → length u < length t
-spelled_shorter (itself q k) = omega arith
-spelled_shorter (escaped i) = omega arith
-
 -- the rest of the string is in the text behind the bytes that were read
 abbrev pub StringSoFar : List ℕ → List ℕ → Type 0
 StringSoFar text rest = (s r : List ℕ) → ReadsString rest s r → IsUtf8 s → (w : List ℕ) × ReadsString text w r × IsUtf8 w
-
-pub string_start : (text : List ℕ) → StringSoFar text text
-string_start text s r h u = (s, h, u)
 
 pub string_more : (text rest run behind next : List ℕ) (b : ℕ) → rest ≡ run ++ behind → IsRun run → IsUtf8 run → SpellsByte behind b next → b < 128 → StringSoFar text rest → StringSoFar text next
 string_more text rest run behind next b e i u k small so s r h w =

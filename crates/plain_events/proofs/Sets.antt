@@ -16,7 +16,7 @@ use Rattle.models.specs.declared.operation.Part.TheVariants.{Set}
 use Rattle.values.specs.Members.{IsAscending, put_in}
 use Rattle.values.proofs.PutIn.{no_member, first_member, later_member, not_below, is_lower}
 use Rattle.events.specs.Spelling.{with_first, each_in, ascending}
-use Rattle.plain_events.specs.Fronts.{IsByteAt, IsAtomAt, AreIntegersAt, IsSetAt, IsPartAt}
+use Rattle.plain_events.specs.Prefixes.{IsByteAt, IsAtomAt, AreIntegersAt, IsSetAt, IsPartAt}
 use Rattle.plain_events.proofs.Elements.{all_after, element_then}
 
 -- integers that ascend, none greater than the last one

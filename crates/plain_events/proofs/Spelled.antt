@@ -18,7 +18,7 @@ use Rattle.events.specs.EventMap.{number}
 use Rattle.events.specs.Spelling.{text_of_kind, SpellsKeyed, Spells}
 use Rattle.events.specs.Tables.{IsPartOf}
 use Rattle.plain_events.specs.Plain.{BeginsWith, IsLineOf}
-use Rattle.plain_events.specs.Fronts.{IsWordAt, IsByteAt, IsAtomAt, IsPairAt, IsIndexAt, AreTwoAt, IsPartAt, IsValueAt, IsEventBy, AreUsualAt, IsMapBehind}
+use Rattle.plain_events.specs.Prefixes.{IsWordAt, IsByteAt, IsAtomAt, IsPairAt, IsIndexAt, AreTwoAt, IsPartAt, IsValueAt, IsEventBy, AreUsualAt, IsMapBehind}
 use Rattle.plain_events.specs.Keys.{followed_by, ArePairsAt}
 use Rattle.plain_events.proofs.Pairs.{pairs_end}
 use Rattle.plain_events.proofs.Elements.{element_then, pair_then, atom_at, brackets, braces}

@@ -16,7 +16,7 @@ use Rattle.events.specs.declared.event.Body.TheVariants.{Op as AnOp}
 use Rattle.events.specs.declared.event.Event.{Event}
 use Rattle.events.specs.Spelling.{IsNumber, text_of_kind, SpellsIndex, SpellsKind, SpellsName, SpellsKeyed, SpellsOp, Spells}
 use Rattle.plain_events.specs.declared.found.Found.{Found}
-use Rattle.plain_events.specs.Fronts.{IsIndexAt, AreUsualAt, IsMapBehind}
+use Rattle.plain_events.specs.Prefixes.{IsIndexAt, AreUsualAt, IsMapBehind}
 use Rattle.plain_events.specs.Keys.{mark_of, IsFurther, IsNewKeyAt, push, ArePairsAt}
 use Rattle.plain_events.specs.Passed.{IsPassedAt}
 use Rattle.plain_events.specs.Found.{Tells, Say, Adds, AddsPairAt, IsFoundOf, IsEventOf, IsFoundBehind}

@@ -9,7 +9,7 @@ use Rattle.events.specs.declared.event.EventKind.{EventKind}
 use Rattle.events.specs.declared.event.Event.{Event}
 use Rattle.events.specs.Spelling.{IsNumber, SpellsKind, SpellsName, SpellsKeyed}
 use Rattle.plain_events.specs.declared.found.Found.{Found}
-use Rattle.plain_events.specs.Fronts.{IsPairAt, IsEventBy}
+use Rattle.plain_events.specs.Prefixes.{IsPairAt, IsEventBy}
 use Rattle.plain_events.specs.Keys.{mark_of, IsFurther, push}
 
 -- the map's value at a key is the one found there, if there is one

@@ -5,7 +5,7 @@ use Rattle.edn.specs.Value.{Value, keyword, Pairs, no_pairs, pair, in_text, keys
 use Rattle.edn.specs.Bytes.{goes_on}
 use Rattle.edn.specs.Parts.{value_at}
 use Rattle.edn.specs.Text.{ReadsAll}
-use Rattle.plain_events.specs.Fronts.{IsAtomAt}
+use Rattle.plain_events.specs.Prefixes.{IsAtomAt}
 
 -- the mark of a name, one byte after the other: the low 56 bits of the mark so far, times 131, and the byte
 abbrev pub mark_from : ℕ → List ℕ → ℕ

@@ -1,5 +1,6 @@
 pub mod Plain
-pub mod Fronts
+pub mod Usual
+pub mod Prefixes
 pub mod Keys
 pub mod Passed
 pub mod Found

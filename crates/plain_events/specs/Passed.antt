@@ -4,7 +4,7 @@ use Rattle.std.specs.List.{AllByRecursion}
 use Rattle.std.specs.Str.{IsUtf8}
 use Rattle.edn.specs.Value.{Value}
 use Rattle.edn.specs.Text.{ReadsString}
-use Rattle.plain_events.specs.Fronts.{IsElementAt, IsAtomAt}
+use Rattle.plain_events.specs.Prefixes.{IsElementAt, IsAtomAt}
 
 -- a quote or a backslash
 abbrev pub ends_run : ℕ → Bool

@@ -4,14 +4,15 @@ ghost use Rattle.edn.specs.Value.{keyword, Pairs};
 ghost use Rattle.events.specs.Spelling.{text_of_kind};
 ghost use Rattle.events.specs.EventMap.{number};
 ghost use Rattle.plain_events.specs.Plain.{BeginsWith, IsLineOf};
-ghost use Rattle.plain_events.specs.Fronts.{IsAtomAt, IsPairAt, IsIndexAt, AreUsualAt, IsMapBehind};
+ghost use Rattle.plain_events.specs.Prefixes.{IsAtomAt, IsPairAt, IsIndexAt, AreUsualAt, IsMapBehind};
 ghost use Rattle.plain_events.specs.Keys.{ArePairsAt};
 ghost use Rattle.plain_events.specs.Found.{Say, IsFoundBehind};
 
 use crate::found::Found;
 use crate::numbers::number;
 use crate::operation::{name_pair, value_pair};
-use crate::word::{past_byte, past_bytes, past_keyword, past_white};
+use crate::usual::usual;
+use crate::word::{past_byte, past_bytes, past_keyword, past_lines, past_white};
 use events::{Body, Event, EventKind, Process, is_part_of};
 use models::Op;
 use std::alloc::Global;
@@ -82,8 +83,8 @@ fn found_behind(alloc: Global, found: Found, text: &[u8]) -> Option<(Found, &[u8
     }
 }
 
-// The event of which this was found, with other pairs behind it up to the closing brace, and what follows that; or none,
-// which says nothing.
+// The event with the pairs that were found and the other pairs up to the closing brace, and the text behind the brace. `None` says nothing of
+// the text.
 fn with_others(alloc: Global, found: Found, text: &[u8]) -> Option<(Event, &[u8])>
     ensures { IfSome result (λ x. (inner : List ℕ) (ps : Pairs) → ArePairsAt 1 inner ps text.now
         → Say ps found → IsMapBehind inner x.0 x.1.now) }
@@ -93,8 +94,7 @@ fn with_others(alloc: Global, found: Found, text: &[u8]) -> Option<(Event, &[u8]
     Some((event, rest))
 }
 
-// The event whose pairs stand behind an opening brace, in any order, and what follows the closing one; or none, which says
-// nothing.
+// The event whose pairs follow an opening brace, in any order, and the text behind the closing brace. `None` says nothing of the text.
 #[inline(never)]
 fn in_any_order(alloc: Global, inner: &[u8]) -> Option<(Event, &[u8])>
     ensures { IfSome result (λ x. IsMapBehind inner.now x.0 x.1.now) }
@@ -102,7 +102,7 @@ fn in_any_order(alloc: Global, inner: &[u8]) -> Option<(Event, &[u8])>
     with_others(alloc, Found::new(), inner)
 }
 
-// The event of which this was read in the usual order, with other pairs behind it.
+// The event with the pairs that were read in the usual order, and the other pairs behind them.
 #[inline(never)]
 fn and_others(
     alloc: Global,
@@ -118,14 +118,40 @@ fn and_others(
     with_others(alloc, Found::of(index, kind, process, op), rest)
 }
 
-/// The event of a client that is spelled plainly at the front, behind any white space, and what follows it; or none, which says nothing. It
-/// allocates for the members of a set alone, and returns none if an allocation fails.
-///
-/// The time is that of one pass over the event, and of another one over what it has in the usual order, if not all is so.
-pub fn plain_event(alloc: Global, text: &[u8]) -> Option<(Event, &[u8])>
-    ensures { IfSome result (λ x. BeginsWith text.now x.0 x.1.now) }
+// The event of which this was read in the usual order, up to the closing brace, and the text behind it. `None` says nothing.
+#[inline(always)]
+fn closed(
+    alloc: Global,
+    index: Option<u32>,
+    kind: EventKind,
+    process: u32,
+    op: Op,
+    text: &[u8],
+) -> Option<(Event, &[u8])>
+    ensures { IfSome result (λ x. (inner : List ℕ) → AreUsualAt inner index kind process op text.now
+        → IsMapBehind inner x.0 x.1.now) }
 {
-    let inner = past_byte(past_white(text), b'{')?;
+    let (last, behind) = text.split_first()?;
+    if *last != b'}' {
+        return and_others(alloc, index, kind, process, op, text);
+    }
+    if !is_part_of(kind, op.name, &op.part) {
+        return None;
+    }
+    let event = Event {
+        index,
+        kind,
+        process: Process::Client(process),
+        body: Body::Op(op),
+    };
+    Some((event, behind))
+}
+
+// The event whose pairs stand behind an opening brace, mostly in the usual order, and the text behind the closing brace. `None` says nothing.
+#[inline(never)]
+fn pair_by_pair(alloc: Global, inner: &[u8]) -> Option<(Event, &[u8])>
+    ensures { IfSome result (λ x. IsMapBehind inner.now x.0 x.1.now) }
+{
     let Some((index, rest)) = index_pair(inner) else {
         return in_any_order(alloc, inner);
     };
@@ -141,26 +167,28 @@ pub fn plain_event(alloc: Global, text: &[u8]) -> Option<(Event, &[u8])>
     let Some((key, part, rest)) = value_pair(alloc, rest) else {
         return in_any_order(alloc, inner);
     };
-    let (last, behind) = rest.split_first()?;
-    if *last != b'}' {
-        return and_others(alloc, index, kind, process, Op { name, key, part }, rest);
-    }
-    if !is_part_of(kind, name, &part) {
-        return None;
-    }
-    let event = Event {
-        index,
-        kind,
-        process: Process::Client(process),
-        body: Body::Op(Op { name, key, part }),
-    };
-    Some((event, behind))
+    closed(alloc, index, kind, process, Op { name, key, part }, rest)
 }
 
-/// The event of a client that a line spells plainly, with white space alone around it; or none, which says nothing. It allocates for the
-/// members of a set alone, and returns none if an allocation fails.
+/// The event of a client that is spelled plainly at the beginning of the text, behind any white space, and the text behind it. `None` says
+/// nothing of the text. It allocates for the members of a set alone, and returns `None` if an allocation fails.
 ///
-/// The time is that of one pass over the line.
+/// Costs one pass over the event, and a second pass over its first pairs if they are in the usual order and later ones are not.
+pub fn plain_event(alloc: Global, text: &[u8]) -> Option<(Event, &[u8])>
+    ensures { IfSome result (λ x. BeginsWith text.now x.0 x.1.now) }
+{
+    let front = past_lines(text);
+    if let Some((index, kind, process, op, rest)) = usual(alloc, front) {
+        return closed(alloc, Some(index), kind, process, op, rest);
+    }
+    let inner = past_byte(front, b'{')?;
+    pair_by_pair(alloc, inner)
+}
+
+/// The event of a client that a line spells plainly, with only white space around it. `None` says nothing of the line. It allocates for the
+/// members of a set alone, and returns `None` if an allocation fails.
+///
+/// Costs O(bytes).
 pub fn plain_line(alloc: Global, line: &[u8]) -> Option<Event>
     ensures { IfSome result (λ event. IsLineOf line.now event) }
 {

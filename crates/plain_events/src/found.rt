@@ -2,7 +2,7 @@
 ghost use Rattle.std.specs.Prelude.{◌^◌, codes, IfSome};
 ghost use Rattle.edn.specs.Value.{Value, no_pairs};
 ghost use Rattle.events.specs.Spelling.{IsNumber, SpellsKind, SpellsName, SpellsKeyed};
-ghost use Rattle.plain_events.specs.Fronts.{IsEventBy};
+ghost use Rattle.plain_events.specs.Prefixes.{IsEventBy};
 ghost use Rattle.plain_events.specs.Found.{Say, IsFoundOf, Adds, AddsPairAt, IsEventOf};
 
 use crate::event::{index_pair, kind_pair, process_pair};
@@ -157,7 +157,7 @@ impl Found {
         self.put_further(text)
     }
 
-    /// The event of a client of which this is all that is found; or none, which says nothing.
+    /// The event of a client with all that was found. `None` says nothing of the text.
     pub fn event(self) -> Option<Event>
         ensures { IfSome result (λ event. IsEventOf self event) }
     {

@@ -3,7 +3,7 @@ ghost use Rattle.std.specs.Prelude.{◌≡◌, ℕ, List, [], ◌∷◌, ◌++�
 ghost use Rattle.std.specs.List.{Contains};
 ghost use Rattle.edn.specs.Value.{keyword};
 ghost use Rattle.edn.specs.Bytes.{is_letter, goes_on};
-ghost use Rattle.plain_events.specs.Fronts.{IsAtomAt};
+ghost use Rattle.plain_events.specs.Prefixes.{IsAtomAt};
 ghost use Rattle.plain_events.specs.Keys.{mark_of, AreNameBytes, IsFurther, IsNewKeyAt};
 
 use crate::word::past_end;
@@ -43,7 +43,7 @@ fn goes_on(b: u8) -> bool
     is_letter(b) || b.is_ascii_digit() || matches!(b, b'-' | b'_' | b'?' | b'!' | b'*' | b'.')
 }
 
-// The bytes at the front that may stand in a name, and the rest.
+// The longest prefix of bytes that a name may have, and the rest.
 fn name_bytes(text: &[u8]) -> (&[u8], &[u8])
     ensures whole { text.now ≡ result.0.now ++ result.1.now }
     ensures inside { AreNameBytes result.0.now }

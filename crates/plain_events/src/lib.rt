@@ -4,10 +4,10 @@
 //! `:index`, which may be left out; and at most 16 others, which no event needs. The operation's part is nil, an integer, a vector of two
 //! or a set, its members in ascending order. The value at another key is passed over: an atom, a string, a vector, or a map whose keys are
 //! keywords, at most 16. There is only white space between. Integers have no plus, and are below 9,223,372,036,854,775,800 in size. The
-//! order in which [`map_of_event`](events::map_of_event) writes is read fastest.
+//! order in which [`map_of_event`](events::map_of_event) writes is read fastest, with an index, and with blanks and commas as it writes them.
 //!
-//! Whatever else a text has is read by `edn::read_all` and `events::from_edn`. The calls here say only what was read, and
-//! if they answer `None` they say nothing, also if there is no memory for the members of a set.
+//! `edn::read_all` and `events::from_edn` read all other texts. If a call of this crate returns `None`, the text may still be an event: the
+//! event is not plain, or there is no memory for the members of a set.
 #![tactic(auto)]
 
 mod event;
@@ -16,8 +16,10 @@ mod keys;
 mod numbers;
 mod operation;
 mod passed;
+mod run;
 mod set;
 mod strings;
+mod usual;
 mod word;
 
 pub use event::{plain_event, plain_line};

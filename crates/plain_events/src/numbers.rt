@@ -4,11 +4,11 @@ ghost use Rattle.edn.specs.Value.{int};
 ghost use Rattle.edn.specs.Bytes.{is_digit};
 ghost use Rattle.edn.specs.Longest.{TakesDigit};
 ghost use Rattle.events.specs.EventMap.{number};
-ghost use Rattle.plain_events.specs.Fronts.{IsAtomAt, BeginsNumeral, IsNumeralAt};
+ghost use Rattle.plain_events.specs.Prefixes.{IsAtomAt, BeginsNumeral, IsNumeralAt};
 
 use crate::word::past_end;
 
-// The greatest of 63 bits whose digits but the last one may stand before any digit.
+// The greatest number of 63 bits that stays in 63 bits with any other last digit.
 const MOST: u64 = 9_223_372_036_854_775_799;
 
 fn is_digit(b: u8) -> bool
@@ -34,9 +34,9 @@ fn with_digit(value: u64, text: &[u8]) -> Option<(u64, &[u8])>
     Some((10 * value + digit, rest))
 }
 
-// The number of the digits at the front, and what follows them.
+/// The number of the digits at the front, and what follows them.
 #[inline(always)]
-fn digits(text: &[u8]) -> Option<(u64, &[u8])>
+pub fn digits(text: &[u8]) -> Option<(u64, &[u8])>
     ensures { IfSome result (λ x. BeginsNumeral text.now x.0 x.1.now) }
 {
     let (first, behind) = text.split_first()?;

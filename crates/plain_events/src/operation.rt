@@ -3,7 +3,7 @@ ghost use Rattle.std.specs.Prelude.{◌<◌, ◌^◌, codes, IfSome};
 ghost use Rattle.edn.specs.Value.{keyword};
 ghost use Rattle.models.specs.Names.{text_of};
 ghost use Rattle.events.specs.EventMap.{number};
-ghost use Rattle.plain_events.specs.Fronts.{IsAtomAt, IsPairAt, AreTwoAt, IsPartAt, IsValueAt};
+ghost use Rattle.plain_events.specs.Prefixes.{IsAtomAt, IsPairAt, AreTwoAt, IsPartAt, IsValueAt};
 
 use crate::numbers::{integer, number};
 use crate::set::set_at;
@@ -46,8 +46,8 @@ fn two(inner: &[u8]) -> Option<(i64, i64, &[u8])>
     Some((a, b, rest))
 }
 
-// The part of an operation: nil, an integer, a vector of two or a set.
-fn part_at(alloc: Global, text: &[u8]) -> Option<(Part, &[u8])>
+/// The part of an operation: nil, an integer, a vector of two or a set.
+pub fn part_at(alloc: Global, text: &[u8]) -> Option<(Part, &[u8])>
     ensures { IfSome result (λ x. IsPartAt text.now x.0 x.1.now) }
 {
     if let Some(rest) = past_word(text, b"nil") {

@@ -1,7 +1,7 @@
 //! Sets of integers that are written in ascending order.
 ghost use Rattle.std.specs.Prelude.{IfSome};
 ghost use Rattle.values.specs.Members.{IsAscending};
-ghost use Rattle.plain_events.specs.Fronts.{AreIntegersAt, IsSetAt};
+ghost use Rattle.plain_events.specs.Prefixes.{AreIntegersAt, IsSetAt};
 
 use crate::numbers::integer;
 use crate::word::{past_byte, past_bytes, past_white};

@@ -3,7 +3,7 @@ ghost use Rattle.std.specs.Prelude.{◌≡◌, ◌++◌, ℕ, IfSome};
 ghost use Rattle.edn.specs.Value.{keyword};
 ghost use Rattle.edn.specs.Bytes.{is_white, ends_atom, MayFollowAtom, IsKeywordText};
 ghost use Rattle.edn.specs.Text.{SkipsGap};
-ghost use Rattle.plain_events.specs.Fronts.{IsWordAt, IsByteAt, IsAtomAt};
+ghost use Rattle.plain_events.specs.Prefixes.{IsWordAt, IsByteAt, IsAtomAt};
 
 fn is_white(b: u8) -> bool
     ensures { result ≡ is_white b }
@@ -32,7 +32,7 @@ pub fn past_white(text: &[u8]) -> &[u8]
     }
 }
 
-// The same, byte by byte. Mostly there is nothing to skip, so it stands by itself.
+// The same, byte by byte. Mostly there is nothing to skip, so this is a function of its own.
 #[inline(never)]
 fn past_all_white(text: &[u8]) -> &[u8]
     ensures { (d : ℕ) → SkipsGap d text.now result.now }
@@ -64,6 +64,25 @@ fn past_more(text: &[u8]) -> &[u8]
     ensures { (d : ℕ) → SkipsGap d text.now result.now }
 {
     past_white(past_blank(text))
+}
+
+// The rest after a line feed at the beginning, if there is one.
+#[inline(always)]
+fn past_line_feed(text: &[u8]) -> &[u8]
+    ensures { (d : ℕ) → SkipsGap d text.now result.now }
+{
+    match text.split_first() {
+        Some((first, behind)) if *first == b'\n' => behind,
+        _ => text,
+    }
+}
+
+/// The rest after the white space at the beginning, which is often one line feed.
+#[inline(always)]
+pub fn past_lines(text: &[u8]) -> &[u8]
+    ensures { (d : ℕ) → SkipsGap d text.now result.now }
+{
+    past_white(past_line_feed(text))
 }
 
 /// The rest after the white space at the beginning, if an atom may end before it.

@@ -1,5 +1,5 @@
-//! Which process a thread goes on with, and which is busy: the process rule of the Jepsen documentation
-//! (<https://github.com/jepsen-io/jepsen>).
+//! The process rule of the Jepsen documentation (<https://github.com/jepsen-io/jepsen>): the current process of each thread, and whether it
+//! is busy.
 //!
 //! A call allocates only if its result can be `AllocError`, or a refusal because memory ran out.
 #![tactic(auto)]

@@ -148,7 +148,7 @@ impl Threads {
         Ok(())
     }
 
-    /// The process crashes in its operation, and its thread goes on with another one. Takes no memory.
+    /// The process crashes in its operation, and its thread continues with another process. Takes no memory.
     ///
     /// # Errors
     /// Those of [`may_complete`](Threads::may_complete); the threads are then as before.

@@ -3,9 +3,9 @@ use Rattle.std.proofs.Common.{◌≡◌, ◌↔◌, ⊎_elim, ℕ, suc, ◌+◌,
 use Rattle.std.proofs.lemmas.Bool.{cases_eq}
 use Rattle.std.proofs.lemmas.List.{get_or_append_left}
 use Rattle.std.proofs.lemmas.Option.{get_or_from_slice_get}
-use Rattle.interned.proofs.Lists.{get_last}
+use Rattle.interner.proofs.Lists.{get_last}
 use Rattle.products.specs.Products.{AreIn, IsIn}
-use Rattle.product_ends.specs.Deeds.{IsAlone}
+use Rattle.product_ends.specs.Transitions.{IsAlone}
 
 -- the sets have the numbers of the row before this place, each alone
 abbrev pub AreAlone : List ℕ → List ℕ → ℕ → Type 0

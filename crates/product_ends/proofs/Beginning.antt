@@ -12,10 +12,10 @@ use Rattle.moves.specs.declared.table.Table.{Table}
 use Rattle.moves.specs.Tables.{AreShown, with_rows}
 use Rattle.moves.proofs.Reaching.{reached_itself}
 use Rattle.products.specs.Products.{Product, rows_in}
-use Rattle.product_ends.specs.declared.room.Source.{Source}
-use Rattle.product_ends.specs.declared.room.Work.{Work}
+use Rattle.product_ends.specs.declared.workspace.Source.{Source}
+use Rattle.product_ends.specs.declared.workspace.Work.{Work}
 use Rattle.product_ends.specs.declared.target.Target.{Target}
-use Rattle.product_ends.specs.Deeds.{AreStays, order_in}
+use Rattle.product_ends.specs.Transitions.{AreStays, order_in}
 use Rattle.product_ends.specs.Growing.{AreGrown, HoldReached}
 use Rattle.product_ends.specs.Widening.{product_in, product_to}
 use Rattle.product_ends.proofs.Saying.{end_in}
@@ -44,13 +44,13 @@ pub to_itself : (source : Source) (to : Target) → to.number ≡ source.number 
 to_itself source to same past = λ i. (same i, set_past source.sets.items to.place to.set past i)
 
 -- of no calls in states, and of no products
-pub grown_none : {S : Type 0} (apply : Op → S → List (S × Found)) (t : Table S) (calls : List PendingOp) (w : Work S) → ((number : ℕ) → order_in w.deeds number ≡ 0)
-    → AreStays w.deeds (length calls) → w.all.1 ≡ [] → (budget steps : ℕ) → AreGrown apply t calls 0 budget [] w steps steps true
+pub grown_none : {S : Type 0} (apply : Op → S → List (S × Found)) (t : Table S) (calls : List PendingOp) (w : Work S) → ((number : ℕ) → order_in w.transitions number ≡ 0)
+    → AreStays w.transitions (length calls) → w.all.1 ≡ [] → (budget steps : ℕ) → AreGrown apply t calls 0 budget [] w steps steps true
 grown_none apply t calls w none stays empty budget steps = record {
   known = record {
     sound = record {
       within = λ number order is. absurd (let zero = none number in omega (arith, is, zero));
-      deeds = λ number order at c deed is here got. absurd (let zero = none number in omega (arith, is, zero));
+      transitions = λ number order at c transition is here got. absurd (let zero = none number in omega (arith, is, zero));
       stays = stays;
     };
     tried = λ row is. absurd (none-some is.1.0 (ap (λ l. slice_get l is.0) (sym empty) ∙ is.1.1));

@@ -11,7 +11,7 @@ use Rattle.moves.specs.EndSteps.{Next, TakesLast}
 use Rattle.moves.specs.Tables.{Shows, Widens}
 use Rattle.moves.proofs.Reaching.{closed_has}
 use Rattle.moves.proofs.Rows.{one_end}
-use Rattle.interned.proofs.Lists.{one_of, place_of}
+use Rattle.interner.proofs.Lists.{one_of, place_of}
 use Rattle.products.specs.Products.{IsIn, IsInAt, IsInOne, Product}
 use Rattle.products.proofs.Sets.{are_in_long}
 use Rattle.product_ends.specs.Growing.{AreClosedTo, Gains, HoldReached, LeadsAt, SayAll}

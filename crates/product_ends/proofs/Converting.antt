@@ -2,7 +2,7 @@
 use Rattle.std.proofs.Common.{◌≡◌, ◌↔◌, ◌+◌, ◌<◌, ℕ, Some, List, [], length, slice_get, get_or, refl, sym, ap, ◌∙◌, subst}
 use Rattle.std.proofs.lemmas.Option.{get_or_from_slice_get, slice_get-get_or, slice_get_within}
 use Rattle.linspec.specs.Ends.{End}
-use Rattle.interned.proofs.Lists.{has_place, one_of, place_of}
+use Rattle.interner.proofs.Lists.{has_place, one_of, place_of}
 use Rattle.moves.specs.declared.pending_op.PendingOp.{PendingOp}
 use Rattle.moves.specs.declared.table.Table.{Table}
 use Rattle.moves.specs.EndSteps.{Along}

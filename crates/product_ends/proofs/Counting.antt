@@ -3,8 +3,8 @@ use Rattle.std.proofs.Common.{◌≡◌, ⊎_elim, ℕ, suc, ◌+◌, ◌-◌, �
 use Rattle.std.specs.List.{Contains}
 use Rattle.std.proofs.Math.Nat.{mul-le-mul_left}
 use Rattle.rows.proofs.Elements.{Contains-nil, Contains-cons_cases}
-use Rattle.interned.specs.Numbers.{IsOnceIn}
-use Rattle.interned.proofs.Lists.{has_place, place_of, some_at}
+use Rattle.interner.specs.Numbers.{IsOnceIn}
+use Rattle.interner.proofs.Lists.{has_place, place_of, some_at}
 use Rattle.products.specs.Products.{AreApart, AreIn, Has, IsInOne, Product, numbers_of, rows_in}
 use Rattle.products.proofs.Lists.{Once, fewer}
 use Rattle.products.proofs.Numbers.{contains_numbers}
@@ -12,7 +12,7 @@ use Rattle.products.proofs.Sets.{are_in_at}
 use Rattle.moves.specs.declared.table.Table.{Table}
 use Rattle.moves.specs.Tables.{OnlyTries}
 use Rattle.moves.proofs.Showing.{tries_on}
-use Rattle.product_ends.specs.Deeds.{TriesAtMost}
+use Rattle.product_ends.specs.Transitions.{TriesAtMost}
 use Rattle.product_ends.specs.Growing.{IsPaid}
 use Rattle.product_ends.proofs.RowsIn.{contains_rows_in, rows_in_once}
 

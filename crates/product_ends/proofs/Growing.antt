@@ -8,8 +8,8 @@ use Rattle.moves.specs.declared.table.Table.{Table}
 use Rattle.moves.specs.Tables.{OnlyTries}
 use Rattle.moves.proofs.Showing.{tries_on}
 use Rattle.products.specs.Products.{AreApart, Family, IsIn, IsInOne, Product, rows_in}
-use Rattle.product_ends.specs.declared.room.Work.{Work}
-use Rattle.product_ends.specs.Deeds.{AreSound, HasOneOutcome, IsTried, TriesAtMost}
+use Rattle.product_ends.specs.declared.workspace.Work.{Work}
+use Rattle.product_ends.specs.Transitions.{AreSound, HasOneOutcome, IsTried, TriesAtMost}
 use Rattle.product_ends.specs.Growing.{AreGrown, Gains, HasSource, IsPaid, KeepsSource, LosesNoRow, MayGrow}
 use Rattle.product_ends.proofs.Counting.{cost_first, cost_rest, cost_within, paid_then}
 
@@ -41,12 +41,12 @@ module _ {S : Type 0} {apply : Op → S → List (S × Found)} {t : Table S} {ca
   may_grow single grown = record { single = single; known = grown.known; few = grown.within refl }
 
   -- whatever the source is
-  pub may_grow_by : (w v : Work S) → v.deeds ≡ w.deeds → v.all ≡ w.all → MayGrow apply t calls budget w → MayGrow apply t calls budget v
-  may_grow_by w v deeds all may = record {
+  pub may_grow_by : (w v : Work S) → v.transitions ≡ w.transitions → v.all ≡ w.all → MayGrow apply t calls budget w → MayGrow apply t calls budget v
+  may_grow_by w v transitions all may = record {
     single = may.single;
     known = record {
-      sound = subst (AreSound apply t calls) (sym deeds) may.known.sound;
-      tried = λ row is. subst (λ d. IsTried d (get_or row 0 0)) (sym deeds) (may.known.tried row (subst (λ (f : Family). IsInOne f.1 row) all is));
+      sound = subst (AreSound apply t calls) (sym transitions) may.known.sound;
+      tried = λ row is. subst (λ d. IsTried d (get_or row 0 0)) (sym transitions) (may.known.tried row (subst (λ (f : Family). IsInOne f.1 row) all is));
       apart = subst (λ (f : Family). AreApart f.1) (sym all) may.known.apart;
     };
     few = subst (λ (f : Family). length (rows_in f.1) ≤ budget) (sym all) may.few;
@@ -54,7 +54,7 @@ module _ {S : Type 0} {apply : Op → S → List (S × Found)} {t : Table S} {ca
 
 -- no product is put, but calls may be tried
 module _ {S : Type 0} {apply : Op → S → List (S × Found)} {t u : Table S} {calls : List PendingOp} {budget : ℕ} where
-  pub grown_tried : (from a b : ℕ) (w v : Work S) → v.all ≡ w.all → AreSound apply u calls v.deeds → ((n : ℕ) → IsTried w.deeds n → IsTried v.deeds n) → b ≡ a → MayGrow apply t calls budget w
+  pub grown_tried : (from a b : ℕ) (w v : Work S) → v.all ≡ w.all → AreSound apply u calls v.transitions → ((n : ℕ) → IsTried w.transitions n → IsTried v.transitions n) → b ≡ a → MayGrow apply t calls budget w
       → AreGrown apply u calls from budget w.all.1 v a b true
   grown_tried from a b w v all sound tried same may = record {
     known = record {

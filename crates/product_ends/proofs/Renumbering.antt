@@ -4,10 +4,10 @@ use Rattle.std.proofs.lemmas.Bool.{cases_eq}
 use Rattle.std.proofs.lemmas.List.{get_or_append_left}
 use Rattle.std.proofs.lemmas.Option.{get_or_from_slice_get, same_Some, slice_get_within}
 use Rattle.models.specs.declared.finding.Found.{Found}
-use Rattle.events.specs.Events.{IsFront}
+use Rattle.events.specs.Events.{IsPrefixOf}
 use Rattle.linspec.specs.Ends.{End}
-use Rattle.interned.specs.Numbers.{IsOnceIn, IsSlot}
-use Rattle.interned.proofs.Lists.{get_front, get_last}
+use Rattle.interner.specs.Numbers.{IsOnceIn, IsSlot}
+use Rattle.interner.proofs.Lists.{get_front, get_last}
 use Rattle.moves.specs.declared.pending_op.PendingOp.{PendingOp}
 use Rattle.moves.specs.declared.table.Table.{Table}
 use Rattle.moves.specs.EndSteps.{Along}
@@ -18,7 +18,7 @@ use Rattle.products.specs.Products.{AreApart, AreIn, Has, HasWith, IsIn, IsInAt,
 use Rattle.products.proofs.Leaving.{puts_with}
 use Rattle.products.proofs.Numbers.{by_bits, has_alone, has_nothing}
 use Rattle.product_ends.specs.Conversion.{AreRenumbered, IsRenumbered, IsSameFound}
-use Rattle.product_ends.specs.Deeds.{IsAlone}
+use Rattle.product_ends.specs.Transitions.{IsAlone}
 use Rattle.product_ends.proofs.Saying.{end_in, row_in, shown_by_products}
 
 -- the number of one thing
@@ -26,10 +26,10 @@ module _ (founds others : List Found) where
   pub same_some : (number at other : ℕ) (found : Found) → number ≡ at + 1 → slice_get founds at ≡ Some found → IsSlot others other (Some found) → IsSameFound founds others number other
   same_some number at other found is here slot = (Some found, (at, is, here), slot)
 
-  pub same_on : (more : List Found) → IsFront others more → (number other : ℕ) → IsSameFound founds others number other → IsSameFound founds more number other
+  pub same_on : (more : List Found) → IsPrefixOf others more → (number other : ℕ) → IsSameFound founds others number other → IsSameFound founds more number other
   same_on more front number other s = (s.0, s.1, slot_more others more other s.0 front s.2)
 
-  pub renumbered_on : (more : List Found) → IsFront others more → (set other : ℕ) → IsRenumbered founds others set other → IsRenumbered founds more set other
+  pub renumbered_on : (more : List Found) → IsPrefixOf others more → (set other : ℕ) → IsRenumbered founds others set other → IsRenumbered founds more set other
   renumbered_on more front set other r = record {
     each = λ n has. let m = r.each n has in (m.0, m.1, same_on more front n m.0 m.2);
     only = λ m has. let n = r.only m has in (n.0, n.1, same_on more front n.0 m n.2);
@@ -61,7 +61,7 @@ module _ (founds others : List Found) (set other : ℕ) where
     only = λ m has. absurd (has_nothing m (subst (λ s. Has s m) none has));
   }
 
-  module _ (more : List Found) (n : ℕ) (front : IsFront others more) (r : IsRenumberedTo founds others set other n) where
+  module _ (more : List Found) (n : ℕ) (front : IsPrefixOf others more) (r : IsRenumberedTo founds others set other n) where
     pub renumbered_skip : ¬ Has set n → IsRenumberedTo founds more set other (n + 1)
     renumbered_skip none = record {
       each = λ k lt has.
@@ -96,7 +96,7 @@ module _ (founds others : List Found) (set other : ℕ) where
 pub sets_none : (founds others : List Found) (sets new : List ℕ) → new ≡ [] → AreRenumbered founds others sets new 0
 sets_none founds others sets new none = record { long = ap length none; each = λ k lt. absurd (omega (arith, lt)) }
 
-pub sets_more : (founds others more : List Found) (sets new : List ℕ) (n set other : ℕ) → IsFront others more → set ≡ get_or sets n 0 → AreRenumbered founds others sets new n → IsRenumbered founds more set other
+pub sets_more : (founds others more : List Found) (sets new : List ℕ) (n set other : ℕ) → IsPrefixOf others more → set ≡ get_or sets n 0 → AreRenumbered founds others sets new n → IsRenumbered founds more set other
     → AreRenumbered founds more sets (new ++ other ∷ []) (n + 1)
 sets_more founds others more sets new n set other front here are is = record {
   long = length-append new (other ∷ []) ∙ ap (λ m. m + 1) are.long;
@@ -164,7 +164,7 @@ module _ {S : Type 0} (t u : Table S) where
     included = a.included;
   }
 
-  same_row_on : (v : Table S) → IsFront u.states v.states → IsFront u.founds v.founds → (row new : List ℕ) → IsSameRow t u row new → IsSameRow t v row new
+  same_row_on : (v : Table S) → IsPrefixOf u.states v.states → IsPrefixOf u.founds v.founds → (row new : List ℕ) → IsSameRow t u row new → IsSameRow t v row new
   same_row_on v states founds row new r = record {
     long = r.long;
     state = (r.state.0, r.state.1, get_front u.states v.states (get_or new 0 0) r.state.0 states r.state.2);
@@ -209,7 +209,7 @@ said_none t u kept products states founds none = record {
   only = λ new is. absurd (no_get products is.0 is.1.0 none is.1.1);
 }
 
-pub said_more : {S : Type 0} (t u v : Table S) (kept old new : List Product) (n first number : ℕ) (state : S) (sets others : List ℕ) → IsFront u.states v.states → IsFront u.founds v.founds → IsOnceIn v.states → (IsOnceIn u.founds → IsOnceIn v.founds)
+pub said_more : {S : Type 0} (t u v : Table S) (kept old new : List Product) (n first number : ℕ) (state : S) (sets others : List ℕ) → IsPrefixOf u.states v.states → IsPrefixOf u.founds v.founds → IsOnceIn v.states → (IsOnceIn u.founds → IsOnceIn v.founds)
     → slice_get kept n ≡ Some (first, sets) → slice_get t.states first ≡ Some state → slice_get v.states number ≡ Some state → AreRenumbered t.founds v.founds sets others (length sets)
     → Puts (number, others) 0 old new → AreSaidAgain t u kept old n → AreSaidAgain t v kept new (n + 1)
 said_more t u v kept old new n first number state sets others states founds states_once founds_once here old_state new_state are puts so_far = record {

@@ -2,8 +2,8 @@
 use Rattle.std.proofs.Common.{◌≡◌, ◌↔◌, ℕ, zero, suc, List, [], ◌∷◌, refl, sym, ap, subst, arith}
 use Rattle.std.specs.List.{Contains}
 use Rattle.rows.proofs.Elements.{to_map, from_map}
-use Rattle.interned.specs.Numbers.{IsOnceIn}
-use Rattle.interned.proofs.Lists.{clash, has_place, one_of, place_of}
+use Rattle.interner.specs.Numbers.{IsOnceIn}
+use Rattle.interner.proofs.Lists.{clash, has_place, one_of, place_of}
 use Rattle.products.specs.Products.{AreApart, IsIn, IsInOne, Product, rows_in, rows_of_product, rows_of_sets}
 use Rattle.products.proofs.Lists.{Once, Pairwise, from_flat_map, once_flat_map, once_map, to_flat_map}
 use Rattle.products.proofs.Sets.{contains_rows, rows_once}

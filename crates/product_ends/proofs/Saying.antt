@@ -5,8 +5,8 @@ use Rattle.std.proofs.lemmas.Option.{slice_get_within}
 use Rattle.rows.proofs.Elements.{Contains-nil, Contains-head, Contains-tail, Contains-cons_cases}
 use Rattle.linspec.specs.Orders.{Pairwise}
 use Rattle.linspec.specs.Ends.{End}
-use Rattle.interned.specs.Numbers.{IsOnceIn}
-use Rattle.interned.proofs.Lists.{clash, has_place, one_of, place_of, some_at}
+use Rattle.interner.specs.Numbers.{IsOnceIn}
+use Rattle.interner.proofs.Lists.{clash, has_place, one_of, place_of, some_at}
 use Rattle.moves.specs.declared.pending_op.PendingOp.{PendingOp}
 use Rattle.moves.specs.declared.table.Table.{Table}
 use Rattle.moves.specs.EndSteps.{Along}

@@ -1,4 +1,4 @@
--- the rows that calls lead to from rows, by deeds
+-- the rows that calls lead to from rows, by transitions
 use Rattle.std.proofs.Common.{◌≡◌, inl, ⊎_elim, ℕ, ◌+◌, ◌<◌, Bool, false, not, nat_eq, Some, List, [], ◌∷◌, length, slice_get, get_or, set, refl, sym, ap, ◌∙◌, subst, arith, add-one, length-set}
 use Rattle.std.proofs.lemmas.Bool.{cases_eq, ne_eqb, true≢false}
 use Rattle.std.proofs.lemmas.List.{get_or-set_other, get_or-set_same, set-get_or, set-set}
@@ -6,8 +6,8 @@ use Rattle.rows.proofs.Elements.{Contains-nil, Contains-head, Contains-cons_case
 use Rattle.models.specs.declared.operation.Op.{Op}
 use Rattle.models.specs.declared.finding.Found.{Found}
 use Rattle.models.specs.Objects.{IsOneOf, Object, of_table}
-use Rattle.interned.specs.Numbers.{IsSlot}
-use Rattle.interned.proofs.Lists.{has_place}
+use Rattle.interner.specs.Numbers.{IsSlot}
+use Rattle.interner.proofs.Lists.{has_place}
 use Rattle.linspec.specs.Ends.{End}
 use Rattle.moves.specs.declared.pending_op.PendingOp.{PendingOp}
 use Rattle.moves.specs.declared.table.Table.{Table}
@@ -19,8 +19,8 @@ use Rattle.moves.proofs.Reaching.{reached_next}
 use Rattle.moves.proofs.Rows.{not_in_by, not_told, zero_none}
 use Rattle.products.specs.Products.{AreIn, Has}
 use Rattle.products.proofs.Sets.{are_in_at, are_in_from, are_in_long}
-use Rattle.product_ends.specs.declared.deeds.Deed.TheVariants.{To}
-use Rattle.product_ends.specs.Deeds.{IsDeed}
+use Rattle.product_ends.specs.declared.transitions.Transition.TheVariants.{To}
+use Rattle.product_ends.specs.Transitions.{IsTransition}
 use Rattle.product_ends.specs.Growing.{SaysReached}
 
 -- lists with a number changed and changed back
@@ -72,17 +72,17 @@ module _ (S : Type 0) (start : S) (apply : Op → S → List (S × Found)) (t : 
   abbrev object : Object
   object = of_table S start apply
 
-  -- the target of a deed
-  deed_to : (c : PendingOp) (outcomes : List (S × Found)) (to word slot : ℕ) → IsDeed t c outcomes (To to word) → Has word slot → AreTo t c.crashed outcomes ((to, slot) ∷ [])
-  deed_to c outcomes to word slot deed has =
-      let same : deed.3 ≡ slot = sym ((deed.5 slot).0 has) in
-      let told : IsSlot t.founds slot (Some (told_by c.crashed deed.0.1)) = subst (λ n. IsSlot t.founds n (Some (told_by c.crashed deed.0.1))) same deed.4 in
+  -- the target of a transition
+  transition_to : (c : PendingOp) (outcomes : List (S × Found)) (to word slot : ℕ) → IsTransition t c outcomes (To to word) → Has word slot → AreTo t c.crashed outcomes ((to, slot) ∷ [])
+  transition_to c outcomes to word slot transition has =
+      let same : transition.3 ≡ slot = sym ((transition.5 slot).0 has) in
+      let told : IsSlot t.founds slot (Some (told_by c.crashed transition.0.1)) = subst (λ n. IsSlot t.founds n (Some (told_by c.crashed transition.0.1))) same transition.4 in
       record {
         each = λ target h. (
-          deed.0,
-          subst (λ xs. IsOneOf {X = S × Found} xs deed.0) (sym deed.1) (inl refl),
+          transition.0,
+          subst (λ xs. IsOneOf {X = S × Found} xs transition.0) (sym transition.1) (inl refl),
           ⊎_elim
-              (λ e. subst (IsTo t c.crashed deed.0) e (deed.2, told))
+              (λ e. subst (IsTo t c.crashed transition.0) e (transition.2, told))
               (λ k. absurd (Contains-nil target k))
               (Contains-cons_cases (to, slot) [] target h),
         );
@@ -90,9 +90,9 @@ module _ (S : Type 0) (start : S) (apply : Op → S → List (S × Found)) (t : 
           (to, slot),
           Contains-head (to, slot) [],
           ⊎_elim
-              (λ e. subst (λ x. IsTo t c.crashed x (to, slot)) e (deed.2, told))
+              (λ e. subst (λ x. IsTo t c.crashed x (to, slot)) e (transition.2, told))
               (λ k. absurd k)
-              (subst (λ xs. IsOneOf {X = S × Found} xs outcome) deed.1 h),
+              (subst (λ xs. IsOneOf {X = S × Found} xs outcome) transition.1 h),
         );
       }
 
@@ -107,9 +107,9 @@ module _ (S : Type 0) (start : S) (apply : Op → S → List (S × Found)) (t : 
     pub none_by : (f : End S) → TakesLast object e c f → apply c.op e.state ≡ [] → ⊥
     none_by f last none = subst (λ xs. IsOneOf {X = S × Found} xs (f.state, last.found)) none last.step
 
-    module _ (to word slot : ℕ) (deed : IsDeed t c (apply c.op e.state) (To to word)) (has : Has word slot) where
+    module _ (to word slot : ℕ) (transition : IsTransition t c (apply c.op e.state) (To to word)) (has : Has word slot) where
       led : get_or row (at + 1) 0 ≡ 0 → AreLed object t calls row at e c ((to, slot) ∷ [])
-      led none = are_led S start apply e c (out_by none) t calls row at ((to, slot) ∷ []) once here shows (deed_to c (apply c.op e.state) to word slot deed has)
+      led none = are_led S start apply e c (out_by none) t calls row at ((to, slot) ∷ []) once here shows (transition_to c (apply c.op e.state) to word slot transition has)
 
       -- an end that is reached by it
       pub led_reached : (ends : List (End S)) → IsReached object calls ends e → get_or row (at + 1) 0 ≡ 0 → SaysReached object t calls ends (row_led row (at + 1) (to, slot))

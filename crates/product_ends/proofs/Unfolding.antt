@@ -9,7 +9,7 @@ use Rattle.rows.proofs.Elements.{Contains-head, Contains-nil}
 use Rattle.products.specs.Products.{AreIn, Has, IsIn, IsInAt, IsInOne, Product}
 use Rattle.products.proofs.Numbers.{by_bits, has_alone}
 use Rattle.product_ends.specs.Conversion.{GoesOn, HasMore}
-use Rattle.product_ends.specs.Deeds.{IsAlone}
+use Rattle.product_ends.specs.Transitions.{IsAlone}
 
 -- a row is put
 pub put_more : (row : List ℕ) (old new : List (List ℕ)) → IsPut row old new → (P : List ℕ → Type 0) → ((other : List ℕ) → P other ↔ (row ≡ other)) → HasMore P old new

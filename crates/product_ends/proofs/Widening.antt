@@ -1,10 +1,11 @@
 -- the rows of a product with the answers of calls that stay in its state
-use Rattle.std.proofs.Common.{◌≡◌, ℕ, ◌+◌, ◌⊎◌, inl, inr, ⊎_elim, zero, suc, List, [], ◌∷◌, set, get_or, refl, sym, ap, ◌∙◌, subst, arith}
+use Rattle.std.proofs.Common.{◌≡◌, ℕ, ◌+◌, ◌<◌, ◌⊎◌, inl, inr, ⊎_elim, zero, suc, List, [], ◌∷◌, length, set, get_or, length-set, get_or-set_same, get_or-set_other, refl, sym, ap, ◌∙◌, subst, arith}
+use Rattle.std.proofs.lemmas.Bool.{cases_eq}
 use Rattle.products.specs.Products.{AreIn, Has, IsIn}
 use Rattle.products.proofs.Sets.{inside_each}
 use Rattle.product_ends.specs.Widening.{AreWidened, IsWidened, TakesIn, TakesOne, TakesOneIn}
 
--- an operation on lists that is repeated n times is repeated n times on lists that are made of them
+-- if an operation is repeated n times on lists, it is repeated n times on lists made of these
 taken_in : (A B : List ℕ → List ℕ → Type 0) (f : List ℕ → List ℕ) → ((old new : List ℕ) → A old new → B (f old) (f new)) → (n : ℕ) (old new : List ℕ) → TakesIn A n old new → TakesIn B n (f old) (f new)
 taken_in A B f lift zero old new h = ap f h
 taken_in A B f lift (suc n) old new h = (f h.0, taken_in A B f lift n old h.0 h.1, lift h.0 new h.2)
@@ -98,3 +99,18 @@ module _ (number : ℕ) (stays sets next : List ℕ) (are : AreWidened stays set
         subst (λ k. TakesIn (TakesOne number stays) p.2 (number ∷ p.0) (k ∷ numbers)) (sym h.0)
             (taken_in (TakesOneIn stays) (TakesOne number stays) (λ l. number ∷ l) (one_in_row stays number) p.2 p.0 numbers p.3),
       )
+
+-- one set more is widened
+pub widened_more : (stays old next : List ℕ) (n v : ℕ) → length next ≡ length old → n < length old → IsWidened (get_or stays n 0) (get_or old n 0) v
+    → ((k : ℕ) → k < n → IsWidened (get_or stays k 0) (get_or old k 0) (get_or next k 0))
+    → (length (set next n v) ≡ length old) × ((k : ℕ) → k < n + 1 → IsWidened (get_or stays k 0) (get_or old k 0) (get_or (set next n v) k 0))
+widened_more stays old next n v long lt one so_far = (length-set next n v ∙ long, each)
+  where
+    each : (k : ℕ) → k < n + 1 → IsWidened (get_or stays k 0) (get_or old k 0) (get_or (set next n v) k 0)
+    each k less =
+        ⊎_elim
+        (λ same.
+        subst (λ i. IsWidened (get_or stays i 0) (get_or old i 0) (get_or (set next n v) i 0)) (sym same)
+        (subst (IsWidened (get_or stays n 0) (get_or old n 0)) (sym (get_or-set_same next n v 0 (omega (arith, long, lt)))) one))
+        (λ other. subst (IsWidened (get_or stays k 0) (get_or old k 0)) (sym (get_or-set_other next n k v 0 other)) (so_far k (omega (arith, less, other))))
+        (cases_eq k n)

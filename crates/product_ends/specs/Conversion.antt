@@ -2,7 +2,7 @@
 use Rattle.std.specs.Prelude.{◌≡◌, ◌↔◌, ◌<◌, ◌⊎◌, ℕ, Option, List, ◌++◌, drop, length, get_or}
 use Rattle.std.specs.List.{Contains}
 use Rattle.models.specs.declared.finding.Found.{Found}
-use Rattle.interned.specs.Numbers.{IsSlot}
+use Rattle.interner.specs.Numbers.{IsSlot}
 use Rattle.products.specs.Products.{AreIn, Has}
 
 -- the rows are those that were there and those that P says

@@ -3,27 +3,27 @@ use Rattle.std.specs.Prelude.{◌≡◌, ◌<◌, ◌≤◌, ◌+◌, ◌*◌, �
 use Rattle.models.specs.declared.operation.Op.{Op}
 use Rattle.models.specs.declared.finding.Found.{Found}
 use Rattle.models.specs.Objects.{Object}
-use Rattle.interned.specs.Numbers.{IsOnceIn}
+use Rattle.interner.specs.Numbers.{IsOnceIn}
 use Rattle.linspec.specs.Ends.{End}
 use Rattle.moves.specs.declared.pending_op.PendingOp.{PendingOp}
 use Rattle.moves.specs.declared.table.Table.{Table}
 use Rattle.moves.specs.EndSteps.{IsReached, TakesLast}
 use Rattle.moves.specs.Tables.{AreShown, HasEachOnce, Shows, with_rows}
 use Rattle.products.specs.Products.{AreApart, IsIn, IsInAt, IsInOne, Product, rows_in}
-use Rattle.product_ends.specs.declared.room.Work.{Work}
-use Rattle.product_ends.specs.Deeds.{AreSound, HasOneOutcome, IsTried}
+use Rattle.product_ends.specs.declared.workspace.Work.{Work}
+use Rattle.product_ends.specs.Transitions.{AreSound, HasOneOutcome, IsTried}
 use Rattle.product_ends.specs.Widening.{product_in}
 
 -- ---- the work while products grow
 
--- the deeds of the calls are known in the state of each row of the products, no two of which have a row in common
+-- the transitions of the calls are known in the state of each row of the products, no two of which have a row in common
 pub record AreKnown {S : Type 0} (apply : Op → S → List (S × Found)) (t : Table S) (calls : List PendingOp) (w : Work S)
     : Type 0 where
-  pub sound : AreSound apply t calls w.deeds
-  pub tried : (row : List ℕ) → IsInOne w.all.1 row → IsTried w.deeds (get_or row 0 0)
+  pub sound : AreSound apply t calls w.transitions
+  pub tried : (row : List ℕ) → IsInOne w.all.1 row → IsTried w.transitions (get_or row 0 0)
   pub apart : AreApart w.all.1
 
--- more may be put with the products: the deeds of calls are known, an operation has at most one outcome in a state, and the rows are no
+-- more may be put with the products: the transitions of calls are known, an operation has at most one outcome in a state, and the rows are no
 -- more than the budget
 pub record MayGrow {S : Type 0} (apply : Op → S → List (S × Found)) (t : Table S) (calls : List PendingOp) (budget : ℕ) (w : Work S)
     : Type 0 where
@@ -59,7 +59,7 @@ pub record Gains (from : ℕ) (old new : List Product) : Type 0 where
 abbrev pub IsPaid : ℕ → ℕ → List Product → ℕ → List Product → Type 0
 IsPaid steps before old after new = after + steps * length (rows_in old) ≤ before + steps * length (rows_in new)
 
--- products were put with others. None of those is lost, the deeds of calls are known for all, and the steps are paid. The flag says whether
+-- products were put with others. None of those is lost, the transitions of calls are known for all, and the steps are paid. The flag says whether
 -- their rows are no more than the budget
 pub record AreGrown {S : Type 0} (apply : Op → S → List (S × Found)) (t : Table S) (calls : List PendingOp)
     (from budget : ℕ) (old : List Product) (new : Work S) (before after : ℕ) (all : Bool) : Type 0 where

@@ -1,4 +1,4 @@
 pub mod Conversion
-pub mod Deeds
+pub mod Transitions
 pub mod Growing
 pub mod Widening

@@ -1,7 +1,7 @@
 -- Invariant: sets of a product with the answers of calls that stay in its state
 use Rattle.std.specs.Prelude.{◌≡◌, ◌↔◌, ◌<◌, ◌+◌, ◌⊎◌, ℕ, zero, suc, List, length, set, get_or}
 use Rattle.products.specs.Products.{Has, Product}
-use Rattle.product_ends.specs.declared.room.Source.{Source}
+use Rattle.product_ends.specs.declared.workspace.Source.{Source}
 use Rattle.product_ends.specs.declared.target.Target.{Target}
 
 -- the source's product, and the target's

@@ -1,18 +1,18 @@
 //! Rows as products, and products as rows.
 ghost use Rattle.std.specs.Prelude.{◌≡◌, ◌≢◌, ◌↔◌, ◌<◌, ◌+◌, ◌∷◌, ◌++◌, true, ℕ, List, [], IfOk, IfSome, OnOk, length, get_or};
 ghost use Rattle.std.specs.List.{Contains};
-ghost use Rattle.events.specs.Events.{IsFront};
-ghost use Rattle.interned.specs.Numbers.{IsOnceIn};
+ghost use Rattle.events.specs.Events.{IsPrefixOf};
+ghost use Rattle.interner.specs.Numbers.{IsOnceIn};
 ghost use Rattle.linspec.specs.Ends.{End};
 ghost use Rattle.linspec.specs.Orders.{Pairwise};
 ghost use Rattle.moves.specs.EndSteps.{Along};
 ghost use Rattle.moves.specs.Tables.{AreShown, IsThat, ShownWith, with_rows};
 ghost use Rattle.products.specs.Products.{IsIn, IsInOne, rows_in};
 ghost use Rattle.product_ends.specs.Conversion.{AreRenumbered, GoesOn, HasMore, IsRenumbered, IsSameFound};
-ghost use Rattle.product_ends.specs.Deeds.{IsAlone};
+ghost use Rattle.product_ends.specs.Transitions.{IsAlone};
 
 use ends::{PendingOp, Table};
-use interned::{Founds, States, founds, states};
+use interner::{FoundTable, States, founds, states};
 use models::SeqObject;
 use products::number_set::{HIGH, has, singleton, union};
 use products::{Products, Scratch};
@@ -34,8 +34,8 @@ fn set_alone(row: &[usize], sets: &mut Vec<u64>) -> Result<(), AllocError>
     Ok(())
 }
 
-/// The rows of the table, each as a product of its own, with `places` sets. None if a row has another length. `AllocError` if there is no
-/// memory for them, or a number has more than 63 bits. Takes the square of how many rows there are.
+/// The rows of the table, each as a product of its own with `places` sets. `None` if a row has another length. `AllocError` if there is no
+/// memory for the products, or a number has more than 63 bits. Costs O(rows²).
 pub fn as_products<S: Hash + Drop>(
     table: &Table<S>,
     places: usize,
@@ -125,10 +125,14 @@ pub fn as_rows(alloc: Global, products: &Products) -> Result<RowSet, AllocError>
 }
 
 // The set that has the new number of the answer at the old one.
-fn renumbered_one(old: &Founds, new: &mut Founds, number: usize) -> Result<Option<u64>, AllocError>
+fn renumbered_one(
+    old: &FoundTable,
+    new: &mut FoundTable,
+    number: usize,
+) -> Result<Option<u64>, AllocError>
     ensures set { IfOk result (λ found. IfSome found (λ set.
         (other : ℕ) × IsAlone set other × IsSameFound old.now new.new number other)) }
-    ensures front { IsFront new.old new.new }
+    ensures front { IsPrefixOf new.old new.new }
     ensures once { IsOnceIn new.old → IsOnceIn new.new }
 {
     if number == 0 {
@@ -141,9 +145,13 @@ fn renumbered_one(old: &Founds, new: &mut Founds, number: usize) -> Result<Optio
 }
 
 // The set with the new numbers of the answers at the old ones; none if one has no place among bits.
-fn renumbered_set(old: &Founds, new: &mut Founds, set: u64) -> Result<Option<u64>, AllocError>
+fn renumbered_set(
+    old: &FoundTable,
+    new: &mut FoundTable,
+    set: u64,
+) -> Result<Option<u64>, AllocError>
     ensures set { IfOk result (λ found. IfSome found (IsRenumbered old.now new.new set)) }
-    ensures front { IsFront new.old new.new }
+    ensures front { IsPrefixOf new.old new.new }
     ensures once { IsOnceIn new.old → IsOnceIn new.new }
 {
     if set >= HIGH {
@@ -166,14 +174,14 @@ fn renumbered_set(old: &Founds, new: &mut Founds, set: u64) -> Result<Option<u64
 
 // Writes the sets with new numbers; false if one has none.
 fn renumber_sets(
-    old: &Founds,
-    new: &mut Founds,
+    old: &FoundTable,
+    new: &mut FoundTable,
     sets: &[u64],
     other: &mut Vec<u64>,
 ) -> Result<bool, AllocError>
     ensures sets { IfOk result (λ all. all ≡ true
         → AreRenumbered old.now new.new sets.now other.new.items (length sets.now)) }
-    ensures front { IsFront new.old new.new }
+    ensures front { IsPrefixOf new.old new.new }
     ensures once { IsOnceIn new.old → IsOnceIn new.new }
 {
     other.clear();
@@ -202,7 +210,7 @@ pub fn renumbered<M: SeqObject>(
     let mut other = Table {
         alloc,
         states: States::new(alloc),
-        founds: Founds::new(alloc),
+        founds: FoundTable::new(alloc),
         rows: RowSet::new(alloc, 0),
     };
     let mut products = Products::new(alloc, kept.places());

@@ -1,14 +1,14 @@
 //! The ends that calls lead to from others, as products.
-ghost use Rattle.std.specs.Prelude.{◌≡◌, ◌<◌, ◌+◌, ◌-◌, ◌*◌, ◌^◌, List, [], IfOk, OnOk, true, Some, length, slice_get};
+ghost use Rattle.std.specs.Prelude.{◌≡◌, ◌<◌, ◌+◌, ◌-◌, ◌*◌, ◌^◌, [], IfOk, OnOk, true, Some, length, slice_get};
 ghost use Rattle.models.specs.Objects.{of_table};
 ghost use Rattle.products.specs.Products.{rows_in};
-ghost use Rattle.product_ends.specs.Deeds.{HasOneOutcome, TriesAtMost};
+ghost use Rattle.product_ends.specs.Transitions.{HasOneOutcome, TriesAtMost};
 ghost use Rattle.product_ends.specs.Growing.{AreClosedTo, AreFound, AreGrown, AreReached, HasSource, LosesNoRow, KeepsSource, LeadsAt, MayGrow, StaysReached};
 ghost use Rattle.product_ends.specs.Widening.{product_in};
 
-use crate::deeds::{Deed, deeds_in, forget};
-use crate::room::{Source, Work};
 use crate::target::{Target, put_widened};
+use crate::transitions::{Transition, forget, transitions_in};
+use crate::workspace::{Source, Work};
 use ends::{PendingOp, Table};
 use models::SeqObject;
 use products::Products;
@@ -59,12 +59,12 @@ fn grow_at<M: SeqObject>(
         return Ok(true);
     }
     let number = work.source.number;
-    let Some(deeds) = deeds_in(&work.deeds, number, calls.len()) else {
+    let Some(transitions) = transitions_in(&work.transitions, number, calls.len()) else {
         // The calls were tried if the product has a row. If it has none, nothing is led to from it.
         return Ok(true);
     };
-    match deeds[at] {
-        Deed::To(to, found) if to != number || intersection(found, own) != found => {
+    match transitions[at] {
+        Transition::To(to, found) if to != number || intersection(found, own) != found => {
             let target = Target {
                 number: to,
                 place: at,
@@ -108,7 +108,7 @@ fn grow_from<M: SeqObject>(
     Ok(true)
 }
 
-// Puts the kept products, widened, in place of those that were there. False where their rows are more than the budget.
+// Replaces the products by the kept ones, widened. Returns false if they have more rows than the budget.
 fn begin<M: SeqObject>(
     table: &mut Table<M::State>,
     kept: &Products,
@@ -124,7 +124,7 @@ fn begin<M: SeqObject>(
     ensures all { IfOk result (λ within_budget. within_budget ≡ true → LosesNoRow kept.now.1 work.new.all.1) }
     ensures steps { TriesAtMost (length calls.now * (budget + 1)) table.old table.new applied.old applied.new }
 {
-    forget(&mut work.deeds);
+    forget(&mut work.transitions);
     work.all.restart(kept.places());
     for at in 0..kept.len() {
         take_source(&mut work.source, kept, at)?;
@@ -141,8 +141,8 @@ fn begin<M: SeqObject>(
     Ok(true)
 }
 
-/// Adds what the calls lead to, one after another, to the kept products: goes through the products once while they grow. False
-/// if all rows are more than the budget, and then there may be more to add.
+/// Adds the products to which the calls lead. Goes once through the products while they grow. Returns false if there are more rows than the
+/// budget; then some rows may be missing.
 pub fn grow<M: SeqObject>(
     table: &mut Table<M::State>,
     kept: &Products,

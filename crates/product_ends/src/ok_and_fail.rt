@@ -7,11 +7,11 @@ ghost use Rattle.moves.specs.EndSteps.{Along, Fails, is_other};
 ghost use Rattle.moves.specs.Tables.{AreShown, HasEachOnce, IsOpenAt, OnlyTries, ShownWith, with_rows};
 ghost use Rattle.ends.specs.Oks.{FindsLeft, asked_by, most_steps};
 ghost use Rattle.products.specs.Products.{rows_in};
-ghost use Rattle.product_ends.specs.Deeds.{HasOneOutcome};
+ghost use Rattle.product_ends.specs.Transitions.{HasOneOutcome};
 
 use crate::after;
 use crate::growth::grow;
-use crate::room::{Room, Work, give_back, make};
+use crate::workspace::{Work, Workspace, give_back, make};
 use ends::{PendingOp, Returning, Table};
 use models::SeqObject;
 use products::Products;
@@ -56,7 +56,7 @@ fn settle_kept<M: SeqObject>(
 pub fn advance<M: SeqObject>(
     table: &mut Table<M::State>,
     kept: &Products,
-    room: &mut Room<M::State>,
+    room: &mut Workspace<M::State>,
     returning: &Returning,
     applied: &mut u64,
 ) -> Result<bool, AllocError>
@@ -102,7 +102,7 @@ pub fn advance<M: SeqObject>(
 pub fn failed<S: Hash + Drop>(
     table: &Table<S>,
     kept: &Products,
-    room: &mut Room<S>,
+    room: &mut Workspace<S>,
     calls: &[PendingOp],
     id: u32,
 ) -> Result<(), AllocError>

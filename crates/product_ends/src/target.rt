@@ -2,18 +2,18 @@
 ghost use Rattle.std.specs.Prelude.{◌≡◌, ◌⊎◌, ℕ, List, ◌∷◌, IfOk, OnOk, true, false, length, slice_set};
 ghost use Rattle.models.specs.Objects.{of_table};
 ghost use Rattle.products.specs.Products.{AreIn, IsIn};
-ghost use Rattle.product_ends.specs.Deeds.{AreSound, AreTriedFor, HasOneOutcome, IsTried, TriesAtMost};
+ghost use Rattle.product_ends.specs.Transitions.{AreSound, AreTriedFor, HasOneOutcome, IsTried, TriesAtMost};
 ghost use Rattle.product_ends.specs.Growing.{AreGrown, HasRows, KeepsSource, MayGrow, StaysReached};
 ghost use Rattle.product_ends.specs.Widening.{AreWidened, IsWidened, product_to};
 
-use crate::deeds::{Deeds, deeds_in, stays_in, try_each};
-use crate::room::{Source, Work};
+use crate::transitions::{Transitions, stays_in, transitions_in, try_each};
+use crate::workspace::{Source, Work};
 use ends::{PendingOp, Table};
 use models::SeqObject;
 use products::number_set::{has, size, union};
 use std::alloc::AllocError;
 
-/// The product that a call leads to from the source: its first number, and a set in place of the source's at one place.
+/// The product to which a call leads from the source: its first number, and the set that replaces the source's set at one place.
 #[derive(Clone, Copy)]
 pub struct Target {
     pub number: usize,
@@ -85,27 +85,27 @@ fn has_row(sets: &[u64], place: usize, set: u64) -> bool
 #[inline(always)]
 fn ensure_tried<M: SeqObject>(
     table: &mut Table<M::State>,
-    deeds: &mut Deeds<M::State>,
+    transitions: &mut Transitions<M::State>,
     calls: &[PendingOp],
     source: &Source,
     to: Target,
     applied: &mut u64,
 ) -> Result<bool, AllocError>
     requires single { HasOneOutcome M.apply_to }
-    requires sound { AreSound M.apply_to table.old calls.now deeds.old }
-    ensures sound { OnOk result (AreSound M.apply_to table.new calls.now deeds.new) }
-    ensures tried { IfOk result (AreTriedFor (product_to source.now to) deeds.old deeds.new) }
+    requires sound { AreSound M.apply_to table.old calls.now transitions.old }
+    ensures sound { OnOk result (AreSound M.apply_to table.new calls.now transitions.new) }
+    ensures tried { IfOk result (AreTriedFor (product_to source.now to) transitions.old transitions.new) }
     ensures fresh { (applied.new ≡ applied.old)
-        ⊎ ((¬ IsTried deeds.old to.number) × ((row : List ℕ) × IsIn (product_to source.now to) row)) }
+        ⊎ ((¬ IsTried transitions.old to.number) × ((row : List ℕ) × IsIn (product_to source.now to) row)) }
     ensures steps { TriesAtMost (length calls.now) table.old table.new applied.old applied.new }
 {
-    if deeds_in(deeds, to.number, calls.len()).is_some() {
+    if transitions_in(transitions, to.number, calls.len()).is_some() {
         return Ok(true);
     }
     if !has_row(&source.sets, to.place, to.set) {
         return Ok(false);
     }
-    try_each::<M>(table, deeds, to.number, calls, applied)?;
+    try_each::<M>(table, transitions, to.number, calls, applied)?;
     Ok(true)
 }
 
@@ -131,10 +131,17 @@ pub fn put_widened<M: SeqObject>(
     ensures source { KeepsSource work.old work.new }
     ensures steps { TriesAtMost (length calls.now) table.old table.new applied.old applied.new }
 {
-    if !ensure_tried::<M>(table, &mut work.deeds, calls, &work.source, to, applied)? {
+    if !ensure_tried::<M>(
+        table,
+        &mut work.transitions,
+        calls,
+        &work.source,
+        to,
+        applied,
+    )? {
         return Ok(true);
     }
-    let Some(stays) = stays_in(&work.deeds, to.number, calls.len()) else {
+    let Some(stays) = stays_in(&work.transitions, to.number, calls.len()) else {
         unreachable!()
     };
     widen(

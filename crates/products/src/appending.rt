@@ -3,8 +3,7 @@ ghost use Rattle.std.specs.Prelude.{◌≡◌, ◌++◌, OnErr, OnOk};
 
 use std::alloc::AllocError;
 
-/// Puts the sets, which are few, behind those of the list. `AllocError` if there is no memory for them: then the list is as it was. Costs
-/// O(sets).
+/// Appends a few sets to the list. `AllocError` if there is no memory for them: then the list is as it was. Costs O(sets).
 #[inline(always)]
 pub fn append(list: &mut Vec<u64>, sets: &[u64]) -> Result<(), AllocError>
     ensures items { OnOk result (list.new.items ≡ list.old.items ++ sets.now) }

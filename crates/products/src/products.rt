@@ -1,4 +1,4 @@
-//! Products of which no two have a row in common.
+//! Products without a common row.
 ghost use Rattle.std.specs.Prelude.{◌≡◌, ◌↔◌, ◌⊎◌, ◌<◌, ◌≤◌, ◌+◌, ◌-◌, ◌^◌, ◌++◌, ◌∷◌, [], ℕ, List, Some, None, true, IfOk, IfSome, OnErr, OnOk, length, min, map, drop, take, slice_get, slice_index, slice_set};
 ghost use Rattle.products.specs.Products.{AreApart, AreIn, Has, HasWith, HavePlaces, IsIn, IsInAt, IsInOne, IsPiece, Product, Puts, rows_in, rows_of_sets};
 
@@ -9,8 +9,8 @@ use std::alloc::{AllocError, Global};
 use std::marker::Model;
 use std::mem::swap;
 
-/// Products of sets of numbers. Each has a first number, and a set of numbers for each place after it. It stands for each row with this
-/// first number and one of the set at each place. No row is in two of them.
+/// Products of sets of numbers. Each has a first number, and a set of numbers for each place after it. It contains each row with this first
+/// number and one number of the set at each place. No row is in two of them.
 pub struct Products {
     places: usize,
     rows: u64,
@@ -80,8 +80,8 @@ impl Products {
         self.firsts.len()
     }
 
-    /// How many rows they stand for, no two of which are the same; the greatest u64 if they are more. It also says that no row
-    /// is in two of the products, and that each has as many sets as there are places. Takes constant time.
+    /// The number of rows in the products, or `u64::MAX` if there are more. It also says that no row is in two of the products, and that
+    /// each product has a set for each place. Takes constant time.
     pub fn rows(&self) -> u64
         ensures rows { result ≡ min (length (rows_in self.now.1)) (2 ^ 64 - 1) }
         ensures apart { AreApart self.now.1 }
@@ -150,7 +150,7 @@ impl Products {
         self.push(first, sets)
     }
 
-    // The product at this place gets the rows of these sets, which none has: its set at that place becomes this one.
+    // Adds the rows of `sets`, which no product has, to the product at `at`, by the new set at `place`.
     fn replace(&mut self, at: usize, place: usize, set: u64, sets: &[u64])
         requires at { at < length self.old.1 }
         requires place { place < self.old.0 }
@@ -181,11 +181,13 @@ impl Products {
         self.join_from(0, first, sets)
     }
 
-    /// Puts the rows of the product with the others. Products from this place on may get some of them, and more products may be put behind
-    /// all; those before the place stay as they are. The stack is memory to work in. `AllocError` if there is no memory for it: then some
-    /// of the rows may be there. Compares it with all products. If it has rows of one of them and others besides, it is cut into at most
-    /// one piece for each set. Each piece is compared with those before and may be cut again. If a piece, or the product itself, differs
-    /// from one of those that may get rows in one set alone, that one gets its rows; else it is put behind all.
+    /// Adds the rows of a product. Products from place `growable_from` on may get some of them, and new products are appended; the products
+    /// before that place do not change. The stack is memory to work in. `AllocError` if there is no memory: then some of the rows may be
+    /// there.
+    ///
+    /// The product is compared with all products. If it shares some of its rows with one of them, it is cut into at most one piece for each
+    /// set. Each piece is compared with the products before and may be cut again. If a piece differs in a single set from a product that
+    /// may get rows, that product gets its rows. Else the piece is appended.
     pub fn put(
         &mut self,
         growable_from: usize,
@@ -315,7 +317,7 @@ impl Products {
         Ok(())
     }
 
-    /// The same products, with memory of their own. Takes their time.
+    /// A copy of the products. Costs O(words), where each place of each product has one word.
     pub fn copied(&self, alloc: Global) -> Result<Products, AllocError>
         ensures { IfOk result (λ copy. copy ≡ self.now) }
     {

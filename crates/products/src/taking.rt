@@ -10,11 +10,11 @@ use crate::products::Products;
 use crate::scratch::Scratch;
 use std::alloc::AllocError;
 
-/// Puts each row of the other products whose number at this place is marked, without that number, in place of the rows that were
-/// there. The place is that in the row, whose first number is at 0: so place 1 is that of the first set. The marks are those of the
-/// numbers, from 0 on; a number beyond them has none. The scratch is memory to work in. `AllocError` if there is no memory for
-/// it: then some of the rows may be there. Compares each product that has a marked number with those that are left so far; where
-/// several numbers are marked, or one stands alone in its set, as [`Products::put`] does.
+/// Replaces the rows by the rows of `other` whose number at `place` is marked, without that number. The first number of a row is at place
+/// 0, so place 1 is the place of the first set. A mark belongs to the number at its place in the list; a number beyond the list has no
+/// mark. The scratch is memory to work in. `AllocError` if there is no memory: then some of the rows may be there. Compares each product
+/// that has a marked number with the products that are there so far; if several numbers are marked, or one is alone in its set, as
+/// [`Products::put`] does.
 pub fn take_marked(
     products: &mut Products,
     other: &Products,

@@ -5,12 +5,12 @@ use Rattle.models.specs.declared.operation.Op.{Op}
 use Rattle.models.specs.declared.finding.Answer.{Answer}
 use Rattle.models.specs.declared.finding.Answer.TheVariants.{Number}
 use Rattle.models.specs.Objects.{fifo_queue}
-use Rattle.events.specs.Events.{Mark, Entry, marks, IsFront}
+use Rattle.events.specs.Events.{Mark, Entry, marks, IsPrefixOf}
 use Rattle.events.specs.Events.Mark.{Invoked, Returned, Failed, Crashed}
 use Rattle.linspec.specs.MarkRule.{AreWellFormed}
 use Rattle.linspec.specs.Orders.{IsLinearizable}
 use Rattle.linspec.specs.Ends.{IsWithinBudgetBy}
-use Rattle.linspec.proofs.Fronts.{marks-append, IsLinearizable-front}
+use Rattle.linspec.proofs.Prefixes.{marks-append, IsLinearizable-front}
 use Rattle.linspec.specs.Twins.{HasTwins, CountsTwins}
 use Rattle.queue_pairs.specs.Pairs.{IsPaired, TwinsAreLate}
 use Rattle.queue_pairs.proofs.Once.{one_answer}
@@ -55,7 +55,7 @@ late_if_none : (ms : List Mark) → ¬ HasTwins ms → TwinsAreLate ms
 late_if_none ms none a b v t = absurd (none (a, b, v, t))
 
 module _ (entries : List Entry) (budget : ℕ) (well : AreWellFormed (marks entries)) (within : IsWithinBudgetBy CountsTwins budget entries) where
-  well_of : (f : List Entry) → IsFront f entries → AreWellFormed (marks f)
+  well_of : (f : List Entry) → IsPrefixOf f entries → AreWellFormed (marks f)
   well_of f is = front_well (marks f) (marks is.0) (subst AreWellFormed (ap marks (sym is.1) ∙ marks-append f is.0) well)
 
   -- one more mark
@@ -75,30 +75,30 @@ module _ (entries : List Entry) (budget : ℕ) (well : AreWellFormed (marks entr
         many = (legal, twins_were (marks f) id answer w t);
       }))
 
-  pub late_next : (f : List Entry) (e : Entry) → IsFront (f ++ e ∷ []) entries → TwinsAreLate (marks f) → IsLinearizable fifo_queue (marks f) → TwinsAreLate (marks (f ++ e ∷ []))
+  pub late_next : (f : List Entry) (e : Entry) → IsPrefixOf (f ++ e ∷ []) entries → TwinsAreLate (marks f) → IsLinearizable fifo_queue (marks f) → TwinsAreLate (marks (f ++ e ∷ []))
   late_next f e is late legal =
       let same : marks (f ++ e ∷ []) ≡ marks f ++ e.mark ∷ [] = marks-append f (e ∷ []) in
       subst TwinsAreLate (sym same) (late_then f e is.0 (sym (append_assoc f (e ∷ []) is.0) ∙ is.1) e.mark refl (subst AreWellFormed same (well_of (f ++ e ∷ []) is)) late legal)
 
-  module _ (whole : List Entry) (front : IsFront whole entries)
-      (good : (f : List Entry) → IsFront f whole → TwinsAreLate (marks f) → IsLinearizable fifo_queue (marks f)) where
+  module _ (whole : List Entry) (front : IsPrefixOf whole entries)
+      (good : (f : List Entry) → IsPrefixOf f whole → TwinsAreLate (marks f) → IsLinearizable fifo_queue (marks f)) where
     late_by : (done todo : List Entry) → done ++ todo ≡ whole → TwinsAreLate (marks done) → TwinsAreLate (marks whole)
     late_by done [] e late = subst (λ (l : List Entry). TwinsAreLate (marks l)) (sym (append-nil done) ∙ e) late
     late_by done (x ∷ todo) e late =
         let next : (done ++ x ∷ []) ++ todo ≡ whole = append_assoc done (x ∷ []) todo ∙ e in
-        let is : IsFront (done ++ x ∷ []) entries = (todo ++ front.0, sym (append_assoc (done ++ x ∷ []) todo front.0) ∙ ap (λ l. l ++ front.0) next ∙ front.1) in
+        let is : IsPrefixOf (done ++ x ∷ []) entries = (todo ++ front.0, sym (append_assoc (done ++ x ∷ []) todo front.0) ∙ ap (λ l. l ++ front.0) next ∙ front.1) in
         late_by (done ++ x ∷ []) todo next (late_next done x is late (good done (x ∷ todo, e) late))
 
     late_whole : TwinsAreLate (marks whole)
     late_whole = late_by [] whole refl none_twins
 
-  pub late_if_linearizable : (f : List Entry) → IsFront f entries → IsLinearizable fifo_queue (marks f) → TwinsAreLate (marks f)
+  pub late_if_linearizable : (f : List Entry) → IsPrefixOf f entries → IsLinearizable fifo_queue (marks f) → TwinsAreLate (marks f)
   late_if_linearizable f is legal = late_whole f is (λ g k late. IsLinearizable-front fifo_queue g f (well_of f is) k legal)
 
-  pub late_if_paired : (f : List Entry) → IsFront f entries → IsPaired (marks f) → TwinsAreLate (marks f)
+  pub late_if_paired : (f : List Entry) → IsPrefixOf f entries → IsPaired (marks f) → TwinsAreLate (marks f)
   late_if_paired f is paired = late_whole f is (λ g k late. legal_front g k late)
     where
-      legal_front : (g : List Entry) → IsFront g f → TwinsAreLate (marks g) → IsLinearizable fifo_queue (marks g)
+      legal_front : (g : List Entry) → IsPrefixOf g f → TwinsAreLate (marks g) → IsLinearizable fifo_queue (marks g)
       legal_front g k late =
           let same : marks f ≡ marks g ++ marks k.0 = ap marks (sym k.1) ∙ marks-append g k.0 in
           let w : AreWellFormed (marks g ++ marks k.0) = subst AreWellFormed same (well_of f is) in

@@ -296,7 +296,7 @@ module _ (u v : ℤ) (differ : u ≢ v) where
   pub passed_is_linearizable : IsLinearizable fifo_queue passed
   passed_is_linearizable = linearizable_if_paired passed well_passed late_passed passed_is_paired
 
-  -- then the other one may not fail
+  -- then the other operation may not fail
   pub may_not_fail : ¬ MayFail passed 3
   may_not_fail may =
       let owed : IsOwedTo passed u 2 = record {

@@ -11,5 +11,5 @@ pub mod Oks
 pub mod OkOfDequeue
 pub mod Quiet
 pub mod Budgets
-pub mod BadFronts
+pub mod BadPrefixes
 mod Instances

@@ -152,9 +152,6 @@ module _ (ms : List Mark) (well : AreWellFormed ms) where
     here : Contains (q ++ e ∷ es) e
     here = Contains-append_right q (e ∷ es) e (Contains-head e es)
 
-    later : (x : Passage) → Contains es x → Contains (q ++ e ∷ es) x
-    later x k = Contains-append_right q (e ∷ es) x (Contains-tail e es x k)
-
     add_ready : AreReady (q ++ e ∷ []) es
     add_ready = record {
       leads = subst (Pairwise Leads) (sym over) ready.leads;

@@ -1,12 +1,12 @@
--- Promise: a queue whose values differ, by its answers alone (Henzinger, Sezgin and Vafeiadis 2013; here with operations that are open, have
--- failed or have crashed, and with no answer from an empty queue)
+-- Promise: a queue whose values differ, by its answers alone (Henzinger, Sezgin and Vafeiadis 2013). Here operations may be open, fail or crash,
+-- and there is no answer from an empty queue
 use Rattle.std.specs.Prelude.{◌≡◌, ◌≢◌, ℕ, ℤ, ◌⊎◌, List}
 use Rattle.std.specs.List.{Contains}
 use Rattle.models.specs.declared.operation.Name.TheVariants.{Dequeue}
 use Rattle.models.specs.declared.operation.Part.TheVariants.{Nil}
 use Rattle.models.specs.declared.operation.Op.{Op}
 use Rattle.models.specs.declared.finding.Answer.TheVariants.{Number}
-use Rattle.events.specs.Events.{Mark, Entry, marks, IsFront}
+use Rattle.events.specs.Events.{Mark, Entry, marks, IsPrefixOf}
 use Rattle.events.specs.Events.Mark.{Invoked, Returned, Failed}
 use Rattle.linspec.specs.Operations.{HasReturned, Precedes}
 use Rattle.linspec.specs.Twins.{IsEnqueueOf, MayEnqueue, AreTwins}
@@ -79,7 +79,7 @@ TwinsAreLate marks = (a b : ℕ) (v : ℤ) → AreTwins marks a b v → IsLate m
 -- they were so at each event
 abbrev pub TwinsAreAlwaysLate : List Entry → Type 0
 TwinsAreAlwaysLate entries =
-    (front : List Entry) → IsFront front entries → TwinsAreLate (marks front)
+    (front : List Entry) → IsPrefixOf front entries → TwinsAreLate (marks front)
 
 -- u needs a taker once v is dequeued: it is another value, no dequeue has answered it, and it came in before v or is owed already
 abbrev pub IsOwedBeside : List Mark → ℤ → ℤ → Type 0
@@ -102,7 +102,7 @@ pub record MayTake (marks : List Mark) (id : ℕ) (v : ℤ) : Type 0 where
   pub in_turn : (d : ℕ) → IsOwedTo marks v d → ¬ Precedes marks d id
   pub taken : (taker : ℤ → ℕ) × AreTakersBeside marks id v taker
 
--- an operation that is open may fail now: what was dequeued has another enqueue, and what is owed another taker
+-- an open operation may fail now: a dequeued value has another enqueue, and an owed value another taker
 pub record MayFail (marks : List Mark) (id : ℕ) : Type 0 where
   pub added : (d : ℕ) (v : ℤ) → HasDequeued marks d v → IsEnqueueOf marks id v
       → (a : ℕ) × MayEnqueue marks a v × (¬ Precedes marks d a) × (a ≢ id)

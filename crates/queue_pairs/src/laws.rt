@@ -1,16 +1,16 @@
 //! Laws of the history of a queue by its answers.
-ghost use Rattle.std.specs.Prelude.{◌≡◌, ◌≢◌, ◌↔◌, ℕ, ℤ, List, [], ◌∷◌, ◌++◌};
+ghost use Rattle.std.specs.Prelude.{◌≢◌, ◌↔◌, ℕ, ℤ, List, [], ◌∷◌, ◌++◌};
 ghost use Rattle.std.specs.List.{Contains};
 ghost use Rattle.models.specs.Objects.{fifo_queue};
 ghost use Rattle.models.specs.declared.operation.Op.{Op};
 ghost use Rattle.models.specs.declared.finding.Answer.{Answer};
 ghost use Rattle.models.specs.declared.finding.Answer.TheVariants.{Number};
-ghost use Rattle.events.specs.Events.{Mark, Entry, marks, of_key, IsFront};
+ghost use Rattle.events.specs.Events.{Mark, Entry, marks, of_key, IsPrefixOf};
 ghost use Rattle.events.specs.Events.Mark.{Invoked, Returned, Failed, Crashed};
 ghost use Rattle.linspec.specs.MarkRule.{AreWellFormed};
 ghost use Rattle.linspec.specs.Orders.{IsLinearizable};
 ghost use Rattle.linspec.specs.Ends.{IsWithinBudgetBy};
-ghost use Rattle.linspec.specs.Verdicts.{EndsShortestBadFront};
+ghost use Rattle.linspec.specs.Verdicts.{EndsShortestBadPrefix};
 ghost use Rattle.linspec.specs.Twins.{Enqueues, IsEnqueueOf, HasTwins, CountsTwins};
 ghost use Rattle.queue_pairs.specs.Pairs.{Dequeues, IsPaired, TwinsAreLate, TwinsAreAlwaysLate, MayTake, MayFail};
 
@@ -80,12 +80,12 @@ pub fn twins_law()
 pub fn illegal_at_law()
     ensures late { (entries : List Entry) (last : Entry) → AreWellFormed (marks entries)
         → TwinsAreAlwaysLate entries
-        → EndsShortestBadFront fifo_queue entries last
-        ↔ ((before : List Entry) × IsFront (before ++ last ∷ []) entries × IsPaired (marks before)
+        → EndsShortestBadPrefix fifo_queue entries last
+        ↔ ((before : List Entry) × IsPrefixOf (before ++ last ∷ []) entries × IsPaired (marks before)
         × (¬ IsPaired (marks (before ++ last ∷ [])))) }
     ensures within { (entries : List Entry) (budget : ℕ) (last : Entry) → AreWellFormed (marks entries)
         → IsWithinBudgetBy CountsTwins budget entries
-        → EndsShortestBadFront fifo_queue entries last
-        ↔ ((before : List Entry) × IsFront (before ++ last ∷ []) entries × IsPaired (marks before)
+        → EndsShortestBadPrefix fifo_queue entries last
+        ↔ ((before : List Entry) × IsPrefixOf (before ++ last ∷ []) entries × IsPaired (marks before)
         × (¬ IsPaired (marks (before ++ last ∷ [])))) }
 {}

@@ -19,7 +19,7 @@ pub(crate) fn key_text(alloc: Global, row: &KeyRow) -> Result<String, AllocError
     format!(in alloc; "key {key} model {kind} budget {budget} events {events} status {status}\n")
 }
 
-// How a key stands, as `over 2`.
+// The status of a key, such as `over 2`.
 fn status_text(alloc: Global, status: &KeyStatus) -> Result<String, AllocError>
     ensures { IfOk result (λ text. string_bytes text ≡ status_text status.now) }
 {

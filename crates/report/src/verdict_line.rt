@@ -16,7 +16,7 @@ pub fn verdict_text(alloc: Global, verdict: &Verdict) -> Result<String, AllocErr
     }
 }
 
-/// Appends the line of a verdict to a reply. Beside the reply it takes memory for one line, and for `legal` none.
+/// Appends the line of a verdict to a reply. In addition to the reply it takes memory for one line, and none for `legal`.
 ///
 /// # Errors
 ///

@@ -12,8 +12,9 @@ use monitor::Monitor;
 use monitor::joined::verdict_joins_law;
 use std::alloc::{AllocError, Global};
 
-/// Appends a line for each key that has events, in the order of their first events, and the line of the verdict. This verdict is the one
-/// from scratch: that of the key that was dead first, else of the one that was first over its budget, else legal.
+/// Appends a line for each key that has events, in the order of their first events, and the line of the verdict. The verdict is the one
+/// from scratch. It is illegal at the least index at which a key is dead, else unknown at the least index at which a key is over its budget,
+/// else legal.
 ///
 /// It costs O(keys), and at most the memory of the text twice.
 ///
@@ -43,7 +44,7 @@ fn key_lines(alloc: Global, monitor: &Monitor) -> Result<Vec<u8>, AllocError>
     Ok(text)
 }
 
-// The verdict, which joins how the keys stand.
+// The verdict: the join of the statuses of the keys.
 fn verdict_of(monitor: &Monitor) -> Verdict
     ensures judged { IsVerdictOn monitor.now.now result }
     ensures joined { (rows : List (ℕ × KeyStatus))

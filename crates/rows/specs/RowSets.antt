@@ -11,7 +11,7 @@ mark_of marks (Some number) = get_or marks number false
 abbrev pub is_marked : ℕ → List Bool → List ℕ → Bool
 is_marked place marks row = mark_of marks (slice_get row place)
 
--- it is put with the others if the flag is true, and else they stay
+-- if the flag is true, the row is added to the others; else they stay
 abbrev pub IsPutIf : {X : Type 0} → Bool → X → List X → List X → Type 0
 IsPutIf true thing old new = IsPut thing old new
 IsPutIf false thing old new = new ≡ old

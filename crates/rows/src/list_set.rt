@@ -53,7 +53,7 @@ impl ListSet {
         }
     }
 
-    /// The list that stands here, if one does. Takes constant time.
+    /// The list at place `at`, or `None` beyond the last list. Takes constant time.
     #[inline(never)]
     pub fn get(&self, at: usize) -> Option<&[usize]>
         ensures { option_copied result ≡ slice_get self.now at }
@@ -64,7 +64,7 @@ impl ListSet {
         lists.get(at)
     }
 
-    /// The number at this place of the list that stands here, and zero if there is none. Takes constant time.
+    /// The number at `place` of the list at `at`, or zero if there is none. Takes constant time.
     #[inline(never)]
     pub fn number(&self, at: usize, place: usize) -> usize
         ensures { result ≡ get_or (get_or self.now at []) place 0 }
@@ -78,7 +78,7 @@ impl ListSet {
         }
     }
 
-    /// How many numbers the list that stands here has, and zero if there is none. Takes constant time.
+    /// The length of the list at place `at`, or zero if there is none. Takes constant time.
     pub fn long_at(&self, at: usize) -> usize
         ensures { result ≡ length (get_or self.now at []) }
     {

@@ -1,7 +1,7 @@
 //! Lists of numbers that an index of their hashes finds.
 ghost use Rattle.std.specs.Prelude.{◌≡◌, ◌≢◌, ◌<◌, [], map, take, length, Some, slice_get, option_copied, IsTrue, IsFalse, IfOk, OnOk, OnErr};
 ghost use Rattle.std.specs.List.{Contains};
-ghost use Rattle.buckets.specs.Index.{Indexes, hash_bucket};
+ghost use Rattle.buckets.specs.Index.{hash_bucket};
 ghost use Rattle.rows.specs.Lists.{AreLists, items_of, list_hash};
 ghost use Rattle.words.specs.Puts.{IsPut};
 
@@ -29,7 +29,7 @@ impl Model for Lists {
         l.hashes.items l.index.last.items l.index.before.items };
 }
 
-// Whether the list stands at this place, which has this hash.
+// Whether the list at place `at` is this one. Its hash is given, and compared first.
 fn stands_at(items: &[Vec<usize>], hashes: &[u64], at: usize, hash: u64, list: &[usize]) -> bool
     requires hash { hash ≡ list_hash list.now }
     requires hashes { hashes.now ≡ map list_hash (map items_of items.now) }
@@ -116,7 +116,7 @@ impl Lists {
         self.items.len()
     }
 
-    /// The list that stands here, if one does. Takes constant time.
+    /// The list at place `at`, or `None` beyond the last list. Takes constant time.
     #[inline(always)]
     pub(crate) fn get(&self, at: usize) -> Option<&[usize]>
         ensures { option_copied result ≡ slice_get self.now at }
@@ -127,9 +127,9 @@ impl Lists {
         }
     }
 
-    /// Puts the list with the others, if it is not there. `AllocError` if memory was refused, or if there are too many lists for
-    /// places of 32 bits: then the lists are as they were. Costs its hash, and a comparison with the lists of the same hash. If there are
-    /// as many lists as buckets, all are indexed again.
+    /// Adds the list if it is not there. `AllocError` if there is no memory, or if there are too many lists for places of 32 bits: then the
+    /// lists are as they were. Costs a hash of the list, and a comparison with the lists of the same hash. If there are as many lists as
+    /// buckets, all are indexed again.
     pub(crate) fn put(&mut self, list: Vec<usize>) -> Result<(), AllocError>
         ensures put { OnOk result (IsPut list.items self.old self.new) }
         ensures err { OnErr result (self.new ≡ self.old) }

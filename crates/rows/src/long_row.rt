@@ -6,7 +6,7 @@ use std::alloc::{AllocError, Global};
 use std::marker::Model;
 use words::{first_of, has_zero_in_whole};
 
-/// A row of numbers that stand in a whole word; where none stand there, each has a place in a list, whose memory is kept for the next one.
+/// A row of numbers in a whole word, or in a list if they do not fit a word. The memory of the list is kept for the next row.
 #[derive(Drop)]
 pub struct LongRow {
     long: usize,
@@ -52,7 +52,7 @@ impl LongRow {
         self.word = word;
     }
 
-    /// These numbers, in place of those that were there. Costs O(numbers).
+    /// Overwrites the row with these numbers. Costs O(numbers).
     #[inline(never)]
     pub fn set_list(&mut self, list: &[usize]) -> Result<(), AllocError>
         ensures { OnOk result (self.new ≡ list.now) }

@@ -7,8 +7,8 @@ use std::alloc::{AllocError, Global};
 use std::marker::Model;
 use words::{first_in_half, has_zero_in_half, largest_of};
 
-/// A row of numbers that was read from where it stands. If it was half a word or a whole one, it is read there. Else each of its numbers
-/// has a place in a list, whose memory is kept for the next one.
+/// A row of numbers that was read from a set: in half a word, in a whole word, or in a list. The memory of the list is kept for the next
+/// row.
 pub struct Row {
     long: usize,
     bits: u32,
@@ -76,7 +76,7 @@ impl Row {
         }
     }
 
-    /// These numbers, in place of those that were there. Costs O(numbers).
+    /// Overwrites the row with these numbers. Costs O(numbers).
     #[inline(never)]
     pub fn set_list(&mut self, list: &[usize]) -> Result<(), AllocError>
         ensures { OnOk result (self.new ≡ list.now) }

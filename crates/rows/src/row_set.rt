@@ -21,7 +21,7 @@ pub struct RowSet {
     long: usize,
     /// How many bits each number of a word has; zero if a row has too many numbers for a word.
     bits: u32,
-    /// Whether the words were written again with as many bits as a whole word allows.
+    /// Whether the words were written again, with all bits of a word.
     whole: bool,
     /// Whether some row fits no word, so that all rows are lists.
     wide: bool,
@@ -71,7 +71,7 @@ fn bits_for(long: usize, whole: bool) -> u32
     }
 }
 
-// Writes the numbers of the row into `next`, in place of its own.
+// Overwrites `next` with the numbers of the row.
 #[inline(never)]
 fn rewrite(next: &mut Vec<usize>, row: &[usize]) -> Result<(), AllocError>
     ensures { OnOk result (next.new.items ≡ row.now) }
@@ -149,7 +149,7 @@ fn repacked(
     Ok(Some(other))
 }
 
-// The number at this place of the row of the word that stands here, and zero if there is none.
+// The number at `place` of the row in the word at `at`, or zero if there is none.
 fn number_in_word(words: &WordSet, bits: u32, long: usize, at: usize, place: usize) -> usize
     requires { ArePacked bits long words.now }
     ensures { let rows = map (digits (2 ^ bits) long) words.now in
@@ -185,8 +185,7 @@ impl RowSet {
         self.restart_with(long, bits_for(long, false), false);
     }
 
-    /// Takes all rows out, as [`restart`](Self::restart) does, where those to come are expected to have numbers as those of the
-    /// other set. Takes at most the time of the rows.
+    /// Removes all rows, as [`restart`](Self::restart) does, for rows with numbers like those of `other`. Costs O(rows) at most.
     pub fn restart_like(&mut self, other: &RowSet, long: usize)
         ensures { self.new ≡ [] }
     {
@@ -288,9 +287,9 @@ impl RowSet {
         self.long
     }
 
-    /// Puts the row with the others, if it is not there. `AllocError` if memory was refused: then the rows are as they were. Costs O(its
-    /// numbers), and looks it up by its hash if there are more than a few. If it does not fit a word as the others do, all are written
-    /// again, which happens twice at most until a restart.
+    /// Adds the row if it is not there. `AllocError` if there is no memory: then the rows are as they were. Costs O(numbers of the row),
+    /// and a look-up by its hash if there are more than a few rows. If the row does not fit the words of the others, all rows are written
+    /// again. That happens at most twice until a restart.
     pub fn put(&mut self, row: &[usize]) -> Result<(), AllocError>
         ensures put { OnOk result (IsPut row.now self.old self.new) }
         ensures err { OnErr result (self.new ≡ self.old) }
@@ -322,8 +321,8 @@ impl RowSet {
         Ok(false)
     }
 
-    // Writes all rows again, with as many bits for a number as a whole word allows. False if this was done before, where rows are lists,
-    // and if a number would not fit: then nothing is done.
+    // Writes all rows again, with all bits of a word. Returns false and does nothing if this was done before, if rows are lists, or if a
+    // number would not fit.
     fn repack_whole(&mut self) -> Result<bool, AllocError>
         ensures { self.new ≡ self.old }
     {
@@ -406,9 +405,9 @@ impl RowSet {
         self.put(&next)
     }
 
-    /// Puts each row of the other set whose number at this place is marked, without that number, if it is not there. The marks are those of
-    /// the numbers, from 0 on; a number beyond them has none. `AllocError` if memory was refused: then some of them are put. Costs a
-    /// [`put`](Self::put) for each of these rows, and a look at one number of each other.
+    /// Adds each row of `other` whose number at this place is marked, without that number. A mark belongs to the number at its place in the
+    /// list; a number beyond the list has no mark. `AllocError` if there is no memory: then some of the rows are added. Costs a
+    /// [`put`](Self::put) for each of these rows, and a look at one number of each other row.
     pub fn put_marked(
         &mut self,
         other: &RowSet,

@@ -6,9 +6,9 @@ use Rattle.std.specs.Str.{bytes_eq}
 use Rattle.std.specs.Str.Parse.{digits_value}
 use Rattle.edn.specs.declared.refusal.Refusal.{Refusal}
 use Rattle.edn.specs.declared.refusal.Refusal.TheVariants.{BadBudget, BadConcurrency, NoSuchReplica}
-use Rattle.models.specs.declared.model_kind.ModelKind.{ModelKind}
-use Rattle.models.specs.declared.model_kind.ModelKind.TheVariants.{Register, CasRegister, Mutex, FifoQueue, Set, UnorderedQueue, WideRegister, WideCasRegister, WideSet, WideFifoQueue, WideUnorderedQueue}
-use Rattle.models.specs.Names.{name_of}
+use Rattle.kinds.specs.declared.model_kind.ModelKind.{ModelKind}
+use Rattle.kinds.specs.declared.model_kind.ModelKind.TheVariants.{Register, CasRegister, Mutex, FifoQueue, Set, UnorderedQueue, WideRegister, WideCasRegister, WideSet, WideFifoQueue, WideUnorderedQueue}
+use Rattle.kinds.specs.Kinds.{name_of}
 use Rattle.test_store.specs.declared.outcome.Mode.{Mode}
 use Rattle.test_store.specs.declared.outcome.Mode.TheVariants.{Strict, Sloppy}
 use Rattle.machine.specs.Machine.{Setup}

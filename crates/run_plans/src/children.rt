@@ -5,7 +5,8 @@ ghost use Rattle.generators.specs.Generators.{generator_of};
 ghost use Rattle.run_plans.specs.Plans.{in_turn, nothing, numbers, pairs, on_key, on_keys};
 
 use generators::{Cycle, Gen, Item};
-use models::{Key, ModelKind, Name, Op, Part};
+use kinds::ModelKind;
+use models::{Key, Name, Op, Part};
 use std::alloc::{AllocError, Global};
 
 // The operations of clients on `keys` keys of this kind, from 0 on.
@@ -19,7 +20,7 @@ pub(crate) fn children_of(alloc: Global, kind: ModelKind, keys: u16) -> Result<V
     Ok(children)
 }
 
-// For each name that clients call on a key of this kind a child that goes round through its parts.
+// A child for each name that clients call on a key of this kind. It goes round through the parts of the name.
 fn add_children(
     alloc: Global,
     kind: ModelKind,

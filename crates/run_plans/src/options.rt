@@ -102,7 +102,7 @@ impl JudgingTexts<'_> {
         if concurrency < 1 || concurrency > MOST_THREADS {
             return Err(Misspelled::Refused(Refusal::BadConcurrency));
         }
-        Ok(Config::to_judge(alloc, concurrency, kind, budget))
+        Ok(Config::judging_only(alloc, concurrency, kind, budget))
     }
 }
 

@@ -29,13 +29,13 @@ pub struct RunPlan {
 }
 
 impl RunPlan {
-    /// The configuration of the one-thread object for it: this one, which only judges, with the further parts of the run. The generator
-    /// gives this number of operations, each by the next random word from one of its children. For each key in turn these are one for each
-    /// name of the kind, which goes round through the name's parts. If faults strike, replica 0 is parted from the others from the 20th
-    /// event on and the network heals from the 40th on. A reply is lost from the 60th on. Replica 0 crashes from the 80th on, and starts
-    /// again from the 100th on. No limit is tested here: it can be opened if the replicas are 1 to 7, and this one can be.
+    /// The configuration of the one-thread object for the run: `judging`, which only judges, with the other parts of the run. The generator
+    /// gives this number of operations, each from the child that the next random word chooses. Each key in turn has one child for each name
+    /// of the kind, which goes round through the name's parts. If faults strike, replica 0 is cut off from the 20th event on, and the
+    /// network heals from the 40th on. A reply is lost from the 60th on. Replica 0 crashes from the 80th on, and starts again from the
+    /// 100th on. No limit is tested here: the configuration can be opened if `judging` can be, and if there are 1 to 7 replicas.
     ///
-    /// It takes the time and the memory of the keys.
+    /// Costs time and memory in O(keys).
     pub fn config(self, alloc: Global, judging: Config) -> Result<Config, AllocError>
         ensures planned { IfOk result (λ config.
             setup_of config ≡ run_setup self (setup_of judging)) }

@@ -2,7 +2,7 @@
 ghost use Rattle.std.specs.Prelude.{◌≡◌, ◌-◌, ◌^◌, ◌<◌, ◌≤◌, IfSome, min, option_map};
 ghost use Rattle.run_plans.specs.Options.{are_digits, count_spelled, digits_spelled, kind_spelled, mode_spelled, number_spelled, number_within, switch_spelled};
 
-use models::ModelKind;
+use kinds::ModelKind;
 use test_store::Mode;
 
 const MOST_WORKERS: u64 = 64;
@@ -37,7 +37,7 @@ fn digits_in(text: &str) -> Option<u64>
     Some(text.parse::<u64>().unwrap_or(u64::MAX))
 }
 
-// The same, if a plus may stand before the digits.
+// The same, with an optional plus before the digits.
 fn number_in(text: &str) -> Option<u64>
     ensures { result ≡ option_map (λ n. min n (2 ^ 64 - 1)) (number_spelled text.now) }
 {

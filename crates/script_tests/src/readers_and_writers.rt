@@ -3,7 +3,7 @@ ghost use Rattle.std.specs.Prelude.{◌≡◌, nat_le, false, None, OnOk};
 ghost use Rattle.std.specs.Io.{ReadsAtMost};
 ghost use Rattle.std.specs.Io.KnownBytes.{ReadConsumes};
 
-use line_loop::{Failed, LineMachine, ReadsBeside, Watched, answer_lines};
+use line_loop::{Failed, LineMachine, ReadsWithWriter, Watched, answer_lines};
 use std::alloc::{AllocError, Global};
 use std::io;
 use std::io::{ErrorKind, Read, Write};
@@ -95,8 +95,8 @@ impl<'a> Failed for Drip<'a> {
     }
 }
 
-impl<'a> ReadsBeside<Watched<Narrow>> for Drip<'a> {
-    fn read_beside(&mut self, writer: &Watched<Narrow>, buf: &mut [u8]) -> io::Result<usize> {
+impl<'a> ReadsWithWriter<Watched<Narrow>> for Drip<'a> {
+    fn read_with_writer(&mut self, writer: &Watched<Narrow>, buf: &mut [u8]) -> io::Result<usize> {
         let narrow = writer.inner();
         if narrow.flushed != narrow.held.len() || narrow.flushed != answered(self.bytes, self.at) {
             self.was_answered = false;

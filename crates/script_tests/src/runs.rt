@@ -2,12 +2,12 @@
 ghost use Rattle.std.specs.Prelude.{◌≡◌, false};
 
 use crate::streams::{Drip, LINES, Narrow, broken_reader, config, drip_reader, narrow_writer};
-use checks::check_text;
+use check_command::check_text;
 use edn::Refusal;
-use line_loop::{ReadsBeside, Watched};
+use line_loop::{ReadsWithWriter, Watched};
 use linspec::Verdict;
-use onlookers::OnStandardError;
-use scripts::run_script;
+use observers::OnStandardError;
+use script_command::run_script;
 use std::alloc::Global;
 use std::io::Eprint;
 use std::rt::Clock;
@@ -18,7 +18,7 @@ use std::thread::Threads;
 pub type Told = (Result<Option<Verdict>, Refusal>, bool, usize);
 
 /// Runs a script by this reader and this writer.
-pub fn script_by<X: Wait + Clock + Eprint, R: ReadsBeside<Watched<Narrow>>>(
+pub fn script_by<X: Wait + Clock + Eprint, R: ReadsWithWriter<Watched<Narrow>>>(
     rt: &X,
     alloc: Global,
     is_strict: bool,

@@ -2,8 +2,8 @@
 ghost use Rattle.std.specs.Prelude.{◌≡◌, false};
 
 use harness::Config;
-use line_loop::{Failed, ReadsBeside, Watched};
-use models::ModelKind;
+use kinds::ModelKind;
+use line_loop::{Failed, ReadsWithWriter, Watched};
 use std::alloc::Global;
 use std::io;
 use std::io::{ErrorKind, Read, Write};
@@ -17,7 +17,7 @@ pub const LINES: &[u8] = b"{:type :invoke, :process 0, :f :write, :value [7 3]}
 
 /// What answers it.
 pub fn config(alloc: Global) -> Config {
-    Config::to_judge(alloc, 2, ModelKind::Register, 4096)
+    Config::judging_only(alloc, 2, ModelKind::Register, 4096)
 }
 
 /// Gives at most this number of bytes a read. After the last it fails, or is at its end.
@@ -101,8 +101,8 @@ impl<'a> Failed for Witness<'a> {
     }
 }
 
-impl<'a> ReadsBeside<Watched<Narrow>> for Witness<'a> {
-    fn read_beside(&mut self, writer: &Watched<Narrow>, buf: &mut [u8]) -> io::Result<usize> {
+impl<'a> ReadsWithWriter<Watched<Narrow>> for Witness<'a> {
+    fn read_with_writer(&mut self, writer: &Watched<Narrow>, buf: &mut [u8]) -> io::Result<usize> {
         let narrow = writer.inner();
         if lines_of(narrow.held.as_slice()) != self.lines || narrow.flushed != narrow.held.len() {
             self.was_answered = false;

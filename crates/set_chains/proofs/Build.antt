@@ -2,7 +2,7 @@
 use Rattle.std.proofs.Common.{◌≡◌, ◌≢◌, ℕ, suc, ◌+◌, ◌≤◌, ◌<◌, ℤ, ◌⊎◌, inl, inr, ⊎_elim, List, [], ◌∷◌, ◌++◌, length, refl, sym, ap, ◌∙◌, subst, arith, append_assoc}
 use Rattle.std.specs.List.{Contains}
 use Rattle.std.proofs.lemmas.Bool.{cases_lt}
-use Rattle.std.proofs.lemmas.List.Elements.{Contains-append_left, Contains-append_right, Contains-append_cases}
+use Rattle.std.proofs.lemmas.List.Elements.{Contains-append_right, Contains-append_cases}
 use Rattle.models.specs.declared.operation.Name.{Name}
 use Rattle.models.specs.declared.operation.Name.TheVariants.{Read, Write, Cas, Acquire, Release, Enqueue, Dequeue, Add}
 use Rattle.models.specs.declared.operation.Part.{Part}
@@ -440,9 +440,6 @@ module _ (ms : List Mark) (well : AreWellFormed ms) (chained : IsChained ms) whe
 
         comes_at : Pairwise Comes (before ++ x ∷ after)
         comes_at = subst (Pairwise Comes) (sym whole) by.before
-
-        early_in : (y : Taken) → Contains before y → Contains ops y
-        early_in y h = by.from y (subst (λ k. Contains k y) whole (Contains-append_left before (x ∷ after) y h))
 
         state_from : (v : ℤ) → Contains s v → Contains g.0 v
         state_from v h = ⊎_elim

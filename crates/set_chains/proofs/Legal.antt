@@ -7,7 +7,7 @@ use Rattle.models.specs.declared.finding.Found.TheVariants.{Elements}
 use Rattle.models.specs.declared.finding.Answer.TheVariants.{Many}
 use Rattle.values.specs.Members.{IsAscending}
 use Rattle.models.specs.Objects.{set_of_numbers, Fits}
-use Rattle.events.specs.Events.{Mark, IsFront}
+use Rattle.events.specs.Events.{Mark, IsPrefixOf}
 use Rattle.events.specs.Events.Mark.{Invoked, Returned, Failed}
 use Rattle.linspec.specs.MarkRule.{AreWellFormed}
 use Rattle.linspec.specs.Operations.{HasReturned, Precedes}
@@ -116,8 +116,8 @@ module _ (ms : List Mark) (well : AreWellFormed ms) (order : List Taken) (end : 
       let p : Place a = read_place a these h in
       let q : Place b = read_place b those k in
       ⊎_elim
-      (λ (f : IsFront p.before q.before). inl (more_before a b these those h k (λ z i. subst (λ m. Contains m z) f.1 (Contains-append_left p.before f.0 z i))))
-      (λ (f : IsFront q.before p.before). inr (more_before b a those these k h (λ z i. subst (λ m. Contains m z) f.1 (Contains-append_left q.before f.0 z i))))
+      (λ (f : IsPrefixOf p.before q.before). inl (more_before a b these those h k (λ z i. subst (λ m. Contains m z) f.1 (Contains-append_left p.before f.0 z i))))
+      (λ (f : IsPrefixOf q.before p.before). inr (more_before b a those these k h (λ z i. subst (λ m. Contains m z) f.1 (Contains-append_left q.before f.0 z i))))
       (two_cuts p.before (p.x ∷ p.after) q.before (q.x ∷ q.after) (p.whole ∙ sym q.whole))
 
   -- a done add of a value that an answer lacks stands behind the read

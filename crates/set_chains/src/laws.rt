@@ -7,11 +7,11 @@ ghost use Rattle.models.specs.declared.operation.Part.TheVariants.{Nil};
 ghost use Rattle.models.specs.declared.operation.Op.{Op};
 ghost use Rattle.models.specs.declared.finding.Answer.{Answer};
 ghost use Rattle.models.specs.declared.finding.Answer.TheVariants.{Many};
-ghost use Rattle.events.specs.Events.{Mark, Entry, marks, of_key, IsFront};
+ghost use Rattle.events.specs.Events.{Mark, Entry, marks, of_key, IsPrefixOf};
 ghost use Rattle.events.specs.Events.Mark.{Invoked, Returned, Failed, Crashed};
 ghost use Rattle.linspec.specs.MarkRule.{AreWellFormed};
 ghost use Rattle.linspec.specs.Orders.{IsLinearizable};
-ghost use Rattle.linspec.specs.Verdicts.{EndsShortestBadFront};
+ghost use Rattle.linspec.specs.Verdicts.{EndsShortestBadPrefix};
 ghost use Rattle.set_chains.specs.Chains.{IsChained, IsChainedByFirsts, IsAddOf, MayAnswer, MayFail};
 
 /// A history of a set is linearizable exactly if it is chained: its answers form a chain, and each of them was possible in time. So is
@@ -58,7 +58,7 @@ pub fn other_events_law()
 /// The history of a set becomes illegal at the event at which it stops being chained.
 pub fn illegal_at_law()
     ensures { (entries : List Entry) (last : Entry) → AreWellFormed (marks entries)
-        → EndsShortestBadFront set_of_numbers entries last
-        ↔ ((before : List Entry) × IsFront (before ++ last ∷ []) entries × IsChained (marks before)
+        → EndsShortestBadPrefix set_of_numbers entries last
+        ↔ ((before : List Entry) × IsPrefixOf (before ++ last ∷ []) entries × IsChained (marks before)
         × (¬ IsChained (marks (before ++ last ∷ [])))) }
 {}

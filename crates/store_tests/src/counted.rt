@@ -3,7 +3,8 @@ ghost use Rattle.test_store.specs.Store.{VersionsWithin};
 
 use edn::Refusal;
 use events::Fault;
-use models::{Found, ModelKind, Name, Op, Part};
+use kinds::ModelKind;
+use models::{Found, Name, Op, Part};
 use std::alloc::{AllocError, Global};
 use test_store::{Mode, Outcome, Store, versions_law};
 
@@ -27,7 +28,7 @@ pub enum Step {
 
 /// The result of a step.
 #[derive(Clone, Copy, PartialEq, Eq)]
-pub enum Said {
+pub enum Answer {
     Done,
     Found(Option<i64>),
     Item(i64),
@@ -37,14 +38,14 @@ pub enum Said {
     Other,
 }
 
-pub fn told(outcome: Result<Outcome, AllocError>) -> Said {
+pub fn told(outcome: Result<Outcome, AllocError>) -> Answer {
     match outcome {
-        Ok(Outcome::Done(Found::Unit)) => Said::Done,
-        Ok(Outcome::Done(Found::Reg(value))) => Said::Found(value),
-        Ok(Outcome::Done(Found::Item(value))) => Said::Item(value),
-        Ok(Outcome::Refused) => Said::Refused,
-        Ok(Outcome::Lost) => Said::Lost,
-        _ => Said::Other,
+        Ok(Outcome::Done(Found::Unit)) => Answer::Done,
+        Ok(Outcome::Done(Found::Reg(value))) => Answer::Found(value),
+        Ok(Outcome::Done(Found::Item(value))) => Answer::Item(value),
+        Ok(Outcome::Refused) => Answer::Refused,
+        Ok(Outcome::Lost) => Answer::Lost,
+        _ => Answer::Other,
     }
 }
 
@@ -63,7 +64,7 @@ impl Counted {
     }
 
     /// Whether each step has the result of its row.
-    pub fn follows(&mut self, rows: &[(Step, Said)]) -> bool {
+    pub fn follows(&mut self, rows: &[(Step, Answer)]) -> bool {
         for &(step, want) in rows {
             if self.carry(step) != want {
                 return false;
@@ -72,7 +73,7 @@ impl Counted {
         true
     }
 
-    fn carry(&mut self, step: Step) -> Said {
+    fn carry(&mut self, step: Step) -> Answer {
         let fault = match step {
             Step::Serve(entry, name, value) => return self.serve(entry, name, value),
             Step::Pause(replica) => Fault::Pause(replica),
@@ -83,9 +84,9 @@ impl Counted {
         self.strike(&fault)
     }
 
-    fn serve(&mut self, entry: u8, name: Name, value: Option<i64>) -> Said {
+    fn serve(&mut self, entry: u8, name: Name, value: Option<i64>) -> Answer {
         if self.store.replicas() <= entry || self.serves >= 100 {
-            return Said::Other;
+            return Answer::Other;
         }
         let part = match value {
             Some(value) => Part::Int(value),
@@ -97,11 +98,11 @@ impl Counted {
         told(outcome)
     }
 
-    fn strike(&mut self, fault: &Fault) -> Said {
+    fn strike(&mut self, fault: &Fault) -> Answer {
         versions_law();
         match self.store.fault(fault) {
-            Ok(()) => Said::Struck,
-            Err(_) => Said::Other,
+            Ok(()) => Answer::Struck,
+            Err(_) => Answer::Other,
         }
     }
 }
@@ -111,7 +112,7 @@ pub fn follows(
     alloc: Global,
     replicas: u8,
     kind: ModelKind,
-    rows: &[(Step, Said)],
+    rows: &[(Step, Answer)],
 ) -> Result<bool, Refusal> {
     let mut store = Counted::new(alloc, replicas, kind)?;
     Ok(store.follows(rows))

@@ -1,20 +1,21 @@
 //! A store under faults.
 
-use crate::counted::{Counted, Said, Step, follows, told};
+use crate::counted::{Answer, Counted, Step, follows, told};
 use edn::Refusal;
 use events::{Fault, Groups};
-use models::{Found, ModelKind, Name};
+use kinds::ModelKind;
+use models::{Found, Name};
 use std::alloc::{AllocError, Global};
 use test_store::{Mode, Outcome, Store};
 
-const CRASHES: [(Step, Said); 7] = [
-    (Step::Serve(0, Name::Write, Some(5)), Said::Done),
-    (Step::Crash(0), Said::Struck),
-    (Step::Serve(1, Name::Read, None), Said::Found(Some(5))),
-    (Step::Crash(1), Said::Struck),
-    (Step::Serve(2, Name::Read, None), Said::Refused),
-    (Step::Restart(0), Said::Struck),
-    (Step::Serve(2, Name::Read, None), Said::Found(Some(5))),
+const CRASHES: [(Step, Answer); 7] = [
+    (Step::Serve(0, Name::Write, Some(5)), Answer::Done),
+    (Step::Crash(0), Answer::Struck),
+    (Step::Serve(1, Name::Read, None), Answer::Found(Some(5))),
+    (Step::Crash(1), Answer::Struck),
+    (Step::Serve(2, Name::Read, None), Answer::Refused),
+    (Step::Restart(0), Answer::Struck),
+    (Step::Serve(2, Name::Read, None), Answer::Found(Some(5))),
 ];
 
 #[test]
@@ -23,15 +24,15 @@ fn strict_store_survives_crashes(rt: HostRuntime) {
     assert!(rt; matches!(follows, Ok(true)));
 }
 
-const TWO_WRITES: [(Step, Said); 5] = [
-    (Step::Serve(0, Name::Write, Some(5)), Said::Done),
-    (Step::Pause(0), Said::Struck),
-    (Step::Serve(1, Name::Write, Some(6)), Said::Done),
-    (Step::Resume(0), Said::Struck),
-    (Step::Pause(2), Said::Struck),
+const TWO_WRITES: [(Step, Answer); 5] = [
+    (Step::Serve(0, Name::Write, Some(5)), Answer::Done),
+    (Step::Pause(0), Answer::Struck),
+    (Step::Serve(1, Name::Write, Some(6)), Answer::Done),
+    (Step::Resume(0), Answer::Struck),
+    (Step::Pause(2), Answer::Struck),
 ];
 
-const NEWER: [(Step, Said); 1] = [(Step::Serve(0, Name::Read, None), Said::Found(Some(6)))];
+const NEWER: [(Step, Answer); 1] = [(Step::Serve(0, Name::Read, None), Answer::Found(Some(6)))];
 
 // Whether the two writes go so, and a read finds the newer one, in the store and in its copy.
 fn finds_the_newer(alloc: Global) -> Result<[bool; 3], Refusal> {
@@ -84,7 +85,7 @@ fn bad_faults(rt: HostRuntime) {
 #[test]
 fn copies_of_outcomes(rt: HostRuntime) {
     let found = Outcome::Done(Found::Reg(Some(5)));
-    assert!(rt; told(found.copy()) == Said::Found(Some(5)));
-    assert!(rt; told(Outcome::Refused.copy()) == Said::Refused);
-    assert!(rt; told(Outcome::Lost.copy()) == Said::Lost);
+    assert!(rt; told(found.copy()) == Answer::Found(Some(5)));
+    assert!(rt; told(Outcome::Refused.copy()) == Answer::Refused);
+    assert!(rt; told(Outcome::Lost.copy()) == Answer::Lost);
 }

@@ -2,7 +2,7 @@
 use denote.Param.Send.{IsSend, IsSync, sendable}
 use Rattle.std.proofs.Crossing.{crosses}
 use Rattle.std.proofs.MapsCrossing as maps
-use Rattle.models.proofs.Crossing.{any_send, any_sync}
+use Rattle.kinds.proofs.Crossing.{any_send, any_sync}
 use Rattle.test_store.specs.contracts.held.Held as held
 use Rattle.test_store.specs.contracts.held.Row as row
 use Rattle.test_store.specs.contracts.rows.Rows as rows

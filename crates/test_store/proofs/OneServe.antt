@@ -3,12 +3,12 @@ use Rattle.std.proofs.Common.{◌≡◌, ℕ, ◌+◌, ◌-◌, ◌<◌, ⊎_eli
 use Rattle.std.proofs.lemmas.Option.{same_Some}
 use Rattle.models.specs.declared.operation.Op.{Op}
 use Rattle.models.specs.declared.finding.Found.{Found}
-use Rattle.models.specs.declared.any_state.AnyState.{AnyState}
-use Rattle.models.specs.declared.any_state.AnyState.TheVariants.{Register as OfRegister, CasRegister as OfCasRegister, Mutex as OfMutex, FifoQueue as OfFifoQueue, Set as OfSet, UnorderedQueue as OfUnorderedQueue, WideRegister as OfWideRegister, WideCasRegister as OfWideCasRegister, WideSet as OfWideSet, WideFifoQueue as OfWideFifoQueue, WideUnorderedQueue as OfWideUnorderedQueue}
-use Rattle.models.specs.declared.model_kind.ModelKind.{ModelKind}
-use Rattle.models.specs.declared.model_kind.ModelKind.TheVariants.{Register, CasRegister, Mutex, FifoQueue, Set, UnorderedQueue, WideRegister, WideCasRegister, WideSet, WideFifoQueue, WideUnorderedQueue}
-use Rattle.models.specs.Objects.{object_of}
-use Rattle.models.specs.AnyState.{any, outcomes_of}
+use Rattle.kinds.specs.declared.any_state.AnyState.{AnyState}
+use Rattle.kinds.specs.declared.any_state.AnyState.TheVariants.{Register as OfRegister, CasRegister as OfCasRegister, Mutex as OfMutex, FifoQueue as OfFifoQueue, Set as OfSet, UnorderedQueue as OfUnorderedQueue, WideRegister as OfWideRegister, WideCasRegister as OfWideCasRegister, WideSet as OfWideSet, WideFifoQueue as OfWideFifoQueue, WideUnorderedQueue as OfWideUnorderedQueue}
+use Rattle.kinds.specs.declared.model_kind.ModelKind.{ModelKind}
+use Rattle.kinds.specs.declared.model_kind.ModelKind.TheVariants.{Register, CasRegister, Mutex, FifoQueue, Set, UnorderedQueue, WideRegister, WideCasRegister, WideSet, WideFifoQueue, WideUnorderedQueue}
+use Rattle.kinds.specs.Kinds.{object_of}
+use Rattle.kinds.specs.AnyState.{any, outcomes_of}
 use Rattle.test_store.specs.declared.held.Held.{Held}
 use Rattle.test_store.specs.declared.links.Links.{Links}
 use Rattle.test_store.specs.declared.outcome.Mode.{Mode}

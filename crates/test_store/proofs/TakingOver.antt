@@ -1,7 +1,7 @@
 -- The copies that the chosen replicas take over, one replica after another
 use Rattle.std.proofs.Common.{◌≡◌, ℕ, zero, suc, ◌+◌, ◌<◌, Bool, true, false, cond, List, [], ◌∷◌, ◌++◌, drop, length, get_or, refl, sym, ap, ◌∙◌, append_assoc, arith, add-one, drop-cons}
 use Rattle.std.proofs.lemmas.List.{append-nil}
-use Rattle.models.specs.declared.any_state.AnyState.{AnyState}
+use Rattle.kinds.specs.declared.any_state.AnyState.{AnyState}
 use Rattle.test_store.specs.declared.held.Held.{Held}
 use Rattle.test_store.specs.Copies.{taken_over}
 

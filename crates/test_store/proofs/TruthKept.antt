@@ -6,10 +6,11 @@ use Rattle.std.proofs.lemmas.List.{length-replicate}
 use Rattle.std.proofs.lemmas.Option.{same_Some}
 use Rattle.models.specs.declared.operation.Op.{Op}
 use Rattle.models.specs.declared.finding.Found.{Found}
-use Rattle.models.specs.declared.model_kind.ModelKind.{ModelKind}
-use Rattle.models.specs.declared.any_state.AnyState.{AnyState}
-use Rattle.models.specs.Objects.{IsOneOf, table_of, object_of}
-use Rattle.models.specs.AnyState.{any}
+use Rattle.models.specs.Objects.{IsOneOf}
+use Rattle.kinds.specs.declared.model_kind.ModelKind.{ModelKind}
+use Rattle.kinds.specs.declared.any_state.AnyState.{AnyState}
+use Rattle.kinds.specs.Kinds.{table_of, object_of}
+use Rattle.kinds.specs.AnyState.{any}
 use Rattle.events.specs.declared.event.Fault.{Fault}
 use Rattle.events.specs.declared.event.Fault.TheVariants.{Partition, Heal, Pause, Resume, Crash, Restart, LoseReplies}
 use Rattle.test_store.specs.declared.held.Held.{Held}

@@ -1,8 +1,8 @@
 -- Promise: the copies of one key at the replicas
 use Rattle.std.specs.Prelude.{ℕ, Bool, true, false, nat_lt, if◌then◌else◌, Option, Some, None, List, [], ◌∷◌, replicate}
-use Rattle.models.specs.declared.model_kind.ModelKind.{ModelKind}
-use Rattle.models.specs.Objects.{object_of}
-use Rattle.models.specs.AnyState.{any}
+use Rattle.kinds.specs.declared.model_kind.ModelKind.{ModelKind}
+use Rattle.kinds.specs.Kinds.{object_of}
+use Rattle.kinds.specs.AnyState.{any}
 use Rattle.test_store.specs.declared.held.Held.{Held}
 
 -- the copy at a replica of a key that was never changed

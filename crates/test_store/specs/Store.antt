@@ -7,10 +7,10 @@ use Rattle.edn.specs.declared.refusal.Refusal.{Refusal}
 use Rattle.edn.specs.declared.refusal.Refusal.TheVariants.{BadValue, NoSuchReplica, NoMemory}
 use Rattle.models.specs.declared.operation.Op.{Op}
 use Rattle.models.specs.declared.finding.Found.{Found}
-use Rattle.models.specs.declared.any_state.AnyState.{AnyState}
-use Rattle.models.specs.declared.model_kind.ModelKind.{ModelKind}
-use Rattle.models.specs.Objects.{object_of}
-use Rattle.models.specs.AnyState.{any, outcomes_of}
+use Rattle.kinds.specs.declared.any_state.AnyState.{AnyState}
+use Rattle.kinds.specs.declared.model_kind.ModelKind.{ModelKind}
+use Rattle.kinds.specs.Kinds.{object_of}
+use Rattle.kinds.specs.AnyState.{any, outcomes_of}
 use Rattle.events.specs.declared.event.Fault.{Fault}
 use Rattle.events.specs.declared.event.Fault.TheVariants.{Partition, Heal, Pause, Resume, Crash, Restart, LoseReplies}
 use Rattle.test_store.specs.declared.held.Held.{Held}

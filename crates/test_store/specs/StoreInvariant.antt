@@ -1,6 +1,6 @@
 -- Invariant: the facts that a store keeps
 use Rattle.std.specs.Prelude.{◌≡◌, ℕ, ◌-◌, ◌<◌, true, Option, Some, None, if◌then◌else◌, List}
-use Rattle.models.specs.declared.model_kind.ModelKind.{ModelKind}
+use Rattle.kinds.specs.declared.model_kind.ModelKind.{ModelKind}
 use Rattle.test_store.specs.declared.held.Held.{Held}
 use Rattle.test_store.specs.declared.links.Links.{Links}
 use Rattle.test_store.specs.declared.outcome.Mode.{Mode}

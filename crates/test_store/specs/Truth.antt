@@ -3,9 +3,9 @@ use Rattle.std.specs.Prelude.{◌≡◌, ◌≢◌, ℕ, ◌*◌, ◌<◌, ◌�
 use Rattle.std.specs.List.{Contains}
 use Rattle.models.specs.declared.operation.Op.{Op}
 use Rattle.models.specs.declared.finding.Found.{Found}
-use Rattle.models.specs.declared.model_kind.ModelKind.{ModelKind}
-use Rattle.models.specs.Objects.{object_of}
-use Rattle.models.specs.AnyState.{any}
+use Rattle.kinds.specs.declared.model_kind.ModelKind.{ModelKind}
+use Rattle.kinds.specs.Kinds.{object_of}
+use Rattle.kinds.specs.AnyState.{any}
 use Rattle.test_store.specs.declared.held.Held.{Held}
 use Rattle.test_store.specs.declared.outcome.Mode.TheVariants.{Strict}
 use Rattle.test_store.specs.declared.outcome.Outcome.{Outcome}
@@ -23,8 +23,8 @@ start_truth kind key = (object_of kind).start
 abbrev pub with_version : ℕ → List Held → ℕ
 with_version v row = count_by (λ held. nat_eq held.version v) row
 
--- this is the true state of a key, with this row at its n replicas: more than half of them hold it with the greatest version, and so
--- does each that holds that version
+-- this is the true state of a key, with this row at its n replicas. More than half of them hold it with the greatest version, and so does
+-- each that holds that version
 pub record TrueState (kind : ModelKind) (n : ℕ) (row : List Held)
     (state : (object_of kind).State) : Type 0 where
   pub version : ℕ

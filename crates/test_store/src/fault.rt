@@ -60,7 +60,7 @@ pub(crate) fn losing_after(fault: &Fault, losing: u16) -> u16
     }
 }
 
-// Whether each number stands in the groups at most once.
+// Whether the groups have each number at most once.
 fn are_once(groups: &Groups) -> bool
     ensures { IsTrue result ↔ AreOnce (concat groups.now) }
 {

@@ -3,7 +3,7 @@ ghost use Rattle.std.specs.Prelude.{◌≡◌, false, slice_index_or, IfOk};
 ghost use Rattle.std.specs.Option.{option_copied};
 ghost use Rattle.test_store.specs.Copies.{newest, taken_over, fresh_row};
 
-use models::{AnyState, ModelKind};
+use kinds::{AnyState, ModelKind};
 use std::alloc::{AllocError, Global};
 use std::marker::Model;
 
@@ -78,7 +78,7 @@ impl Row {
     }
 }
 
-/// The copy with the greatest version among those of the chosen replicas; of equal ones that of the lowest number.
+/// The copy with the greatest version on the chosen replicas; if several have it, the copy of the replica with the lowest number.
 pub(crate) fn newest<'a>(chosen: &[bool], row: &'a [Held]) -> Option<&'a Held>
     ensures { option_copied result ≡ newest chosen.now row.now }
 {
@@ -126,7 +126,7 @@ pub(crate) fn taken_over(
     Ok(Row { held })
 }
 
-// Whether the flag with this number stands.
+// Whether the flag with this number is set.
 fn stands(flags: &[bool], number: usize) -> bool
     ensures { result ≡ slice_index_or flags.now number false }
 {

@@ -1,7 +1,7 @@
 //! Laws of the store.
 ghost use Rattle.std.specs.Prelude.{◌≡◌, ℕ, ◌+◌};
 ghost use Rattle.models.specs.declared.operation.Op.{Op};
-ghost use Rattle.models.specs.declared.model_kind.ModelKind.{ModelKind};
+ghost use Rattle.kinds.specs.declared.model_kind.ModelKind.{ModelKind};
 ghost use Rattle.events.specs.declared.event.Fault.{Fault};
 ghost use Rattle.test_store.specs.declared.outcome.Mode.{Mode};
 ghost use Rattle.test_store.specs.declared.outcome.Mode.TheVariants.{Strict};

@@ -16,7 +16,7 @@ use std::marker::Model;
 #[derive(Drop)]
 pub(crate) struct Rows {
     rows: Vec<(Key, Row)>,
-    /// Where the row of each key stands.
+    /// The place of the row of each key.
     places: HashMap<Key, usize>,
 }
 

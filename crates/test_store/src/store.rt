@@ -15,7 +15,8 @@ use crate::outcome::{Mode, Outcome};
 use crate::rows::Rows;
 use edn::Refusal;
 use events::{Fault, MOST_REPLICAS};
-use models::{AnyState, Found, Key, ModelKind, Op};
+use kinds::{AnyState, ModelKind};
+use models::{Found, Key, Op};
 use std::alloc::{AllocError, Global};
 use std::marker::Model;
 
@@ -28,11 +29,10 @@ enum Change {
     Strike { fault: Fault, rows: Option<Rows> },
 }
 
-/// A replicated store in the process. Each replica holds a copy of each key with a version; a serve goes through one
-/// replica, its entry, and a fault cuts, stops or crashes replicas, or loses replies. A key that was never changed takes
-/// no memory.
+/// A replicated store in the process. Each replica holds a copy of each key with a version. A serve goes through one replica, its entry. A
+/// fault cuts, stops or crashes replicas, or loses replies. A key that was never changed takes no memory.
 ///
-/// Each change has two halves: `prepare_serve` or `prepare_fault` says what it comes to, `commit` carries it out.
+/// Each change has two halves: `prepare_serve` or `prepare_fault` returns the result, and `commit` carries it out.
 pub struct Store {
     alloc: Global,
     mode: Mode,
@@ -108,9 +108,9 @@ impl Store {
         self.replicas
     }
 
-    /// Prepares a serve of the operation at the entry, and gives the outcome that [`commit`](Store::commit) will bring. The store stays as
-    /// it is. The entry is the number of a replica, from 0, and 2^64 - 2 is the greatest version that the key may have. It costs
-    /// O(replicas + the operation's outcomes in the key's state), whatever the number of keys, unless its memory grows.
+    /// Prepares a serve of the operation at the entry, and returns its outcome, which [`commit`](Store::commit) carries out. The store
+    /// stays as it is. The entry is the number of a replica, from 0, and 2^64 - 2 is the greatest version that the key may have. Costs
+    /// O(replicas + outcomes of the operation in the key's state), for any number of keys, unless the memory grows.
     ///
     /// # Errors
     /// `AllocError` if an allocation fails; then nothing is prepared.
@@ -147,7 +147,8 @@ impl Store {
         Ok(outcome_of(lost, found))
     }
 
-    /// Prepares a fault. The store stays as it is. It costs O(replicas of the fault), and for [`Fault::Heal`] in sloppy mode O(changed keys).
+    /// Prepares a fault. The store stays as it is. It costs O(replicas of the fault), and for [`Fault::Heal`] in sloppy mode O(changed
+    /// keys).
     ///
     /// # Errors
     /// [`Refusal::BadValue`] if a replica is named twice, else [`Refusal::NoSuchReplica`] if one is none of the
@@ -369,7 +370,7 @@ fn servers(mode: Mode, replicas: usize, links: &Links, entry: usize) -> [bool; 7
     }
 }
 
-// Whether the flags are those of more than half of the replicas.
+// Whether more than half of the replicas are chosen.
 fn is_majority(replicas: usize, chosen: &[bool]) -> bool
     requires { length chosen.now ≡ 7 }
     ensures { result ≡ is_majority replicas chosen.now }

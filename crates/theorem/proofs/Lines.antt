@@ -6,7 +6,7 @@ use Rattle.std.proofs.lemmas.Bool.Decides.{leb_tells}
 use Rattle.edn.specs.Value.{Value, nil, bool, int, text as string, keyword, vector, members, pairs, Values, none, more}
 use Rattle.edn.specs.declared.refusal.Refusal.{Refusal}
 use Rattle.edn.specs.declared.refusal.Refusal.TheVariants.{BadValue, BadBudget, NoSuchIndex}
-use Rattle.models.specs.declared.model_kind.ModelKind.{ModelKind}
+use Rattle.kinds.specs.declared.model_kind.ModelKind.{ModelKind}
 use Rattle.history.specs.WellFormed.{IsHistoryOf}
 use Rattle.machine.specs.declared.command.Command.{Command}
 use Rattle.machine.specs.declared.command.Command.TheVariants.{Append, Rewind, SetBudget, Verdict as Ask}
@@ -14,10 +14,10 @@ use Rattle.machine.specs.declared.command.Reply.TheVariants.{Verdict as Says}
 use Rattle.machine.specs.Machine.{Machine}
 use Rattle.machine.proofs.HistoryKept.{history_step}
 use Rattle.line_loop.specs.ReplyText.{line_limit}
-use Rattle.scripts.specs.declared.command.LineCommand.{LineCommand}
-use Rattle.scripts.specs.declared.command.LineCommand.TheVariants.{Hello, Step}
-use Rattle.scripts.specs.Command.{rewind_to, key_in, kind_in, model_of, budget_of, command_named, vector_command, Appends, ElementAsks, AskFor, Asks}
-use Rattle.scripts.specs.Reply as script
+use Rattle.script_command.specs.declared.command.LineCommand.{LineCommand}
+use Rattle.script_command.specs.declared.command.LineCommand.TheVariants.{Hello, Step}
+use Rattle.script_command.specs.Command.{rewind_to, key_in, kind_in, model_of, budget_of, command_named, vector_command, Appends, ElementAsks, AskFor, Asks}
+use Rattle.script_command.specs.Reply as script
 use Rattle.theorem.specs.Theorem.{CarriesOut, AnswersTo, AnswersLine}
 use Rattle.theorem.specs.Bridges.{IsOfHistory}
 use Rattle.theorem.proofs.Verdicts.{right}

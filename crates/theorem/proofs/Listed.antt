@@ -12,11 +12,11 @@ use Rattle.machine.specs.declared.command.Reply.TheVariants.{Verdict as Says}
 use Rattle.machine.specs.Machine.{Machine, Setup, MayStep, Takes, appended}
 use Rattle.machine.proofs.Pushes.{history-push, no_history}
 use Rattle.report.specs.Report.{IsReport}
-use Rattle.checks.specs.Reading.{PushesAll, RefusesNext, IsRead}
-use Rattle.checks.specs.Recorded.{TakesAll, AdmitsAll, RefusesElement, ComesTo}
-use Rattle.checks.specs.declared.recorded.Findings.{Findings}
-use Rattle.checks.specs.declared.recorded.Findings.TheVariants.{Judged, RefusedEvent, Refused}
-use Rattle.checks.proofs.Recording.{machine_with}
+use Rattle.check_command.specs.Reading.{PushesAll, RefusesNext, IsRead}
+use Rattle.check_command.specs.Recorded.{TakesAll, AdmitsAll, RefusesElement, ComesTo}
+use Rattle.check_command.specs.declared.recorded.Findings.{Findings}
+use Rattle.check_command.specs.declared.recorded.Findings.TheVariants.{Judged, RefusedEvent, Refused}
+use Rattle.check_command.proofs.Recording.{machine_with}
 use Rattle.theorem.specs.Histories.{IsJudgedSo, recorded}
 use Rattle.theorem.specs.Bridges.{SaysOf}
 use Rattle.theorem.proofs.Verdicts.{right}

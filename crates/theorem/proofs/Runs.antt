@@ -30,8 +30,8 @@ use Rattle.clients.specs.Plays.{Stage, draws, serves, finishes, has_ended, gives
 use Rattle.clients.specs.Runs.{IsRun, calls_of}
 use Rattle.clients.proofs.Asking.{AreSuch, same_number}
 use Rattle.report.specs.Report.{IsReport}
-use Rattle.checks.specs.ExitStatus.{status_of}
-use Rattle.runs.specs.RunText.{IsRunText, MaySay}
+use Rattle.check_command.specs.ExitStatus.{status_of}
+use Rattle.run_command.specs.RunText.{IsRunText, MaySay}
 use Rattle.theorem.specs.Theorem.{Means}
 use Rattle.theorem.specs.Histories.{recorded}
 use Rattle.theorem.specs.Bridges.{IsReportOf, SaysOfRun}

@@ -8,7 +8,7 @@ use Rattle.line_loop.specs.ReplyText.{Replies, IsReplyText}
 use Rattle.line_loop.specs.Logs.{Logged}
 use Rattle.line_loop.specs.Live.{HoldsNothingBack, IsLive}
 use Rattle.line_loop.specs.Stopping.{Finishes, IsAnswered, IsBeginning, IsUpToDate, KeepsUp, Stops}
-use Rattle.scripts.specs.Reply.{MayReply, Script, Shows, script, after}
+use Rattle.script_command.specs.Reply.{MayReply, Script, Shows, script, after}
 use Rattle.theorem.specs.Theorem.{Answers, EndsBy, Session, opened}
 use Rattle.theorem.specs.Bridges.{session_of}
 use Rattle.theorem.proofs.Verdicts.{right}

@@ -1,9 +1,9 @@
 -- an order that shows a history to be linearizable
 use Rattle.std.proofs.Common.{ℕ, List}
-use Rattle.models.specs.declared.model_kind.ModelKind.{ModelKind}
+use Rattle.kinds.specs.declared.model_kind.ModelKind.{ModelKind}
 use Rattle.witness.specs.declared.confirming.Confirmation.TheVariants.{Linearizable}
-use Rattle.confirms.specs.Found.{ComesTo}
-use Rattle.confirms.specs.declared.found.Found.TheVariants.{Shown}
+use Rattle.confirm_command.specs.Found.{ComesTo}
+use Rattle.confirm_command.specs.declared.found.Found.TheVariants.{Shown}
 use Rattle.theorem.specs.Histories.{IsShownSo}
 
 pub shown : (c : ℕ) (kind : ModelKind) (budget : ℕ) (bytes order : List ℕ) → ComesTo c kind bytes order (Shown Linearizable) → IsShownSo c kind budget bytes

@@ -6,13 +6,13 @@ use Rattle.machine.specs.declared.command.Command.{Command}
 use Rattle.machine.specs.declared.command.Command.TheVariants.{Append, Rewind, SetModel, SetBudget, Verdict as Ask}
 use Rattle.machine.specs.declared.command.Reply.TheVariants.{Verdict as Says}
 use Rattle.machine.specs.Machine.{Machine, Setup, MayStep, opening}
-use Rattle.scripts.specs.Reply.{Script}
-use Rattle.checks.specs.declared.recorded.Findings.{Findings}
-use Rattle.checks.specs.declared.recorded.Findings.TheVariants.{Judged}
+use Rattle.script_command.specs.Reply.{Script}
+use Rattle.check_command.specs.declared.recorded.Findings.{Findings}
+use Rattle.check_command.specs.declared.recorded.Findings.TheVariants.{Judged}
 use Rattle.board.specs.Tape.{Leads}
 use Rattle.board.specs.CoreTape.{CoreReply, CoreTape}
 use Rattle.clients.specs.Runs.{HasNoRun, IsRun}
-use Rattle.runs.specs.RunText.{IsRefusalText}
+use Rattle.run_command.specs.RunText.{IsRefusalText}
 use Rattle.theorem.specs.Theorem.{Session, IsRight}
 use Rattle.theorem.specs.Histories.{IsReportedSo, recorded}
 

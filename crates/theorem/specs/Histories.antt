@@ -1,6 +1,6 @@
 -- Promise: the theorem for whole histories, of a file or of a run, by the page of scripts (this project's own)
 use Rattle.std.specs.Prelude.{◌≡◌, ℕ, List, [], None}
-use Rattle.models.specs.declared.model_kind.ModelKind.{ModelKind}
+use Rattle.kinds.specs.declared.model_kind.ModelKind.{ModelKind}
 use Rattle.events.specs.declared.event.Event.{Event}
 use Rattle.history.specs.WellFormed.{IsHistoryOf}
 use Rattle.linspec.specs.JudgedHistory.{JudgedHistory, opening_of}
@@ -9,8 +9,8 @@ use Rattle.linspec.specs.declared.verdict.Verdict.TheVariants.{Legal}
 use Rattle.test_store.specs.declared.outcome.Mode.{Mode}
 use Rattle.test_store.specs.declared.outcome.Mode.TheVariants.{Strict}
 use Rattle.report.specs.Report.{IsReport}
-use Rattle.checks.specs.ExitStatus.{status_of}
-use Rattle.checks.specs.Reading.{IsRead}
+use Rattle.check_command.specs.ExitStatus.{status_of}
+use Rattle.check_command.specs.Reading.{IsRead}
 use Rattle.theorem.specs.Theorem.{Means, IsRight}
 
 -- 1. Recorded histories

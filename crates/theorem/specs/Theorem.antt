@@ -3,7 +3,7 @@
 use Rattle.std.specs.Prelude.{◌≡◌, ◌⊎◌, ◌<◌, ◌≤◌, ◌&&◌, ℕ, Bool, true, false, List, [], length, Option, Some, None, Result, Ok, Err}
 use Rattle.edn.specs.declared.refusal.Refusal.{Refusal}
 use Rattle.edn.specs.declared.refusal.Refusal.TheVariants.{NoSuchIndex, BadBudget, TooLong}
-use Rattle.models.specs.declared.model_kind.ModelKind.{ModelKind}
+use Rattle.kinds.specs.declared.model_kind.ModelKind.{ModelKind}
 use Rattle.events.specs.Events.{marks}
 use Rattle.history.specs.WellFormed.{IsWellFormed, Refuses}
 use Rattle.linspec.specs.Orders.{IsLinearizable, product}
@@ -16,10 +16,10 @@ use Rattle.machine.specs.declared.command.Command.{Command}
 use Rattle.machine.specs.declared.command.Command.TheVariants.{Append, Rewind, SetModel, SetBudget, Verdict as Ask}
 use Rattle.line_loop.specs.RefusalLine.{refusal_line}
 use Rattle.line_loop.specs.ReplyText.{line_limit}
-use Rattle.scripts.specs.declared.command.LineCommand.{LineCommand}
-use Rattle.scripts.specs.declared.command.LineCommand.TheVariants.{Hello, Step}
-use Rattle.scripts.specs.Command.{Asks}
-use Rattle.scripts.specs.Hello.{hello_line}
+use Rattle.script_command.specs.declared.command.LineCommand.{LineCommand}
+use Rattle.script_command.specs.declared.command.LineCommand.TheVariants.{Hello, Step}
+use Rattle.script_command.specs.Command.{Asks}
+use Rattle.script_command.specs.Hello.{hello_line}
 use Rattle.report.specs.VerdictLine.{verdict_line}
 
 -- 1. The meaning of a verdict

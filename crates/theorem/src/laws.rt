@@ -2,7 +2,7 @@
 ghost use Rattle.std.specs.Prelude.{◌≡◌, ℕ, Bool, List, [], Option, Result, Ok, Err, Some, None};
 ghost use mathlib.Core.List.{IsPrefix};
 ghost use Rattle.edn.specs.declared.refusal.Refusal.{Refusal};
-ghost use Rattle.models.specs.declared.model_kind.ModelKind.{ModelKind};
+ghost use Rattle.kinds.specs.declared.model_kind.ModelKind.{ModelKind};
 ghost use Rattle.events.specs.declared.event.Event.{Event};
 ghost use Rattle.linspec.specs.declared.verdict.Verdict.{Verdict};
 ghost use Rattle.machine.specs.declared.command.Command.{Command};
@@ -12,23 +12,23 @@ ghost use Rattle.line_loop.specs.ReplyText.{IsReplyText};
 ghost use Rattle.line_loop.specs.Logs.{Logged};
 ghost use Rattle.line_loop.specs.Live.{IsLive};
 ghost use Rattle.line_loop.specs.Stopping.{Finishes, KeepsUp, Stops};
-ghost use Rattle.scripts.specs.Reply.{MayReply, Script, Shows, script};
-ghost use Rattle.checks.specs.Reading.{IsRead};
-ghost use Rattle.checks.specs.Recorded.{ComesTo};
-ghost use Rattle.checks.specs.declared.recorded.Findings.{Findings};
+ghost use Rattle.script_command.specs.Reply.{MayReply, Script, Shows, script};
+ghost use Rattle.check_command.specs.Reading.{IsRead};
+ghost use Rattle.check_command.specs.Recorded.{ComesTo};
+ghost use Rattle.check_command.specs.declared.recorded.Findings.{Findings};
 ghost use Rattle.witness.specs.declared.confirming.Confirmation.{Confirmation};
-ghost use Rattle.confirms.specs.Found.{ComesTo as Confirms};
-ghost use Rattle.confirms.specs.declared.found.Found.{Found};
+ghost use Rattle.confirm_command.specs.Found.{ComesTo as Confirms};
+ghost use Rattle.confirm_command.specs.declared.found.Found.{Found};
 ghost use Rattle.board.specs.CoreTape.{CoreTape, LeadsTo, opening_tape};
 ghost use Rattle.clients.specs.Runs.{IsRun};
-ghost use Rattle.runs.specs.RunText.{MaySay};
+ghost use Rattle.run_command.specs.RunText.{MaySay};
 ghost use Rattle.theorem.specs.Theorem.{Answers, Changes, Declines, EndsBy, Means, opened};
 ghost use Rattle.theorem.specs.Histories.{IsJudgedSo, IsShownSo};
 ghost use Rattle.theorem.specs.Bridges.{IsOfHistory, IsRightTape, SaysOf, SaysOfRun, session_of};
 
 use clients::laws::no_false_alarm_in_a_run;
 
-/// The bytes of a script. `scripts::run_script` promises its reply text over the one-thread object; this law promises the same over
+/// The bytes of a script. `script_command::run_script` promises its reply text over the one-thread object; this law promises the same over
 /// histories alone, by `Answers`. Each verdict in the text is right by the definition of Herlihy and Wing.
 pub fn script_law()
     ensures replies { (setup : Setup) (is_strict : Bool) (input text : List ℕ) (end : Script) →
@@ -61,7 +61,7 @@ pub fn check_law()
         → (events : List Event) × IsRead bytes setup.concurrency [] events (Some (i, why)) }
 {}
 
-/// The bytes of a recorded history and of an order: `confirms::confirm_bytes` promises its finding on them by `ComesTo`. If it finds
+/// The bytes of a recorded history and of an order: `confirm_command::confirm_bytes` promises its finding on them by `ComesTo`. If it finds
 /// `linearizable`, the history that the first bytes spell is linearizable by the definition of Herlihy and Wing, over all keys together.
 pub fn confirm_law()
     ensures { (concurrency : ℕ) (kind : ModelKind) (budget : ℕ) (bytes order : List ℕ) →
@@ -76,7 +76,7 @@ pub fn tape_law()
         IsPrefix (opening_tape (opening setup)) tape → LeadsTo tape m → IsRightTape tape m }
 {}
 
-/// The text and the exit status of a run: `runs::run_store` promises them by `MaySay`. If they report a history, it is the one that the
+/// The text and the exit status of a run: `run_command::run_store` promises them by `MaySay`. If they report a history, it is the one that the
 /// clients left, and the verdict on it is right by the definition of Herlihy and Wing. So 0 means that it is linearizable, and 1 that it is
 /// not. A strict store's history is linearizable.
 pub fn run_law()

@@ -18,7 +18,7 @@ pub(crate) enum Struck {
 
 /// The answer to a command.
 #[derive(Clone, Copy, PartialEq, Eq)]
-pub(crate) enum Said {
+pub(crate) enum Answer {
     Legal,
     /// The key, and the index of the event.
     Illegal(u16, u32),
@@ -43,21 +43,21 @@ pub(crate) enum Said {
 }
 
 /// A verdict.
-pub(crate) fn verdict_said(verdict: Verdict) -> Said {
+pub(crate) fn verdict_said(verdict: Verdict) -> Answer {
     match verdict {
-        Verdict::Legal => Said::Legal,
-        Verdict::Illegal { key, index } => Said::Illegal(key, index),
-        Verdict::Unknown { key, index } => Said::Unknown(key, index),
+        Verdict::Legal => Answer::Legal,
+        Verdict::Illegal { key, index } => Answer::Illegal(key, index),
+        Verdict::Unknown { key, index } => Answer::Unknown(key, index),
     }
 }
 
-fn served_said(outcome: &Outcome) -> Said {
+fn served_said(outcome: &Outcome) -> Answer {
     match outcome {
-        Outcome::Done(Found::Unit) => Said::Done,
-        Outcome::Done(Found::Reg(value)) => Said::Found(*value),
-        Outcome::Done(_) => Said::FoundOther,
-        Outcome::Refused => Said::NotDone,
-        Outcome::Lost => Said::Lost,
+        Outcome::Done(Found::Unit) => Answer::Done,
+        Outcome::Done(Found::Reg(value)) => Answer::Found(*value),
+        Outcome::Done(_) => Answer::FoundOther,
+        Outcome::Refused => Answer::NotDone,
+        Outcome::Lost => Answer::Lost,
     }
 }
 
@@ -71,39 +71,39 @@ fn fault_said(fault: &Fault) -> Struck {
 }
 
 /// A reply.
-pub(crate) fn reply_said(reply: &Reply) -> Said {
+pub(crate) fn reply_said(reply: &Reply) -> Answer {
     match reply {
         Reply::Verdict(verdict) => verdict_said(*verdict),
-        Reply::Drawn { ticket, index } => Said::Drawn(*ticket, *index),
-        Reply::Pending => Said::Pending,
-        Reply::Done => Said::Over,
+        Reply::Drawn { ticket, index } => Answer::Drawn(*ticket, *index),
+        Reply::Pending => Answer::Pending,
+        Reply::Done => Answer::Over,
         Reply::Served(outcome) => served_said(outcome),
-        Reply::Fault { fault, index } => Said::Fault(fault_said(fault), *index),
+        Reply::Fault { fault, index } => Answer::Fault(fault_said(fault), *index),
     }
 }
 
 // How many events there are, and the verdict on them.
-fn standing(core: &Core) -> (u32, Said) {
+fn standing(core: &Core) -> (u32, Answer) {
     (core.monitor().history().len(), verdict_said(core.verdict()))
 }
 
 /// The answer to the command.
-pub(crate) fn answer(core: &mut Core, command: Command) -> Said {
+pub(crate) fn answer_of(core: &mut Core, command: Command) -> Answer {
     let before = standing(core);
     match core.step(command) {
         Ok(reply) => reply_said(&reply),
-        Err(why) if standing(core) == before => Said::Refused(why.number()),
-        Err(why) => Said::RefusedAndChanged(why.number()),
+        Err(why) if standing(core) == before => Answer::Refused(why.number()),
+        Err(why) => Answer::RefusedAndChanged(why.number()),
     }
 }
 
 /// A command, and how it is to be answered.
-pub(crate) type Row = (Ask, Said);
+pub(crate) type Row = (Ask, Answer);
 
 /// The place of the first command that is answered otherwise, and what it is answered by.
-pub(crate) fn first_other(core: &mut Core, rows: &[Row]) -> Option<(usize, Said)> {
+pub(crate) fn first_other(core: &mut Core, rows: &[Row]) -> Option<(usize, Answer)> {
     for (place, (ask, want)) in rows.iter().enumerate() {
-        let said = answer(core, command_of(*ask));
+        let said = answer_of(core, command_of(*ask));
         if said != *want {
             return Some((place, said));
         }

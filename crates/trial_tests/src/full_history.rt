@@ -1,5 +1,5 @@
 //! A history that is full.
-use crate::answers::{Row, Said, Struck, first_other};
+use crate::answers::{Answer, Row, Struck, first_other};
 use crate::setups::Ask::{Draw, Finish, Heal, Nemesis, Rewind, Serve};
 use crate::setups::{Plain, faulty, heal};
 use edn::Refusal;
@@ -10,20 +10,20 @@ use test_store::Mode;
 // The most events.
 const MOST: u32 = 1_048_576;
 
-const SERVED: [Row; 2] = [(Draw(0), Said::Drawn(0, 0)), (Serve(0), Said::Done)];
+const SERVED: [Row; 2] = [(Draw(0), Answer::Drawn(0, 0)), (Serve(0), Answer::Done)];
 
 const FULL: [Row; 11] = [
-    (Heal, Said::Refused(7)),
-    (Draw(1), Said::Refused(7)),
-    (Draw(0), Said::Refused(1)),
-    (Finish(0), Said::Refused(7)),
-    (Nemesis, Said::Refused(7)),
-    (Rewind(MOST - 1), Said::Legal),
-    (Nemesis, Said::Fault(Struck::Heal, MOST - 1)),
-    (Nemesis, Said::Refused(14)),
-    (Rewind(MOST - 1), Said::Legal),
-    (Finish(0), Said::Legal),
-    (Finish(0), Said::Refused(7)),
+    (Heal, Answer::Refused(7)),
+    (Draw(1), Answer::Refused(7)),
+    (Draw(0), Answer::Refused(1)),
+    (Finish(0), Answer::Refused(7)),
+    (Nemesis, Answer::Refused(7)),
+    (Rewind(MOST - 1), Answer::Legal),
+    (Nemesis, Answer::Fault(Struck::Heal, MOST - 1)),
+    (Nemesis, Answer::Refused(14)),
+    (Rewind(MOST - 1), Answer::Legal),
+    (Finish(0), Answer::Legal),
+    (Finish(0), Answer::Refused(7)),
 ];
 
 // Fills the history with heals. Whether each was taken.

@@ -1,5 +1,5 @@
 //! The two halves of the commands of a trial.
-use crate::answers::{Row, Said, Struck, reply_said};
+use crate::answers::{Answer, Row, Struck, reply_said};
 use crate::setups::Ask::{Draw, Finish, Nemesis, Serve};
 use crate::setups::{Ask, Plain, command_of, faulty};
 use edn::Refusal;
@@ -8,7 +8,7 @@ use std::alloc::Global;
 use test_store::Mode;
 
 // Whether the command is prepared twice, each time with this reply, and then is committed.
-fn prepared_twice(core: &mut Core, ask: Ask, want: Said) -> bool {
+fn prepared_twice(core: &mut Core, ask: Ask, want: Answer) -> bool {
     let Ok((early, _)) = core.prepare(command_of(ask)) else {
         return false;
     };
@@ -20,12 +20,12 @@ fn prepared_twice(core: &mut Core, ask: Ask, want: Said) -> bool {
 }
 
 const ROWS: [Row; 6] = [
-    (Nemesis, Said::Fault(Struck::LoseReplies, 0)),
-    (Draw(0), Said::Drawn(0, 1)),
-    (Serve(0), Said::Lost),
-    (Finish(0), Said::Legal),
-    (Draw(1), Said::Drawn(1, 3)),
-    (Serve(1), Said::Done),
+    (Nemesis, Answer::Fault(Struck::LoseReplies, 0)),
+    (Draw(0), Answer::Drawn(0, 1)),
+    (Serve(0), Answer::Lost),
+    (Finish(0), Answer::Legal),
+    (Draw(1), Answer::Drawn(1, 3)),
+    (Serve(1), Answer::Done),
 ];
 
 // The place of the first command that is not.

@@ -1,5 +1,5 @@
 //! Commands that are refused. Each leaves history and verdict as they were, and the commands after it are answered as without it.
-use crate::answers::{Row, Said};
+use crate::answers::{Answer, Row};
 use crate::setups::Ask::{
     Budget, Draw, Event, Finish, Nemesis, Numbered, Ok as OkOf, Rewind, Serve, Verdict,
 };
@@ -11,62 +11,65 @@ use events::{EventKind, Process};
 use test_store::Mode;
 
 const DRAWS: [Row; 6] = [
-    (Draw(2), Said::Refused(2)),
-    (Draw(0), Said::Drawn(0, 0)),
-    (Draw(0), Said::Refused(1)),
-    (Draw(1), Said::Drawn(1, 1)),
-    (Serve(0), Said::Done),
-    (Serve(1), Said::Found(Some(5))),
+    (Draw(2), Answer::Refused(2)),
+    (Draw(0), Answer::Drawn(0, 0)),
+    (Draw(0), Answer::Refused(1)),
+    (Draw(1), Answer::Drawn(1, 1)),
+    (Serve(0), Answer::Done),
+    (Serve(1), Answer::Found(Some(5))),
 ];
 
 const FINISH_AFTER_OK: [Row; 7] = [
-    (Draw(0), Said::Drawn(0, 0)),
-    (Serve(0), Said::Done),
-    (Event(0, Done), Said::Legal),
-    (Finish(0), Said::Refused(3)),
-    (Rewind(1), Said::Legal),
-    (Finish(0), Said::Legal),
-    (Finish(0), Said::Refused(3)),
+    (Draw(0), Answer::Drawn(0, 0)),
+    (Serve(0), Answer::Done),
+    (Event(0, Done), Answer::Legal),
+    (Finish(0), Answer::Refused(3)),
+    (Rewind(1), Answer::Legal),
+    (Finish(0), Answer::Legal),
+    (Finish(0), Answer::Refused(3)),
 ];
 
 const FINISHED: [(EventKind, Process); 2] = [(Invoke, Client(0)), (Done, Client(0))];
 
 const SERVE_AFTER_FAIL: [Row; 6] = [
-    (Draw(0), Said::Drawn(0, 0)),
-    (Event(0, Failed), Said::Legal),
-    (Serve(0), Said::Refused(3)),
-    (Finish(0), Said::Refused(15)),
-    (Rewind(1), Said::Legal),
-    (Serve(0), Said::Done),
+    (Draw(0), Answer::Drawn(0, 0)),
+    (Event(0, Failed), Answer::Legal),
+    (Serve(0), Answer::Refused(3)),
+    (Finish(0), Answer::Refused(15)),
+    (Rewind(1), Answer::Legal),
+    (Serve(0), Answer::Done),
 ];
 
 const LIMITS: [Row; 10] = [
-    (Rewind(1), Said::Refused(8)),
-    (Draw(0), Said::Drawn(0, 0)),
-    (Rewind(2), Said::Refused(8)),
-    (Serve(0), Said::Done),
-    (Finish(0), Said::Legal),
-    (Budget(1), Said::Unknown(7, 1)),
-    (Budget(0), Said::Refused(9)),
-    (Budget(65_537), Said::Refused(9)),
-    (Verdict, Said::Unknown(7, 1)),
-    (Budget(2), Said::Legal),
+    (Rewind(1), Answer::Refused(8)),
+    (Draw(0), Answer::Drawn(0, 0)),
+    (Rewind(2), Answer::Refused(8)),
+    (Serve(0), Answer::Done),
+    (Finish(0), Answer::Legal),
+    (Budget(1), Answer::Unknown(7, 1)),
+    (Budget(0), Answer::Refused(9)),
+    (Budget(65_537), Answer::Refused(9)),
+    (Verdict, Answer::Unknown(7, 1)),
+    (Budget(2), Answer::Legal),
 ];
 
-const IDLE: [Row; 2] = [(Nemesis, Said::Refused(14)), (Draw(0), Said::Drawn(0, 0))];
+const IDLE: [Row; 2] = [
+    (Nemesis, Answer::Refused(14)),
+    (Draw(0), Answer::Drawn(0, 0)),
+];
 
-const IDLE_AND_OVER: [Row; 2] = [(Nemesis, Said::Refused(14)), (Draw(0), Said::Over)];
+const IDLE_AND_OVER: [Row; 2] = [(Nemesis, Answer::Refused(14)), (Draw(0), Answer::Over)];
 
 const OTHERS: [Row; 9] = [
-    (Draw(0), Said::Drawn(0, 0)),
-    (Event(0, Invoke), Said::Refused(1)),
-    (Event(2, Invoke), Said::Refused(2)),
-    (Event(1, Done), Said::Refused(3)),
-    (OkOf(Some(6)), Said::Refused(4)),
-    (OkOf(None), Said::Refused(5)),
-    (Numbered(0), Said::Refused(6)),
-    (Event(0, Info), Said::Legal),
-    (Event(2, Invoke), Said::Legal),
+    (Draw(0), Answer::Drawn(0, 0)),
+    (Event(0, Invoke), Answer::Refused(1)),
+    (Event(2, Invoke), Answer::Refused(2)),
+    (Event(1, Done), Answer::Refused(3)),
+    (OkOf(Some(6)), Answer::Refused(4)),
+    (OkOf(None), Answer::Refused(5)),
+    (Numbered(0), Answer::Refused(6)),
+    (Event(0, Info), Answer::Legal),
+    (Event(2, Invoke), Answer::Legal),
 ];
 
 const TRIALS: [Trial; 7] = [

@@ -1,6 +1,6 @@
 //! Trials under faults, with every choice taken from the random words of a seed. A second program in another language worked out the
 //! results. It draws, serves and judges by the definitions and shares nothing with this one.
-use crate::answers::{Said, verdict_said};
+use crate::answers::{Answer, verdict_said};
 use crate::setups::{Plain, config, fault_of, no_fault};
 use edn::Refusal;
 use events::{EventKind, Process};
@@ -204,7 +204,7 @@ fn strict_trials(alloc: Global) -> Result<bool, Refusal> {
 fn sloppy_trials(alloc: Global) -> Result<bool, Refusal> {
     for (seed, (key, index)) in SLOPPY.iter().enumerate() {
         let ended = trial(alloc, Mode::Sloppy, seed as u64)?;
-        if verdict_said(ended.first) != Said::Illegal(*key, *index) {
+        if verdict_said(ended.first) != Answer::Illegal(*key, *index) {
             return Ok(false);
         }
     }

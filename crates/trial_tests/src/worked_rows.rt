@@ -1,5 +1,5 @@
 //! Trials worked out by hand: two threads, three replicas, key 7.
-use crate::answers::{Row, Said, Struck};
+use crate::answers::{Answer, Row, Struck};
 use crate::setups::Ask::{Draw, Finish, Nemesis, Rewind, Serve};
 use crate::setups::Plain;
 use crate::trials::{Stage, Trial, goes};
@@ -9,14 +9,14 @@ use events::{EventKind, Process};
 use test_store::Mode;
 
 const MINORITY: [Row; 8] = [
-    (Nemesis, Said::Fault(Struck::Partition, 0)),
-    (Draw(0), Said::Drawn(0, 1)),
-    (Serve(0), Said::NotDone),
-    (Finish(0), Said::Legal),
-    (Draw(1), Said::Drawn(1, 3)),
-    (Serve(1), Said::Done),
-    (Finish(1), Said::Legal),
-    (Nemesis, Said::Refused(14)),
+    (Nemesis, Answer::Fault(Struck::Partition, 0)),
+    (Draw(0), Answer::Drawn(0, 1)),
+    (Serve(0), Answer::NotDone),
+    (Finish(0), Answer::Legal),
+    (Draw(1), Answer::Drawn(1, 3)),
+    (Serve(1), Answer::Done),
+    (Finish(1), Answer::Legal),
+    (Nemesis, Answer::Refused(14)),
 ];
 
 const MINORITY_EVENTS: [(EventKind, Process); 5] = [
@@ -28,40 +28,40 @@ const MINORITY_EVENTS: [(EventKind, Process); 5] = [
 ];
 
 const HEAL: [Row; 10] = [
-    (Draw(0), Said::Drawn(0, 0)),
-    (Serve(0), Said::Done),
-    (Finish(0), Said::Legal),
-    (Nemesis, Said::Fault(Struck::Heal, 2)),
-    (Draw(0), Said::Drawn(1, 3)),
-    (Serve(1), Said::Done),
-    (Finish(1), Said::Legal),
-    (Draw(1), Said::Drawn(2, 5)),
-    (Serve(2), Said::Found(Some(5))),
-    (Finish(2), Said::Illegal(7, 6)),
+    (Draw(0), Answer::Drawn(0, 0)),
+    (Serve(0), Answer::Done),
+    (Finish(0), Answer::Legal),
+    (Nemesis, Answer::Fault(Struck::Heal, 2)),
+    (Draw(0), Answer::Drawn(1, 3)),
+    (Serve(1), Answer::Done),
+    (Finish(1), Answer::Legal),
+    (Draw(1), Answer::Drawn(2, 5)),
+    (Serve(2), Answer::Found(Some(5))),
+    (Finish(2), Answer::Illegal(7, 6)),
 ];
 
 const STALE: [Row; 11] = [
-    (Draw(0), Said::Drawn(0, 0)),
-    (Finish(0), Said::Refused(15)),
-    (Serve(0), Said::Done),
-    (Serve(0), Said::Refused(16)),
-    (Rewind(0), Said::Legal),
-    (Finish(0), Said::Refused(17)),
-    (Draw(0), Said::Drawn(1, 0)),
-    (Serve(0), Said::Refused(17)),
-    (Serve(1), Said::Done),
-    (Serve(2), Said::Refused(17)),
-    (Finish(1), Said::Legal),
+    (Draw(0), Answer::Drawn(0, 0)),
+    (Finish(0), Answer::Refused(15)),
+    (Serve(0), Answer::Done),
+    (Serve(0), Answer::Refused(16)),
+    (Rewind(0), Answer::Legal),
+    (Finish(0), Answer::Refused(17)),
+    (Draw(0), Answer::Drawn(1, 0)),
+    (Serve(0), Answer::Refused(17)),
+    (Serve(1), Answer::Done),
+    (Serve(2), Answer::Refused(17)),
+    (Finish(1), Answer::Legal),
 ];
 
 const STALE_EVENTS: [(EventKind, Process); 2] = [(Invoke, Client(0)), (Done, Client(0))];
 
 const LOST: [Row; 5] = [
-    (Nemesis, Said::Fault(Struck::LoseReplies, 0)),
-    (Draw(0), Said::Drawn(0, 1)),
-    (Serve(0), Said::Lost),
-    (Finish(0), Said::Legal),
-    (Draw(0), Said::Drawn(1, 3)),
+    (Nemesis, Answer::Fault(Struck::LoseReplies, 0)),
+    (Draw(0), Answer::Drawn(0, 1)),
+    (Serve(0), Answer::Lost),
+    (Finish(0), Answer::Legal),
+    (Draw(0), Answer::Drawn(1, 3)),
 ];
 
 const LOST_EVENTS: [(EventKind, Process); 4] = [
@@ -78,10 +78,10 @@ const LOST_AGAIN_EVENTS: [(EventKind, Process); 3] = [
 ];
 
 const LOST_AGAIN: [Row; 4] = [
-    (Rewind(2), Said::Legal),
-    (Draw(0), Said::Refused(1)),
-    (Finish(1), Said::Refused(17)),
-    (Finish(0), Said::Legal),
+    (Rewind(2), Answer::Legal),
+    (Draw(0), Answer::Refused(1)),
+    (Finish(1), Answer::Refused(17)),
+    (Finish(0), Answer::Legal),
 ];
 
 const TRIALS: [Trial; 4] = [

@@ -11,13 +11,13 @@ use std::alloc::{AllocError, Global};
 use std::hash::{Hash, Hasher};
 use std::marker::Model;
 
-// The ratio of the weight of a place to that of the one behind it, up to a multiple of 2^128, and the number that takes that off again.
+// The ratio of the weight of a place to the weight of the place behind it, and its inverse, both modulo 2^128.
 const RATIO: u128 = 47026247687942121848144207491837523525;
 
 const BACK: u128 = 10455382779074951524300553632856583309;
 
-/// Integers, the front first. Two queues share their common parts. Beside them stands their sum, each by the weight of its place, so that
-/// their hash takes constant time, and what the place before them would weigh.
+/// Integers, the front first. Two queues share their common parts. The sum of the items, each weighed by its place, is kept too, so that
+/// the hash takes constant time; and the weight of the place before the front.
 pub struct Items {
     alloc: Global,
     items: Row<i64>,
@@ -49,7 +49,7 @@ impl Drop for Items {
     }
 }
 
-// The sum of the items with one more behind them, by theirs.
+// The sum of the items with one more behind them, from the sum of the items.
 fn sum_with(sum: u128, value: i64) -> u128
     ensures { (values : List ℤ) → sum ≡ rolled values → result ≡ rolled (values ++ value ∷ []) }
 {
@@ -70,7 +70,7 @@ fn weight_without(weight: u128) -> u128
     weight.wrapping_mul(BACK)
 }
 
-// The sum of the items without the front one, from theirs and the weight of its place.
+// The sum of the items without the front one, from the sum of all and the weight of the front's place.
 fn sum_without_front(sum: u128, weight: u128, front: i64) -> u128
     ensures { (values : List ℤ) → sum ≡ rolled (front ∷ values) → weight ≡ power (length values)
         → result ≡ rolled values }
@@ -91,7 +91,7 @@ impl Items {
         }
     }
 
-    /// How many there are. Takes constant time.
+    /// The number of items. Takes constant time.
     pub fn len(&self) -> usize
         ensures { result ≡ length self.now }
     {
@@ -106,8 +106,8 @@ impl Items {
         self.items.first()
     }
 
-    /// The same items, all of them shared if they are many. Takes the time and the memory of a copy of a row; `AllocError` too
-    /// if they are shared as often as they can be.
+    /// A queue of the same items. Costs time and memory in O(items) up to 128 items, and else constant time and no memory. `AllocError` if
+    /// there is no memory, or if as many queues share the items as can be counted.
     pub fn copy(&self) -> Result<Items, AllocError>
         ensures { IfOk result (λ other. other ≡ self.now) }
     {
@@ -119,7 +119,7 @@ impl Items {
         })
     }
 
-    /// These items with one more behind them. Takes time and memory that grow with the logarithm of how many there are.
+    /// The items with one more behind them. Costs time and memory in O(items) up to 128 items, and else in O(log n).
     pub fn with(&self, value: i64) -> Result<Items, AllocError>
         ensures { IfOk result (λ more. more ≡ self.now ++ value ∷ []) }
     {
@@ -132,7 +132,7 @@ impl Items {
         })
     }
 
-    /// These items without the front one. Takes time and memory as above.
+    /// The items without the front one. Costs time and memory in O(items) up to 128 items, and else in O(log n).
     pub fn without_front(&self) -> Result<Items, AllocError>
         requires { 0 < length self.now }
         ensures { IfOk result (λ rest. rest ≡ drop 1 self.now) }

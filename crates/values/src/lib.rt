@@ -1,9 +1,9 @@
-//! Integers as the states of objects hold them: the members of a set, in a list or as spans; the items of a queue; the values of a
-//! queue without an order. A copy copies up to 128 values, and of more it shares them.
+//! Integers as states of objects: the members of a set, in a list or as spans; the items of a queue; the values of a queue without an
+//! order. A copy of up to 128 values copies them, and a copy of more shares them.
 //!
-//! With the values their sum is kept, which is the hashed number. Each value is mixed to 128 bits and added, and the items of a queue are
-//! weighed by the powers of a fixed odd number, by their places. So one value more or less changes the sum in a few steps. Values whose
-//! sums differ are different; if the sums are equal the values are compared one by one, so that nothing rests on the mixing.
+//! The sum of the values is kept with them, and is the hashed number. Each value is mixed to 128 bits and added. The items of a queue are
+//! weighed by powers of a fixed odd number, by their places. So one value more or less changes the sum in a few steps. Values whose sums
+//! differ are different. If the sums are equal the values are compared one by one, so no answer depends on the mixing.
 //!
 //! A call takes memory only if its result can be `AllocError`.
 #![tactic(auto)]

@@ -15,8 +15,8 @@ use std::hash::{Hash, Hasher};
 use std::marker::Model;
 use std::sync::Arc;
 
-/// A set of integers, ascending, as a read finds it and an answer has it; the state of a set is [`Spans`](crate::Spans). A copy
-/// shares the members, which are never changed where they lie.
+/// A set of integers, ascending, as the result of a read and as an answer. The state of a set is [`Spans`](crate::Spans). A copy shares
+/// the members, which never change.
 pub struct Members {
     alloc: Global,
     listed: Option<Arc<Listed>>,
@@ -65,9 +65,9 @@ impl Listed {
     }
 }
 
-// The summand of a value in the sum of its set, its multiset or its queue. It is a number that is spread over 128 bits, so that few lists
-// have the same sum, also if somebody has chosen the values for that. Its lower half is the value itself, mixed by steps that can be
-// undone. So different values have different lower halves, and at each place of a queue their weighed summands differ too.
+// The summand of a value in the sum of its set, its multiset or its queue. It is spread over 128 bits, so that few lists have the same
+// sum, also if somebody has chosen the values for that. Its lower half is the value itself, mixed by steps that can be undone. So
+// different values have different lower halves, and at each place of a queue the weighed summands of different values differ too.
 pub(crate) fn mixed(value: i64) -> u128
     ensures { result ≡ mixed value }
 {
@@ -115,8 +115,7 @@ impl Members {
         })
     }
 
-    /// The set of these values, which the caller has put in ascending order, none twice; `AllocError` if there is no memory to share them.
-    /// Costs O(values).
+    /// The set of values that ascend, none twice; `AllocError` if there is no memory to share them. Costs O(values).
     pub fn of_ascending(values: Vec<i64>) -> Result<Members, AllocError>
         requires { IsAscending values.items }
         ensures { IfOk result (λ set. set ≡ values.items) }
@@ -124,8 +123,7 @@ impl Members {
         Members::sharing(*values.allocator(), Listed::of(values))
     }
 
-    /// The same, if the caller knows the sum of the values, so that they are not gone through for it: it takes constant
-    /// time.
+    /// The same, if the caller knows the sum of the values. Takes constant time.
     pub(crate) fn of_listed(values: Vec<i64>, sum: u128) -> Result<Members, AllocError>
         requires { IsListed values.items sum }
         ensures { IfOk result (λ set. set ≡ values.items) }
@@ -133,8 +131,8 @@ impl Members {
         Members::sharing(*values.allocator(), Listed { items: values, sum })
     }
 
-    /// The set of these values, in whatever order and however often they stand there; `AllocError` if there is no memory to share them.
-    /// Costs a sort: O(n log n).
+    /// The set of values in any order, with or without repetitions; `AllocError` if there is no memory to share them. Costs a sort:
+    /// O(n log n).
     pub fn of_unordered(values: Vec<i64>) -> Result<Members, AllocError>
         ensures members { IfOk result (λ set. (v : ℤ) → Contains set v ↔ Contains values.items v) }
         ensures ascending { IfOk result IsAscending }

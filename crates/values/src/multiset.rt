@@ -11,8 +11,8 @@ use std::alloc::{AllocError, Global};
 use std::hash::{Hash, Hasher};
 use std::marker::Model;
 
-/// A multiset of integers: its values ascending, each as often as it is in. Two multisets share their common parts, if one was made from
-/// the other. With them the sum of the values' summands is kept, so that its hash takes constant time.
+/// A multiset of integers: its values ascending, each as often as it is in. Two multisets share their common parts if one was made from
+/// the other. The sum of the values is kept too, so that the hash takes constant time.
 pub struct Multiset {
     alloc: Global,
     values: Row<i64>,
@@ -54,7 +54,7 @@ impl Multiset {
         }
     }
 
-    /// How many values there are, each as often as it is in; and they ascend. Takes constant time.
+    /// The number of values, each counted as often as it is in. Takes constant time.
     pub fn len(&self) -> usize
         ensures is { result ≡ length self.now }
         ensures never_falls { NeverFalls self.now }
@@ -62,7 +62,7 @@ impl Multiset {
         self.values.len()
     }
 
-    /// The value at this place, in ascending order. Takes the logarithm of how many there are.
+    /// The value at place `at`, in ascending order. Costs O(log n).
     pub fn get(&self, at: usize) -> i64
         requires { at < length self.now }
         ensures value { result ≡ get_or self.now at (pos 0) }
@@ -71,7 +71,7 @@ impl Multiset {
         self.values.get(at)
     }
 
-    /// The place behind the last value that equals the one at this place. Takes the logarithm of how many there are.
+    /// The place behind the last value that equals the one at place `at`. Costs O(log n).
     pub fn past(&self, at: usize) -> usize
         requires { at < length self.now }
         ensures later { at < result }
@@ -104,8 +104,8 @@ impl Multiset {
         self.values.place_of(value + 1)
     }
 
-    /// The same multiset, all of it shared if it is large. Takes the time and the memory of a copy of a row; `AllocError` too
-    /// if it is shared as often as it can be.
+    /// An equal multiset. Costs time and memory in O(values) up to 128 values, and else constant time and no memory. `AllocError` if there is
+    /// no memory, or if as many multisets share the values as can be counted.
     pub fn copy(&self) -> Result<Multiset, AllocError>
         ensures { IfOk result (λ other. other ≡ self.now) }
     {
@@ -116,7 +116,7 @@ impl Multiset {
         })
     }
 
-    /// The multiset with one more of the value. Takes time and memory that grow with the logarithm of how many values there are.
+    /// The multiset with one more of the value. Costs time and memory in O(values) up to 128 values, and else in O(log n).
     pub fn with(&self, value: i64) -> Result<Multiset, AllocError>
         ensures { IfOk result (λ more. more ≡ with_one value self.now) }
     {
@@ -129,7 +129,7 @@ impl Multiset {
         })
     }
 
-    /// The multiset without the value at this place. Takes time and memory as above.
+    /// The multiset without the value at place `at`. Costs time and memory in O(values) up to 128 values, and else in O(log n).
     pub fn without(&self, at: usize) -> Result<Multiset, AllocError>
         requires { at < length self.now }
         ensures { IfOk result (λ rest. rest ≡ remove self.now at) }

@@ -1,4 +1,4 @@
-//! Spans of consecutive integers in a row, which shares what it has in common with others.
+//! Spans of consecutive integers in a row that shares its parts with other rows.
 ghost use Rattle.std.specs.Prelude.{◌≡◌, ◌↔◌, ◌+◌, ◌≤◌, ◌<◌, ◌<ℤ◌, ◌≤ℤ◌, IsTrue, IfOk, [], ◌∷◌, ◌++◌, drop, get_or, length, take};
 ghost use Rattle.std.specs.List.{Contains};
 ghost use Rattle.values.specs.declared.span_row.Span.{Span};
@@ -28,7 +28,7 @@ impl Placed for Span {
     }
 }
 
-/// Spans, one behind the other, in a row that shares with other rows what they have in common.
+/// Spans, one behind the other, in a row that shares its parts with other rows.
 #[derive(Drop)]
 pub struct SpanRow {
     spans: Row<Span>,
@@ -51,14 +51,14 @@ impl SpanRow {
         SpanRow { spans: Row::new() }
     }
 
-    /// How many there are. Takes constant time.
+    /// The number of spans. Takes constant time.
     pub fn len(&self) -> usize
         ensures { result ≡ length self.now }
     {
         self.spans.len()
     }
 
-    /// The first integer of the span at this place. Takes the logarithm of how many there are.
+    /// The first integer of the span at place `at`. Costs O(log n).
     pub fn first_at(&self, at: usize) -> i64
         requires { at < length self.now }
         ensures { (d : Span) → result ≡ (get_or self.now at d).from }
@@ -66,7 +66,7 @@ impl SpanRow {
         self.spans.get(at).from
     }
 
-    /// The last integer of the span at this place. Takes time as above.
+    /// The last integer of the span at place `at`. Costs O(log n).
     pub fn last_at(&self, at: usize) -> i64
         requires { at < length self.now }
         ensures { (d : Span) → result ≡ (get_or self.now at d).to }
@@ -74,7 +74,7 @@ impl SpanRow {
         self.spans.get(at).to
     }
 
-    /// The spans from this place on, as far as they lie in one piece of memory. Takes time as above.
+    /// The spans from place `at` on that are stored in one piece of memory. Costs O(log n).
     pub fn part_at(&self, at: usize) -> &[Span]
         requires { at < length self.now }
         ensures some { 0 < length result.now }
@@ -84,7 +84,7 @@ impl SpanRow {
         self.spans.part_at(at)
     }
 
-    /// How many of the spans end before the value. Takes time as above.
+    /// The number of spans that end before the value. Costs O(log n).
     pub fn place_of(&self, value: i64) -> usize
         requires { StandApart self.now }
         ensures within { result ≤ length self.now }
@@ -94,8 +94,8 @@ impl SpanRow {
         self.spans.place_of(value)
     }
 
-    /// The same spans, all of them shared if they are many. Takes the time and the memory of a copy of a row; `AllocError` too
-    /// if they are shared as often as they can be.
+    /// A row of the same spans. Costs time and memory in O(spans) up to 128 spans, and else constant time and no memory. `AllocError` if there
+    /// is no memory, or if as many rows share the spans as can be counted.
     pub fn copy(&self) -> Result<SpanRow, AllocError>
         ensures { IfOk result (λ row. row ≡ self.now) }
     {
@@ -103,8 +103,7 @@ impl SpanRow {
         Ok(SpanRow { spans })
     }
 
-    /// The spans with this one in place of those from one place up to another, which are two at most. Takes time and memory that
-    /// grow with the logarithm of how many there are.
+    /// Replaces the spans in from..to (at most two) by one. Costs time and memory in O(spans) up to 128 spans, and else in O(log n).
     pub fn spliced(
         &self,
         alloc: Global,

@@ -15,8 +15,8 @@ use std::alloc::{AllocError, Global};
 use std::hash::{Hash, Hasher};
 use std::marker::Model;
 
-/// A set of integers, by its spans: as many consecutive members as there are, in ascending order. So each set has one such row, and
-/// comparing two costs O(spans), and not O(members). Two sets share their common parts, if one was made from the other.
+/// A set of integers, by its spans in ascending order. A span has as many consecutive members as there are, so each set has one row of
+/// spans, and comparing two sets costs O(spans), not O(members). Two sets share their common parts if one was made from the other.
 pub struct Spans {
     alloc: Global,
     spans: SpanRow,
@@ -56,8 +56,8 @@ fn starts_by(spans: &SpanRow, at: usize, value: i64) -> bool
     at < spans.len() && spans.first_at(at) <= value
 }
 
-// Where the span of a value begins that is put in behind the first `at` spans, which end before it: how many spans stay
-// before it, and its first integer. The last of them is joined with it, unless an integer is missing between.
+// The begin of the span that gets a value, which is put in behind the first `at` spans: the number of spans that stay before it, and its
+// first integer. The last of the `at` spans is joined with it, unless an integer is missing between both.
 fn start_of(spans: &SpanRow, at: usize, value: i64) -> (usize, i64)
     requires apart { StandApart (take at spans.now) }
     requires place { at ≤ length spans.now }
@@ -78,8 +78,8 @@ fn start_of(spans: &SpanRow, at: usize, value: i64) -> (usize, i64)
     (at, value)
 }
 
-// The end of the span of a value that is put in before the span at this place, which starts behind it. It is the place from which on the
-// spans stay behind it, and its last integer. The first of them is joined with it, unless an integer is missing between.
+// The end of the span that gets a value, which is put in before the span at place `at`. Returns the place of the first span that stays behind
+// it, and its last integer. The span at place `at` is joined with it, unless an integer is missing between both.
 fn end_of(spans: &SpanRow, at: usize, value: i64) -> (usize, i64)
     requires apart { StandApart (drop at spans.now) }
     requires place { at ≤ length spans.now }
@@ -101,7 +101,7 @@ fn end_of(spans: &SpanRow, at: usize, value: i64) -> (usize, i64)
     (at, value)
 }
 
-// How many integers these spans have, or the greatest number if they are more.
+// The number of integers in these spans, or `usize::MAX` if there are more.
 fn room_of(spans: &[Span]) -> usize
     requires { StandApart spans.now }
     ensures { result ≡ min (length (integers_in spans.now)) usize.MAX }
@@ -115,7 +115,7 @@ fn room_of(spans: &[Span]) -> usize
     room
 }
 
-// How many integers the spans have, or the greatest number if they are more.
+// The number of integers in the whole row of spans, or `usize::MAX` if there are more.
 fn room_for(spans: &SpanRow) -> usize
     requires { StandApart spans.now }
     ensures { result ≡ min (length (integers_in spans.now)) usize.MAX }
@@ -169,8 +169,8 @@ impl Spans {
         }
     }
 
-    /// The same set, all of it shared if it is large. Takes the time and the memory of a copy of a row; `AllocError` too if
-    /// it is shared as often as it can be.
+    /// An equal set. Costs time and memory in O(spans) up to 128 spans, and else constant time and no memory. `AllocError` if there is no
+    /// memory, or if as many sets share the spans as can be counted.
     pub fn copy(&self) -> Result<Spans, AllocError>
         ensures { IfOk result (λ other. other ≡ self.now) }
     {
@@ -181,8 +181,8 @@ impl Spans {
         })
     }
 
-    /// The set with the value put in. Takes time and memory that grow with the logarithm of how many spans there are, and no memory
-    /// if the value is in already.
+    /// The set with the value put in. Costs time and memory in O(spans) up to 128 spans, and else in O(log n). It takes no memory if the
+    /// value is in already and there are more than 128 spans.
     pub fn with(&self, value: i64) -> Result<Spans, AllocError>
         ensures { IfOk result (λ more. more ≡ put_in value self.now) }
     {

@@ -1,4 +1,4 @@
--- A judged register may go to another thread, and threads may share one.
+-- A judged register can be sent to another thread, and threads can share one.
 use denote.Param.Send.{IsSend, IsSync, sendable}
 use Rattle.std.proofs.Crossing.{crosses}
 use Rattle.wide_cas_register.specs.contracts.row.Row as row

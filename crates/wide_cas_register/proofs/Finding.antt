@@ -3,7 +3,6 @@ use Rattle.std.proofs.Common.{◌≡◌, ◌↔◌, ℕ, ◌+◌, ◌<◌, ◌�
 use Rattle.std.specs.List.{Contains}
 use Rattle.std.proofs.lemmas.List.{take_all, take_more}
 use Rattle.std.proofs.lemmas.List.Elements.{Contains-append_left, Contains-push, Contains-push_cases}
-use Rattle.linspec.proofs.Lists.{Contains-nil}
 use Rattle.wide_cas_register.specs.declared.calls.Call.{Call}
 use Rattle.wide_cas_register.specs.declared.calls.What.TheVariants.{Reads}
 use Rattle.wide_cas_register.specs.declared.row.Found.{Found}
@@ -12,9 +11,6 @@ use Rattle.wide_cas_register.specs.Facts.{IsFoundBy}
 module _ (calls : List Call) (gap : ℕ) (v : ℤ) (first : List Found) where
   abbrev pub HasSoFar : List Found → ℕ → Type 0
   HasSoFar found i = (f : Found) → Contains found f ↔ (Contains first f ⊎ IsFoundBy (take i calls) gap v f)
-
-  pub none_so_far : HasSoFar first 0
-  none_so_far f = ((λ h. inl h), (λ h. ⊎_elim (λ k. k) (λ k. absurd (Contains-nil k.1.0 k.1.1)) h))
 
   pub all_so_far : (found : List Found) (i : ℕ) → length calls ≤ i → HasSoFar found i → (f : Found) → Contains found f ↔ (Contains first f ⊎ IsFoundBy calls gap v f)
   all_so_far found i h s = subst (λ l. (f : Found) → Contains found f ↔ (Contains first f ⊎ IsFoundBy l gap v f)) (take_all i calls h) s

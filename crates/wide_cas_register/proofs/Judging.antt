@@ -166,13 +166,6 @@ costs_over Invoke w id op tried after r c = absurd r
 costs_over Fail w id op tried after r c = absurd r
 costs_over Info w id op tried after r c = absurd r
 
--- no steps cost nothing
-pub no_cost : (kind : EventKind) (w : WideCasRegister) (id : ℕ) (op : Op) → Costs (view_of w) (stepped w w.applied) (mark_of id kind op)
-no_cost Ok w id op = (omega arith, λ marks f n p. omega arith)
-no_cost Invoke w id op = refl
-no_cost Fail w id op = refl
-no_cost Info w id op = refl
-
 pub cost_then : (old mid new : FrontierView) → new.applied ≡ mid.applied → (m : Mark) → Costs old mid m → Costs old new m
 cost_then old mid new e (Returned id answer) h = subst (StepsOfOk old.budget old.stands old.applied) (sym e) h
 cost_then old mid new e (Invoked id op) h = e ∙ h

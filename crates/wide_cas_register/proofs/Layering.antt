@@ -130,14 +130,6 @@ module _ (calls : List Call) where
 
   -- a layer of fronts is tried
   module _ (now : ℕ) (there : List Front) where
-    pub none_layered : (xs layer : List Front) → layer ≡ [] → IsLayerBy calls now there (take 0 xs) layer
-    none_layered xs layer e = subst (IsLayerBy calls now there []) (sym e) (record {
-      each = λ f h. absurd (Contains-nil f h);
-      new = λ f h. absurd (Contains-nil f h);
-      all = λ x c h. absurd (Contains-nil x h.0);
-      apart = tt;
-    })
-
     pub more_layered : (xs : List Front) (i : ℕ) (x : Front) → i < length xs → x ≡ get_or xs i x → (layer next : List Front) → IsLayerBy calls now there (take i xs) layer
         → AreStepped calls now there x calls layer next → IsLayerBy calls now there (take (i + 1) xs) next
     more_layered xs i x h is layer next l s =

@@ -1,4 +1,4 @@
--- the rows that a deed makes of a row, as they are put one after the other
+-- the rows that an effect makes of a row, as they are put one after the other
 use Rattle.std.proofs.Common.{◌≡◌, ℕ, ◌+◌, ◌<◌, ◌≤◌, ℤ, ⊎_elim, List, [], ◌∷◌, ◌++◌, length, take, get_or, sym, subst}
 use Rattle.std.specs.List.{Contains}
 use Rattle.std.proofs.lemmas.List.{take_all, take_more}
@@ -16,19 +16,13 @@ module _ (P : Row → Type 0) (made : List Row) (r : Row) (e : made ≡ r ∷ []
   pub has_alone : (new : Row) × P new × Contains made new
   has_alone = (r, is, subst (λ l. Contains l r) (sym e) (Contains-head r []))
 
--- a write takes place just before the last one, where the read finds it: so many of the operations were tried
+-- a write takes place just before the last one, where the read finds it, after n operations were tried
 module _ (calls : List Call) (row : Row) (read : Call) (v : ℤ) where
   abbrev pub EachTried : ℕ → List Row → Type 0
   EachTried i made = (new : Row) → Contains made new → IsFoundWith calls (take i calls) row read v new
 
   abbrev pub AllTried : ℕ → List Row → Type 0
   AllTried i made = AllFoundWith calls (take i calls) row read v made
-
-  pub none_each : (made : List Row) → made ≡ [] → EachTried 0 made
-  none_each made e new h = absurd (Contains-nil new (subst (λ l. Contains l new) e h))
-
-  pub none_all : (made : List Row) → AllTried 0 made
-  none_all made c h = absurd (Contains-nil c h)
 
   module _ (i : ℕ) (h : length calls ≤ i) (made : List Row) where
     pub whole_each : EachTried i made → (new : Row) → Contains made new → IsFoundWith calls calls row read v new

@@ -1,4 +1,4 @@
--- what the deed makes of a row is what the mark makes of its end: an invocation, a fail and a crash
+-- what the effect makes of a row is what the mark makes of its end: an invocation, a fail and a crash
 use Rattle.std.proofs.Common.{◌≡◌, ◌≢◌, ◌↔◌, ℕ, ◌≤◌, ◌⊎◌, inl, inr, ⊎_elim, Bool, false, IsTrue, nat_eq, map, None, List, length, refl, sym, ap, ◌∙◌, subst}
 use Rattle.std.specs.List.{Contains, filter, list_any}
 use Rattle.std.proofs.lemmas.Bool.{true≢false}
@@ -12,10 +12,10 @@ use Rattle.linspec.specs.CasEnds.{Becomes}
 use Rattle.cas_ends.proofs.Stands.{IsLeft}
 use Rattle.wide_cas_register.specs.declared.calls.Call.{Call}
 use Rattle.wide_cas_register.specs.declared.calls.What.TheVariants.{Reads}
-use Rattle.wide_cas_register.specs.declared.next.Deed.{Deed}
-use Rattle.wide_cas_register.specs.declared.next.Deed.TheVariants.{Fails}
+use Rattle.wide_cas_register.specs.declared.next.Effect.{Effect}
+use Rattle.wide_cas_register.specs.declared.next.Effect.TheVariants.{Fails}
 use Rattle.wide_cas_register.specs.declared.row.Row.{Row}
-use Rattle.wide_cas_register.specs.Facts.{AllOfRow, AreCalls, HasCall, IsBegun, IsDeed, IsSame, IsWithoutId, OfRow, calls_with, crashed, end_of, is_other, is_read, outlives, what_by}
+use Rattle.wide_cas_register.specs.Facts.{AllOfRow, AreCalls, HasCall, IsBegun, IsEffect, IsSame, IsWithoutId, OfRow, calls_with, crashed, end_of, is_other, is_read, outlives, what_by}
 use Rattle.wide_cas_register.proofs.Ends.{needed_from, needed_to, finds_from, finds_to, same_end, without_once, with_read_once}
 use Rattle.wide_cas_register.proofs.Moves.{same_call, without_is, is_read as read_is}
 use Rattle.wide_cas_register.proofs.Others.{filtered, without_read, door_alike, same_row, with_new, with_crash}
@@ -58,14 +58,14 @@ module _ (marks : List Mark) (well : AreWellFormed marks) (calls : List Call) (a
     kept : (new : Row) → IsSame row new → end_of more new ≡ e
     kept new s = same_row calls more row (with_new calls now id (what_by op.name op.part) row low) new s.state s.door s.needed s.finds
 
-    pub invoke_each : (deed : Deed) → IsDeed calls (Invoked id op) deed → (new : Row) → OfRow calls deed row new → Becomes marks e (Invoked id op) (end_of more new)
-    invoke_each deed d new n = ⊎_elim
+    pub invoke_each : (effect : Effect) → IsEffect calls (Invoked id op) effect → (new : Row) → OfRow calls effect row new → Becomes marks e (Invoked id op) (end_of more new)
+    invoke_each effect d new n = ⊎_elim
         (λ k. inl (reads_by op.name op.part k.0, begun new (subst (λ x. OfRow calls x row new) k.1 n)))
         (λ k. inr ((λ r. k.0 (by_reads op r)), kept new (subst (λ x. OfRow calls x row new) k.1 n)))
         d
 
-    pub invoke_all : (deed : Deed) → IsDeed calls (Invoked id op) deed → (P : Row → Type 0) → AllOfRow calls deed row P → (f : LeanEnd) → Becomes marks e (Invoked id op) f → Hits more f P
-    invoke_all deed d P n f b = ⊎_elim
+    pub invoke_all : (effect : Effect) → IsEffect calls (Invoked id op) effect → (P : Row → Type 0) → AllOfRow calls effect row P → (f : LeanEnd) → Becomes marks e (Invoked id op) f → Hits more f P
+    invoke_all effect d P n f b = ⊎_elim
         (λ k.
         let m : (new : Row) × IsBegun id row new × P new = subst (λ x. AllOfRow calls x row P) k.1 n in
         ⊎_elim
@@ -85,13 +85,13 @@ module _ (marks : List Mark) (well : AreWellFormed marks) (calls : List Call) (a
     abbrev others : List Call
     others = filter (is_other id) calls
 
-    pub fail_each : (deed : Deed) → deed ≡ Fails id → (new : Row) → OfRow calls deed row new → Becomes marks e (Failed id) (end_of others new)
-    fail_each deed d new n =
+    pub fail_each : (effect : Effect) → effect ≡ Fails id → (new : Row) → OfRow calls effect row new → Becomes marks e (Failed id) (end_of others new)
+    fail_each effect d new n =
         let k : (¬ Contains row.needed.items id) × IsWithoutId id row new = subst (λ x. OfRow calls x row new) d n in
         ((λ h. k.0 (needed_from calls row id h)), without_is id calls others (filtered id calls) row new k.1)
 
-    pub fail_all : (deed : Deed) → deed ≡ Fails id → (P : Row → Type 0) → AllOfRow calls deed row P → (f : LeanEnd) → Becomes marks e (Failed id) f → Hits others f P
-    fail_all deed d P n f b =
+    pub fail_all : (effect : Effect) → effect ≡ Fails id → (P : Row → Type 0) → AllOfRow calls effect row P → (f : LeanEnd) → Becomes marks e (Failed id) f → Hits others f P
+    fail_all effect d P n f b =
         let k : (¬ Contains row.needed.items id) → (new : Row) × IsWithoutId id row new × P new = subst (λ x. AllOfRow calls x row P) d n in
         let m = k (λ h. b.0 (needed_to calls row id h)) in
         (m.0, m.2, without_once e (end_of others m.0) f id (without_is id calls others (filtered id calls) row m.0 m.1) b.1)
@@ -121,8 +121,8 @@ module _ (marks : List Mark) (well : AreWellFormed marks) (calls : List Call) (a
         true≢false (ap is_read (sym r ∙ same) ∙ w.2))
         s
 
-    pub crash_each : (deed : Deed) → IsDeed calls (Crashed id) deed → (new : Row) → OfRow calls deed row new → Becomes marks e (Crashed id) (end_of left_ones new)
-    crash_each deed d new n = ⊎_elim
+    pub crash_each : (effect : Effect) → IsEffect calls (Crashed id) effect → (new : Row) → OfRow calls effect row new → Becomes marks e (Crashed id) (end_of left_ones new)
+    crash_each effect d new n = ⊎_elim
         (λ k. inl (is_a_read k.0 k.1, without_is id calls left_ones (without_read id calls (all_read k.0 k.1)) row new (subst (λ x. OfRow calls x row new) k.2 n)))
         (λ k. inr (
           (λ r. (let c = read_of r in not_read k.0 c.0 c.1.0 c.1.1 c.1.2)),
@@ -130,8 +130,8 @@ module _ (marks : List Mark) (well : AreWellFormed marks) (calls : List Call) (a
         ))
         d
 
-    pub crash_all : (deed : Deed) → IsDeed calls (Crashed id) deed → (P : Row → Type 0) → AllOfRow calls deed row P → (f : LeanEnd) → Becomes marks e (Crashed id) f → Hits left_ones f P
-    crash_all deed d P n f b = ⊎_elim
+    pub crash_all : (effect : Effect) → IsEffect calls (Crashed id) effect → (P : Row → Type 0) → AllOfRow calls effect row P → (f : LeanEnd) → Becomes marks e (Crashed id) f → Hits left_ones f P
+    crash_all effect d P n f b = ⊎_elim
         (λ k.
         let m : (new : Row) × IsWithoutId id row new × P new = subst (λ x. AllOfRow calls x row P) k.2 n in
         ⊎_elim

@@ -60,7 +60,7 @@ module _ (marks : List Mark) (well : AreWellFormed marks) (calls : List Call) (a
         let s = some_are fronts a.0 a.1 in
         (map (front_of calls) a.0, s.0, layer_is marks well calls are fronts a.0 [] s.1 s.2 a.2)
 
--- the doors of fronts are no later than now
+-- the doors of fronts are not later than now
 module _ (calls : List Call) (now : ℕ) where
   abbrev pub AllLow : List Front → Type 0
   AllLow fronts = (f : Front) → Contains fronts f → f.row.door ≤ now

@@ -1,4 +1,4 @@
--- what the deed of an ok makes of a row is what the ok makes of its end
+-- what the effect of an ok makes of a row is what the ok makes of its end
 use Rattle.std.proofs.Common.{◌≡◌, ◌≢◌, ℕ, ℤ, ◌⊎◌, inl, inr, ⊎_elim, Bool, false, IsTrue, Some, List, ◌∷◌, [], ◌++◌, length, map, refl, sym, ap, ◌∙◌, subst}
 use Rattle.std.specs.List.{Contains, filter}
 use Rattle.std.proofs.lemmas.Bool.{true≢false, cases_Bool}
@@ -18,11 +18,11 @@ use Rattle.cas_ends.proofs.Once.{cas_no_read, cas_no_write, same_pair}
 use Rattle.cas_ends.proofs.Stands.{IsLeft}
 use Rattle.wide_cas_register.specs.declared.calls.Call.{Call}
 use Rattle.wide_cas_register.specs.declared.calls.What.TheVariants.{Writes, Sets, Reads}
-use Rattle.wide_cas_register.specs.declared.next.Deed.{Deed}
-use Rattle.wide_cas_register.specs.declared.next.Deed.TheVariants.{EndsWrite, EndsCas, EndsRead, EndsNil}
+use Rattle.wide_cas_register.specs.declared.next.Effect.{Effect}
+use Rattle.wide_cas_register.specs.declared.next.Effect.TheVariants.{EndsWrite, EndsCas, EndsRead, EndsNil}
 use Rattle.wide_cas_register.specs.declared.row.Row.{Row}
 use Rattle.wide_cas_register.specs.declared.fronts.Front.{Front}
-use Rattle.wide_cas_register.specs.Facts.{AllOfFront, AllOfRow, AreCalls, CanStep, HasCall, HasDoor, IsDeed, IsDoneBy, IsPutBefore as IsBefore, IsStepBy, IsWithoutId, OfFront, OfRow, StepsTo, end_of, is_other}
+use Rattle.wide_cas_register.specs.Facts.{AllOfFront, AllOfRow, AreCalls, CanStep, HasCall, HasDoor, IsEffect, IsDoneBy, IsPutBefore as IsBefore, IsStepBy, IsWithoutId, OfFront, OfRow, StepsTo, end_of, is_other}
 use Rattle.wide_cas_register.proofs.Ends.{needed_from, needed_to, door_from, door_to, finds_from, finds_to, without_once, before_once}
 use Rattle.wide_cas_register.proofs.Fronting.{front_of, no_door}
 use Rattle.wide_cas_register.proofs.Moves.{same_call, without_is, is_behind, is_set_behind, is_before, is_read, is_write, is_cas}
@@ -132,9 +132,9 @@ module _ (marks : List Mark) (well : AreWellFormed marks) (calls : List Call) (a
     without_all : (P : Row → Type 0) (f : LeanEnd) → IsWithout e id f → (new : Row) × IsWithoutId id row new × P new → Reaches f P
     without_all P f w n = exactly f P n.0 n.2 (without_once e (end_of after n.0) f id (out_is row n.0 n.1) w)
 
-    -- what the deed makes of a row
-    pub row_each : (deed : Deed) → IsDeed calls m deed → (new : Row) → OfRow calls deed row new → Becomes marks e m (end_of after new)
-    row_each deed d new n = ⊎_elim
+    -- what the effect makes of a row
+    pub row_each : (effect : Effect) → IsEffect calls m effect → (new : Row) → OfRow calls effect row new → Becomes marks e m (end_of after new)
+    row_each effect d new n = ⊎_elim
         (λ k.
         let c = k.0 in
         let v = k.1 in
@@ -186,13 +186,13 @@ module _ (marks : List Mark) (well : AreWellFormed marks) (calls : List Call) (a
             )))
             n
 
-    -- what the deed makes of a front to which a walk leads from the end
+    -- what the effect makes of a front to which a walk leads from the end
     module _ (front : Front) (there : IsLeft marks (end_of calls front.row)) (walk : Walks marks e (end_of calls front.row) front.writes) where
       abbrev d : LeanEnd
       d = end_of calls front.row
 
-      pub front_each : (deed : Deed) → IsDeed calls m deed → (new : Row) → OfFront calls now deed front new → Becomes marks e m (end_of after new)
-      front_each deed is new n = ⊎_elim
+      pub front_each : (effect : Effect) → IsEffect calls m effect → (new : Row) → OfFront calls now effect front new → Becomes marks e m (end_of after new)
+      front_each effect is new n = ⊎_elim
           (λ k.
           let c = k.0 in
           let v = k.1 in
@@ -247,7 +247,7 @@ module _ (marks : List Mark) (well : AreWellFormed marks) (calls : List Call) (a
                 out_is n.0.row new (subst (λ i. IsWithoutId i n.0.row new) h.1 n.2),
               )
 
-    -- which deed it is
+    -- which effect it is
     abbrev Silent : Type 0
     Silent = ((c : Call) → Contains calls c → c.id ≢ id) ⊎ ((c : Call) × HasCall calls id Reads c × (answer ≢ Nothing) × ((v : ℤ) → answer ≢ Number v))
 
@@ -257,8 +257,8 @@ module _ (marks : List Mark) (well : AreWellFormed marks) (calls : List Call) (a
         (λ w. (ap (λ (x : Call). x.what) (same_call calls are.once c w.0 h w.1.0 (q ∙ sym w.1.1)) ∙ w.1.2, w.2, w.3))
         s
 
-    deed_of_write : (deed : Deed) → IsDeed calls m deed → (v : ℤ) → IsWriteOf marks id v → (c : Call) × HasCall calls id (Writes v) c × (deed ≡ EndsWrite c v)
-    deed_of_write deed d v w = ⊎_elim
+    effect_of_write : (effect : Effect) → IsEffect calls m effect → (v : ℤ) → IsWriteOf marks id v → (c : Call) × HasCall calls id (Writes v) c × (effect ≡ EndsWrite c v)
+    effect_of_write effect d v w = ⊎_elim
         (λ k. (let same : k.1 ≡ v = same_value marks well id k.1 v (a_write k.0 k.1 k.2) w in
         (k.0, (k.2.0, k.2.1, k.2.2 ∙ ap Writes same), k.3 ∙ ap (EndsWrite k.0) same)))
         (λ d1. ⊎_elim
@@ -273,8 +273,8 @@ module _ (marks : List Mark) (well : AreWellFormed marks) (calls : List Call) (a
         d1)
         d
 
-    deed_of_cas : (deed : Deed) → IsDeed calls m deed → (a b : ℤ) → IsCasOf marks id a b → (c : Call) × HasCall calls id (Sets a b) c × (deed ≡ EndsCas c a b)
-    deed_of_cas deed d a b w = ⊎_elim
+    effect_of_cas : (effect : Effect) → IsEffect calls m effect → (a b : ℤ) → IsCasOf marks id a b → (c : Call) × HasCall calls id (Sets a b) c × (effect ≡ EndsCas c a b)
+    effect_of_cas effect d a b w = ⊎_elim
         (λ k. absurd (cas_no_write marks well id a b w k.1 (a_write k.0 k.1 k.2)))
         (λ d1. ⊎_elim
         (λ k.
@@ -292,8 +292,8 @@ module _ (marks : List Mark) (well : AreWellFormed marks) (calls : List Call) (a
         d1)
         d
 
-    deed_of_nil : (deed : Deed) → IsDeed calls m deed → IsRead marks id → answer ≡ Nothing → deed ≡ EndsNil id
-    deed_of_nil deed d r n = ⊎_elim
+    effect_of_nil : (effect : Effect) → IsEffect calls m effect → IsRead marks id → answer ≡ Nothing → effect ≡ EndsNil id
+    effect_of_nil effect d r n = ⊎_elim
         (λ k. absurd (read_no_write marks well id k.1 r (a_write k.0 k.1 k.2)))
         (λ d1. ⊎_elim
         (λ k. absurd (cas_no_read marks well id k.1 k.2 (a_cas k.0 k.1 k.2 k.3) r))
@@ -307,8 +307,8 @@ module _ (marks : List Mark) (well : AreWellFormed marks) (calls : List Call) (a
         d1)
         d
 
-    deed_of_value : (deed : Deed) → IsDeed calls m deed → IsRead marks id → (v : ℤ) → answer ≡ Number v → (c : Call) × HasCall calls id Reads c × (deed ≡ EndsRead c v)
-    deed_of_value deed d r v n = ⊎_elim
+    effect_of_value : (effect : Effect) → IsEffect calls m effect → IsRead marks id → (v : ℤ) → answer ≡ Number v → (c : Call) × HasCall calls id Reads c × (effect ≡ EndsRead c v)
+    effect_of_value effect d r v n = ⊎_elim
         (λ k. absurd (read_no_write marks well id k.1 r (a_write k.0 k.1 k.2)))
         (λ d1. ⊎_elim
         (λ k. absurd (cas_no_read marks well id k.1 k.2 (a_cas k.0 k.1 k.2 k.3) r))
@@ -324,7 +324,7 @@ module _ (marks : List Mark) (well : AreWellFormed marks) (calls : List Call) (a
 
     -- all that the ok makes of the end
     module _ (ends : List LeanEnd) (here : Contains ends e) (fronts : List Front) (all_left : (f : Front) → Contains fronts f → IsLeft marks (end_of calls f.row)) (fronts_are : AreFronts marks ends (map (front_of calls) fronts))
-        (deed : Deed) (is : IsDeed calls m deed) (P : Row → Type 0) (of_row : AllOfRow calls deed row P) (of_front : (f : Front) → Contains fronts f → AllOfFront calls now deed f P) where
+        (effect : Effect) (is : IsEffect calls m effect) (P : Row → Type 0) (of_row : AllOfRow calls effect row P) (of_front : (f : Front) → Contains fronts f → AllOfFront calls now effect f P) where
       -- a front that may become all that comes of a walk
       greater : (d : LeanEnd) (k : Bool) → Walks marks e d k → (f : Front) × Contains fronts f × IsLess marks (record { end = d; writes = k }) (front_of calls f)
       greater d k w =
@@ -337,7 +337,7 @@ module _ (marks : List Mark) (well : AreWellFormed marks) (calls : List Call) (a
 
       by_write : (v : ℤ) → IsWriteOf marks id v → (f : LeanEnd) → EndsWriteBy marks e id v f → Reaches f P
       by_write v w f b =
-          let k = deed_of_write deed is v w in
+          let k = effect_of_write effect is v w in
           let c = k.0 in
           let h : HasCall calls id (Writes v) c = k.1 in
           let rows = subst (λ x. AllOfRow calls x row P) k.2 of_row in
@@ -365,7 +365,7 @@ module _ (marks : List Mark) (well : AreWellFormed marks) (calls : List Call) (a
 
       by_cas : (a b : ℤ) → IsCasOf marks id a b → (f : LeanEnd) → EndsCasBy marks e id a b f → Reaches f P
       by_cas a b w f x =
-          let k = deed_of_cas deed is a b w in
+          let k = effect_of_cas effect is a b w in
           let c = k.0 in
           let h : HasCall calls id (Sets a b) c = k.1 in
           ⊎_elim
@@ -386,12 +386,12 @@ module _ (marks : List Mark) (well : AreWellFormed marks) (calls : List Call) (a
       by_nil : IsRead marks id → answer ≡ Nothing → (d : LeanEnd) (k : Bool) → Walks marks e d k → (f : LeanEnd) → IsWithout d id f → Reaches f P
       by_nil r n d k w f u =
           let g = greater d k w in
-          let made = subst (λ x. AllOfFront calls now x g.0 P) (deed_of_nil deed is r n) (of_front g.0 g.1) in
+          let made = subst (λ x. AllOfFront calls now x g.0 P) (effect_of_nil effect is r n) (of_front g.0 g.1) in
           reached d (end_of calls g.0.row) f made.0 made.2 g.2.0 u (out_is g.0.row made.0 made.1)
 
       by_value : IsRead marks id → (v : ℤ) → answer ≡ Number v → (f : LeanEnd) → EndsReadBy marks e id v f → Reaches f P
       by_value r v n f x =
-          let k = deed_of_value deed is r v n in
+          let k = effect_of_value effect is r v n in
           let c = k.0 in
           let h : HasCall calls id Reads c = k.1 in
           let rows = subst (λ x. AllOfRow calls x row P) k.2 of_row in

@@ -111,7 +111,7 @@ with_new calls now id (Some what) row low =
       is = λ c h. (c, Contains-append_left calls (new ∷ []) c h, refl, refl, refl);
     }
 
--- an operation has crashed that is no read
+-- an operation other than a read has crashed
 pub with_crash : (id : ℕ) (calls : List Call) (row : Row) → ((c : Call) → Contains calls c → c.id ≡ id → c.what ≢ Reads) → HaveDoors calls (map (crashed id) (filter (outlives id) calls)) row
 with_crash id calls row none = record {
   was = λ c h e. (let k = map_from (crashed id) (filter (outlives id) calls) c h in (k.0, was_in (outlives id) calls k.0 k.1, ap (λ (x : Call). x.id) k.2, ap (λ (x : Call). x.since) k.2, ap (λ (x : Call). x.what) k.2));

@@ -14,12 +14,12 @@ use Rattle.cas_ends.proofs.Left.{are_left, at_most_then, left_then}
 use Rattle.cas_ends.proofs.Sound.{left_after}
 use Rattle.cas_ends.proofs.Stands.{IsLeft}
 use Rattle.wide_cas_register.specs.declared.calls.Call.{Call}
-use Rattle.wide_cas_register.specs.declared.next.Deed.{Deed}
-use Rattle.wide_cas_register.specs.declared.next.Deed.TheVariants.{Keeps, Begins, Leaves, Fails, EndsWrite, EndsCas, EndsRead, EndsNil, Dies}
+use Rattle.wide_cas_register.specs.declared.next.Effect.{Effect}
+use Rattle.wide_cas_register.specs.declared.next.Effect.TheVariants.{Keeps, Begins, Leaves, Fails, EndsWrite, EndsCas, EndsRead, EndsNil, Dies}
 use Rattle.wide_cas_register.specs.declared.row.Row.{Row}
 use Rattle.wide_cas_register.specs.declared.fronts.Front.{Front}
 use Rattle.wide_cas_register.specs.declared.kept.Kept.{Kept}
-use Rattle.wide_cas_register.specs.Facts.{AllOfFront, AllOfRow, AreCalls, AreFacts, IsAtMostBy, IsDeed, IsDoneBy, IsKeptIn, OfFront, OfRow, calls_after, end_of}
+use Rattle.wide_cas_register.specs.Facts.{AllOfFront, AllOfRow, AreCalls, AreFacts, IsAtMostBy, IsEffect, IsDoneBy, IsKeptIn, OfFront, OfRow, calls_after, end_of}
 use Rattle.wide_cas_register.specs.Fronts.{AreAllBy, IsAfter, IsMade}
 use Rattle.wide_cas_register.proofs.AtMost.{end_at_most_by, row_at_most}
 use Rattle.wide_cas_register.proofs.Fronting.{front_of}
@@ -52,7 +52,7 @@ well_then marks m well may xs ys n cut = ⊎_elim
         let same : n ≡ r = cc in
         well xs rest n (ap (λ x. xs ++ x ∷ rest) same ∙ f)
 
--- what an event makes of what is kept, by its mark
+-- the effect of an event on the kept facts, by its mark
 record Given (marks : List Mark) (m : Mark) (calls : List Call) (rows : List Row) (fronts : List Front) : Type 0 where
   well : AreWellFormed marks
   may : MayFollow marks m
@@ -69,52 +69,52 @@ Comes marks m calls rows new =
 none_met : {P : Type 0} (fronts : List Front) (f : Front) → fronts ≡ [] → Contains fronts f → P
 none_met fronts f e h = absurd (Contains-nil f (subst (λ l. Contains l f) e h))
 
-module _ (marks : List Mark) (calls : List Call) (rows : List Row) (fronts : List Front) (deed : Deed) where
+module _ (marks : List Mark) (calls : List Call) (rows : List Row) (fronts : List Front) (effect : Effect) where
   abbrev Made : Row → Type 0
-  Made new = IsMade calls (length marks) deed rows fronts new
+  Made new = IsMade calls (length marks) effect rows fronts new
 
-  front_comes : (id : ℕ) (answer : Answer) → Given marks (Returned id answer) calls rows fronts → IsDeed calls (Returned id answer) deed → (f : Front) → Contains fronts f → (new : Row) → OfFront calls (length marks) deed f new → Comes marks (Returned id answer) calls rows new
+  front_comes : (id : ℕ) (answer : Answer) → Given marks (Returned id answer) calls rows fronts → IsEffect calls (Returned id answer) effect → (f : Front) → Contains fronts f → (new : Row) → OfFront calls (length marks) effect f new → Comes marks (Returned id answer) calls rows new
   front_comes id answer g is f h new n =
       let a : AreAllBy calls (length marks) rows fronts = g.meets in
       let s = some_are marks g.well calls g.are rows g.left fronts a.0 a.1 in
       let w = fronts_walked marks (map (end_of calls) rows) (map (front_of calls) fronts) (map (front_of calls) a.0) s.0 (front_of calls f) (map_to (front_of calls) fronts f h) in
       let row = map_from (end_of calls) rows w.0 w.1 in
-      (row.0, row.1, front_each marks g.well calls g.are id answer g.may row.0 (g.left row.0 row.1) f (s.1 f h) (subst (λ e. Walks marks e (end_of calls f.row) f.writes) (sym row.2) w.2) deed is new n)
+      (row.0, row.1, front_each marks g.well calls g.are id answer g.may row.0 (g.left row.0 row.1) f (s.1 f h) (subst (λ e. Walks marks e (end_of calls f.row) f.writes) (sym row.2) w.2) effect is new n)
 
-  comes : (m : Mark) → Given marks m calls rows fronts → IsDeed calls m deed → (new : Row) → Made new → Comes marks m calls rows new
+  comes : (m : Mark) → Given marks m calls rows fronts → IsEffect calls m effect → (new : Row) → Made new → Comes marks m calls rows new
   comes (Invoked id op) g is new made = ⊎_elim
-      (λ r. (r.0, r.1, invoke_each marks g.well calls g.are r.0 (g.low r.0 r.1) (g.left r.0 r.1) id op deed is new r.2))
+      (λ r. (r.0, r.1, invoke_each marks g.well calls g.are r.0 (g.low r.0 r.1) (g.left r.0 r.1) id op effect is new r.2))
       (λ f. none_met fronts f.0 g.meets f.1)
       made
   comes (Returned id answer) g is new made = ⊎_elim
-      (λ r. (r.0, r.1, row_each marks g.well calls g.are id answer g.may r.0 (g.left r.0 r.1) deed is new r.2))
+      (λ r. (r.0, r.1, row_each marks g.well calls g.are id answer g.may r.0 (g.left r.0 r.1) effect is new r.2))
       (λ f. front_comes id answer g is f.0 f.1 new f.2)
       made
   comes (Failed id) g is new made = ⊎_elim
-      (λ r. (r.0, r.1, fail_each marks g.well calls g.are r.0 (g.low r.0 r.1) (g.left r.0 r.1) id deed is new r.2))
+      (λ r. (r.0, r.1, fail_each marks g.well calls g.are r.0 (g.low r.0 r.1) (g.left r.0 r.1) id effect is new r.2))
       (λ f. none_met fronts f.0 g.meets f.1)
       made
   comes (Crashed id) g is new made = ⊎_elim
-      (λ r. (r.0, r.1, crash_each marks g.well calls g.are r.0 (g.low r.0 r.1) (g.left r.0 r.1) id g.may deed is new r.2))
+      (λ r. (r.0, r.1, crash_each marks g.well calls g.are r.0 (g.low r.0 r.1) (g.left r.0 r.1) id g.may effect is new r.2))
       (λ f. none_met fronts f.0 g.meets f.1)
       made
 
-  -- and all that it makes of an end is so, or less than what is so
-  module _ (P : Row → Type 0) (row : Row) (h : Contains rows row) (of_row : AllOfRow calls deed row P) (of_front : (f : Front) → Contains fronts f → AllOfFront calls (length marks) deed f P) where
+  -- and each end after the event is so, or less than one that is so
+  module _ (P : Row → Type 0) (row : Row) (h : Contains rows row) (of_row : AllOfRow calls effect row P) (of_front : (f : Front) → Contains fronts f → AllOfFront calls (length marks) effect f P) where
     abbrev Goes : Mark → LeanEnd → Type 0
     Goes m e = (new : Row) × P new × IsAtMost (marks ++ m ∷ []) e (end_of (calls_after calls (length marks) m) new)
 
     hit : (m : Mark) (e : LeanEnd) → Hits (calls_after calls (length marks) m) e P → Goes m e
     hit m e k = (k.0, k.1, subst (λ x. IsAtMost (marks ++ m ∷ []) x (end_of (calls_after calls (length marks) m) k.0)) k.2 (at_most_itself (marks ++ m ∷ []) (end_of (calls_after calls (length marks) m) k.0)))
 
-    goes : (m : Mark) → Given marks m calls rows fronts → IsDeed calls m deed → (e : LeanEnd) → Becomes marks (end_of calls row) m e → Goes m e
-    goes (Invoked id op) g is e b = hit (Invoked id op) e (invoke_all marks g.well calls g.are row (g.low row h) (g.left row h) id op deed is P of_row e b)
+    goes : (m : Mark) → Given marks m calls rows fronts → IsEffect calls m effect → (e : LeanEnd) → Becomes marks (end_of calls row) m e → Goes m e
+    goes (Invoked id op) g is e b = hit (Invoked id op) e (invoke_all marks g.well calls g.are row (g.low row h) (g.left row h) id op effect is P of_row e b)
     goes (Returned id answer) g is e b =
         let a : AreAllBy calls (length marks) rows fronts = g.meets in
         let s = some_are marks g.well calls g.are rows g.left fronts a.0 a.1 in
-        ok_all marks g.well calls g.are id answer g.may row (g.left row h) (map (end_of calls) rows) (map_to (end_of calls) rows row h) fronts s.1 (all_are marks g.well calls g.are rows g.left fronts a) deed is P of_row of_front e b
-    goes (Failed id) g is e b = hit (Failed id) e (fail_all marks g.well calls g.are row (g.low row h) (g.left row h) id deed is P of_row e b)
-    goes (Crashed id) g is e b = hit (Crashed id) e (crash_all marks g.well calls g.are row (g.low row h) (g.left row h) id g.may deed is P of_row e b)
+        ok_all marks g.well calls g.are id answer g.may row (g.left row h) (map (end_of calls) rows) (map_to (end_of calls) rows row h) fronts s.1 (all_are marks g.well calls g.are rows g.left fronts a) effect is P of_row of_front e b
+    goes (Failed id) g is e b = hit (Failed id) e (fail_all marks g.well calls g.are row (g.low row h) (g.left row h) id effect is P of_row e b)
+    goes (Crashed id) g is e b = hit (Crashed id) e (crash_all marks g.well calls g.are row (g.low row h) (g.left row h) id g.may effect is P of_row e b)
 
 -- no door is later than now
 module _ (calls : List Call) (now : ℕ) where
@@ -124,7 +124,7 @@ module _ (calls : List Call) (now : ℕ) where
   done_low : (c : Call) (f : Front) (new : Row) → f.row.door ≤ now → IsDoneBy calls now c f new → new.door ≤ now
   done_low c f new low d = let a = step_low calls now c c.what f d.0 low d.1.steps in let b = d.2.door in omega arith
 
-  row_low : (deed : Deed) (row new : Row) → row.door ≤ now → OfRow calls deed row new → new.door ≤ now
+  row_low : (effect : Effect) (row new : Row) → row.door ≤ now → OfRow calls effect row new → new.door ≤ now
   row_low Keeps row new low n = same_door row new low n.door
   row_low (Begins id) row new low n = same_door row new low n.door
   row_low (Leaves id) row new low n = same_door row new low n.door
@@ -141,7 +141,7 @@ module _ (calls : List Call) (now : ℕ) where
   row_low (EndsNil id) row new low n = absurd n
   row_low Dies row new low n = absurd n
 
-  front_low : (deed : Deed) (f : Front) (new : Row) → f.row.door ≤ now → OfFront calls now deed f new → new.door ≤ now
+  front_low : (effect : Effect) (f : Front) (new : Row) → f.row.door ≤ now → OfFront calls now effect f new → new.door ≤ now
   front_low Keeps f new low n = absurd n
   front_low (Begins id) f new low n = absurd n
   front_low (Leaves id) f new low n = absurd n
@@ -196,15 +196,15 @@ module _ (m : Mark) (fronts : List Front) (k new : Kept) (a : IsAfter m fronts k
   each : (e : LeanEnd) → Contains nexts e → (d : LeanEnd) × Contains ends d × Becomes marks d m e
   each e h =
       let r = map_from (end_of those) new.rows.items e h in
-      let made : IsMade calls (length marks) a.deed k.rows.items fronts r.0 = subst (λ t. IsMade calls t a.deed k.rows.items fronts r.0) f.now (a.each r.0 r.1) in
-      let c = comes marks calls k.rows.items fronts a.deed m given a.is_deed r.0 made in
+      let made : IsMade calls (length marks) a.effect k.rows.items fronts r.0 = subst (λ t. IsMade calls t a.effect k.rows.items fronts r.0) f.now (a.each r.0 r.1) in
+      let c = comes marks calls k.rows.items fronts a.effect m given a.is_effect r.0 made in
       let is : end_of (calls_after calls (length marks) m) r.0 ≡ e = ap (λ c. end_of c r.0) (sym calls_are) ∙ r.2 in
       (end_of calls c.0, map_to (end_of calls) k.rows.items c.0 c.1, subst (Becomes marks (end_of calls c.0) m) is c.2)
 
   of_row : (row : Row) → Contains k.rows.items row → (e : LeanEnd) → Becomes marks (end_of calls row) m e → (g : LeanEnd) × Contains nexts g × IsAtMost longer e g
   of_row row h e b =
-      let fronts_all = subst (λ t. (x : Front) → Contains fronts x → AllOfFront calls t a.deed x (IsKeptIn those new.rows.items)) f.now a.all_fronts in
-      let r = goes marks calls k.rows.items fronts a.deed (IsKeptIn those new.rows.items) row h (a.all_rows row h) fronts_all m given a.is_deed e b in
+      let fronts_all = subst (λ t. (x : Front) → Contains fronts x → AllOfFront calls t a.effect x (IsKeptIn those new.rows.items)) f.now a.all_fronts in
+      let r = goes marks calls k.rows.items fronts a.effect (IsKeptIn those new.rows.items) row h (a.all_rows row h) fronts_all m given a.is_effect e b in
       let most : IsAtMost longer e (end_of those r.0) = subst (λ c. IsAtMost longer e (end_of c r.0)) (sym calls_are) r.2 in
       let l : IsLeft longer e = left_after marks m (end_of calls row) e well (given.left row h) b in
       let q = r.1 in
@@ -223,8 +223,8 @@ module _ (m : Mark) (fronts : List Front) (k new : Kept) (a : IsAfter m fronts k
 
   low_after : (r : Row) → Contains new.rows.items r → r.door ≤ k.moment
   low_after r h = ⊎_elim
-      (λ n. row_low calls k.moment a.deed n.0 r (f.doors n.0 n.1) n.2)
-      (λ n. front_low calls k.moment a.deed n.0 r (met_low calls k.moment m k.rows.items fronts f.doors met n.0 n.1) n.2)
+      (λ n. row_low calls k.moment a.effect n.0 r (f.doors n.0 n.1) n.2)
+      (λ n. front_low calls k.moment a.effect n.0 r (met_low calls k.moment m k.rows.items fronts f.doors met n.0 n.1) n.2)
       (a.each r h)
 
   pub facts_after : AreFacts new longer

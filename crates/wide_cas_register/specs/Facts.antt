@@ -11,8 +11,8 @@ use Rattle.wide_cas_register.specs.declared.calls.What.{What}
 use Rattle.wide_cas_register.specs.declared.calls.What.TheVariants.{Writes, Sets, Reads}
 use Rattle.wide_cas_register.specs.declared.row.Found.{Found}
 use Rattle.wide_cas_register.specs.declared.row.Row.{Row}
-use Rattle.wide_cas_register.specs.declared.next.Deed.{Deed}
-use Rattle.wide_cas_register.specs.declared.next.Deed.TheVariants.{Keeps, Begins, Leaves, Fails, EndsWrite, EndsCas, EndsRead, EndsNil, Dies}
+use Rattle.wide_cas_register.specs.declared.next.Effect.{Effect}
+use Rattle.wide_cas_register.specs.declared.next.Effect.TheVariants.{Keeps, Begins, Leaves, Fails, EndsWrite, EndsCas, EndsRead, EndsNil, Dies}
 use Rattle.wide_cas_register.specs.declared.kept.Kept.{Kept}
 use Rattle.models.specs.declared.finding.Answer.{Answer}
 use Rattle.models.specs.declared.finding.Answer.TheVariants.{Nothing, Number}
@@ -126,7 +126,7 @@ pub record AreFacts (k : Kept) (marks : List Mark) : Type 0 where
   pub doors : (row : Row) → Contains k.rows.items row → row.door ≤ k.moment
   pub ends : AreCasEnds marks (map (end_of k.calls.items) k.rows.items)
 
--- a row that needs the operation needs another one's if it is open, and may be passed by it only where the other one may
+-- if the operation is open and the row needs it, the other row needs it. If the row's door is open to it, so is the door of the other row
 pub record FitsAt (row other : Row) (c : Call) : Type 0 where
   pub needed : Contains row.needed.items c.id → c.is_open ≡ true → Contains other.needed.items c.id
   pub door : HasDoor row c → c.since < other.door
@@ -198,8 +198,8 @@ AllFoundWith calls these row r v made =
     (c : Call) → Contains these c → IsFree row v c
     → (new : Row) × IsPutBefore calls c v r.id row new × Contains made new
 
--- what the deed makes of a row
-abbrev pub OfRow : List Call → Deed → Row → Row → Type 0
+-- what the effect makes of a row
+abbrev pub OfRow : List Call → Effect → Row → Row → Type 0
 OfRow calls Keeps row new = IsSame row new
 OfRow calls (Begins id) row new = IsBegun id row new
 OfRow calls (Leaves id) row new = IsWithoutId id row new
@@ -215,16 +215,16 @@ OfRow calls (EndsRead r v) row new =
 OfRow calls (EndsNil id) row new = ⊥
 OfRow calls Dies row new = ⊥
 
--- what the deed makes of a front
-abbrev pub OfFront : List Call → ℕ → Deed → Front → Row → Type 0
+-- what the effect makes of a front
+abbrev pub OfFront : List Call → ℕ → Effect → Front → Row → Type 0
 OfFront calls now (EndsWrite w v) f new = IsDoneBy calls now w f new
 OfFront calls now (EndsCas c a b) f new = IsDoneBy calls now c f new
 OfFront calls now (EndsRead r v) f new = (f.row.state ≡ Some v) × IsWithoutId r.id f.row new
 OfFront calls now (EndsNil id) f new = IsWithoutId id f.row new
 OfFront calls now _ f new = ⊥
 
--- all that the deed makes of a row is made, and P holds of it
-abbrev pub AllOfRow : List Call → Deed → Row → (Row → Type 0) → Type 0
+-- all that the effect makes of a row is made, and P holds of it
+abbrev pub AllOfRow : List Call → Effect → Row → (Row → Type 0) → Type 0
 AllOfRow calls Keeps row P = (new : Row) × IsSame row new × P new
 AllOfRow calls (Begins id) row P = (new : Row) × IsBegun id row new × P new
 AllOfRow calls (Leaves id) row P = (new : Row) × IsWithoutId id row new × P new
@@ -243,7 +243,7 @@ AllOfRow calls (EndsNil id) row P = Unit {0}
 AllOfRow calls Dies row P = Unit {0}
 
 -- so is what it makes of a front
-abbrev pub AllOfFront : List Call → ℕ → Deed → Front → (Row → Type 0) → Type 0
+abbrev pub AllOfFront : List Call → ℕ → Effect → Front → (Row → Type 0) → Type 0
 AllOfFront calls now (EndsWrite w v) f P =
     CanStep f w w.what → (new : Row) × IsDoneBy calls now w f new × P new
 AllOfFront calls now (EndsCas c a b) f P =
@@ -262,29 +262,29 @@ is_read (Sets a b) = false
 abbrev pub HasCall : List Call → ℕ → What → Call → Type 0
 HasCall calls id what c = Contains calls c × (c.id ≡ id) × (c.what ≡ what)
 
--- the deed is that of the read with this answer
-abbrev pub IsDeedOfAnswer : Call → Answer → Deed → Type 0
-IsDeedOfAnswer read answer deed =
-    ((answer ≡ Nothing) × (deed ≡ EndsNil read.id))
-    ⊎ ((v : ℤ) × (answer ≡ Number v) × (deed ≡ EndsRead read v))
-    ⊎ ((deed ≡ Dies) × (answer ≢ Nothing) × ((v : ℤ) → answer ≢ Number v))
+-- the effect is that of the read with this answer
+abbrev pub IsEffectOfAnswer : Call → Answer → Effect → Type 0
+IsEffectOfAnswer read answer effect =
+    ((answer ≡ Nothing) × (effect ≡ EndsNil read.id))
+    ⊎ ((v : ℤ) × (answer ≡ Number v) × (effect ≡ EndsRead read v))
+    ⊎ ((effect ≡ Dies) × (answer ≢ Nothing) × ((v : ℤ) → answer ≢ Number v))
 
--- the deed is that of the mark
-abbrev pub IsDeed : List Call → Mark → Deed → Type 0
-IsDeed calls (Invoked id op) deed =
-    ((what_by op.name op.part ≡ Some Reads) × (deed ≡ Begins id))
-    ⊎ ((what_by op.name op.part ≢ Some Reads) × (deed ≡ Keeps))
-IsDeed calls (Returned id answer) deed =
-    ((c : Call) × (v : ℤ) × HasCall calls id (Writes v) c × (deed ≡ EndsWrite c v))
-    ⊎ ((c : Call) × (a : ℤ) × (b : ℤ) × HasCall calls id (Sets a b) c × (deed ≡ EndsCas c a b))
-    ⊎ ((c : Call) × HasCall calls id Reads c × (answer ≡ Nothing) × (deed ≡ EndsNil id))
-    ⊎ ((c : Call) × (v : ℤ) × HasCall calls id Reads c × (answer ≡ Number v) × (deed ≡ EndsRead c v))
-    ⊎ ((deed ≡ Dies) × (((c : Call) → Contains calls c → c.id ≢ id)
+-- the effect is that of the mark
+abbrev pub IsEffect : List Call → Mark → Effect → Type 0
+IsEffect calls (Invoked id op) effect =
+    ((what_by op.name op.part ≡ Some Reads) × (effect ≡ Begins id))
+    ⊎ ((what_by op.name op.part ≢ Some Reads) × (effect ≡ Keeps))
+IsEffect calls (Returned id answer) effect =
+    ((c : Call) × (v : ℤ) × HasCall calls id (Writes v) c × (effect ≡ EndsWrite c v))
+    ⊎ ((c : Call) × (a : ℤ) × (b : ℤ) × HasCall calls id (Sets a b) c × (effect ≡ EndsCas c a b))
+    ⊎ ((c : Call) × HasCall calls id Reads c × (answer ≡ Nothing) × (effect ≡ EndsNil id))
+    ⊎ ((c : Call) × (v : ℤ) × HasCall calls id Reads c × (answer ≡ Number v) × (effect ≡ EndsRead c v))
+    ⊎ ((effect ≡ Dies) × (((c : Call) → Contains calls c → c.id ≢ id)
     ⊎ ((c : Call) × HasCall calls id Reads c × (answer ≢ Nothing) × ((v : ℤ) → answer ≢ Number v))))
-IsDeed calls (Failed id) deed = deed ≡ Fails id
-IsDeed calls (Crashed id) deed =
-    ((c : Call) × HasCall calls id Reads c × (deed ≡ Leaves id))
-    ⊎ ((((c : Call) → Contains calls c → c.id ≢ id) ⊎ ((c : Call) × HasCall calls id c.what c × (is_read c.what ≡ false))) × (deed ≡ Keeps))
+IsEffect calls (Failed id) effect = effect ≡ Fails id
+IsEffect calls (Crashed id) effect =
+    ((c : Call) × HasCall calls id Reads c × (effect ≡ Leaves id))
+    ⊎ ((((c : Call) → Contains calls c → c.id ≢ id) ⊎ ((c : Call) × HasCall calls id c.what c × (is_read c.what ≡ false))) × (effect ≡ Keeps))
 
 -- the operations but this one
 abbrev pub is_other : ℕ → Call → Bool

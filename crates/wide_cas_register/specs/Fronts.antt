@@ -1,4 +1,4 @@
--- Invariant: the fronts of what is kept, layer upon layer, and what comes after an event
+-- Invariant: the fronts of the kept rows, layer upon layer, and the rows after an event
 use Rattle.std.specs.Prelude.{◌≡◌, ℕ, ◌+◌, ◌<◌, ◌≤◌, ◌⊎◌, true, false, List, [], ◌∷◌, ◌++◌, length}
 use Rattle.std.specs.List.{AllZip, Contains}
 use Rattle.events.specs.Events.{Mark}
@@ -6,13 +6,13 @@ use Rattle.linspec.specs.Orders.{Pairwise}
 use Rattle.wide_cas_register.specs.declared.calls.Call.{Call}
 use Rattle.wide_cas_register.specs.declared.row.Row.{Row}
 use Rattle.wide_cas_register.specs.declared.fronts.Front.{Front}
-use Rattle.wide_cas_register.specs.declared.next.Deed.{Deed}
+use Rattle.wide_cas_register.specs.declared.next.Effect.{Effect}
 use Rattle.events.specs.declared.event.EventKind.{EventKind}
 use Rattle.events.specs.declared.event.EventKind.TheVariants.{Ok}
 use Rattle.wide_cas_register.specs.declared.fronts.Reached.{Reached}
 use Rattle.wide_cas_register.specs.declared.fronts.Reached.TheVariants.{All, Over}
 use Rattle.wide_cas_register.specs.declared.kept.Kept.{Kept}
-use Rattle.wide_cas_register.specs.Facts.{AreApart, CanStep, IsAtMostBy, IsDeed, IsKeptIn, IsSame, IsStepBy, AllOfFront, AllOfRow, OfFront, OfRow, calls_after}
+use Rattle.wide_cas_register.specs.Facts.{AreApart, CanStep, IsAtMostBy, IsEffect, IsKeptIn, IsSame, IsStepBy, AllOfFront, AllOfRow, OfFront, OfRow, calls_after}
 
 -- the other front may become all that this one may
 abbrev pub IsLessBy : List Call → Front → Front → Type 0
@@ -50,7 +50,7 @@ pub record AreStepped (calls : List Call) (now : ℕ) (there : List Front) (e : 
       → (f : Front) × IsStepBy calls now c e f × IsCovered calls (there ++ next) f
   pub apart : AreApartBy calls layer → AreApartBy calls next
 
--- what operations make of a layer of fronts is in the next one, or less than what is there
+-- each front that operations make of a layer is in the next layer, or less than a front there
 pub record IsLayerOf (calls : List Call) (now : ℕ) (there layer : List Front) (calls_of : Front → Call → Type 0) (next : List Front)
     : Type 0 where
   pub each : (f : Front) → Contains next f
@@ -86,11 +86,11 @@ abbrev pub AreAllBy : List Call → ℕ → List Row → List Front → Type 0
 AreAllBy calls now rows fronts =
     (last : List Front) × AreSomeBy calls now rows fronts last × IsLayerBy calls now fronts last []
 
--- what the deed makes of a row or of a front
-abbrev pub IsMade : List Call → ℕ → Deed → List Row → List Front → Row → Type 0
-IsMade calls now deed rows fronts new =
-    ((row : Row) × Contains rows row × OfRow calls deed row new)
-    ⊎ ((f : Front) × Contains fronts f × OfFront calls now deed f new)
+-- what the effect makes of a row or of a front
+abbrev pub IsMade : List Call → ℕ → Effect → List Row → List Front → Row → Type 0
+IsMade calls now effect rows fronts new =
+    ((row : Row) × Contains rows row × OfRow calls effect row new)
+    ⊎ ((f : Front) × Contains fronts f × OfFront calls now effect f new)
 
 -- all fronts; or more than the budget, of some layers, once operations were tried at some of them
 abbrev pub IsReached : List Call → ℕ → List Row → ℕ → Reached → Type 0
@@ -104,22 +104,22 @@ IsReachedBy Ok calls now rows budget reached = IsReached calls now rows budget r
 IsReachedBy _ calls now rows budget (All fronts) = fronts.items ≡ []
 IsReachedBy _ calls now rows budget (Over tried) = ⊥
 
--- what the deed makes of these rows and fronts, without those that are at most another one
-pub record AreGathered (k : Kept) (deed : Deed) (later : List Call) (rows : List Row) (fronts : List Front) (left : List Row) : Type 0 where
-  pub each : (r : Row) → Contains left r → IsMade k.calls.items k.moment deed rows fronts r
-  pub all_rows : (row : Row) → Contains rows row → AllOfRow k.calls.items deed row (IsKeptIn later left)
-  pub all_fronts : (f : Front) → Contains fronts f → AllOfFront k.calls.items k.moment deed f (IsKeptIn later left)
+-- what the effect makes of these rows and fronts, without those that are at most another one
+pub record AreGathered (k : Kept) (effect : Effect) (later : List Call) (rows : List Row) (fronts : List Front) (left : List Row) : Type 0 where
+  pub each : (r : Row) → Contains left r → IsMade k.calls.items k.moment effect rows fronts r
+  pub all_rows : (row : Row) → Contains rows row → AllOfRow k.calls.items effect row (IsKeptIn later left)
+  pub all_fronts : (f : Front) → Contains fronts f → AllOfFront k.calls.items k.moment effect f (IsKeptIn later left)
   pub apart : AreApart later left
 
 -- the mark makes the second of the first, and these are the fronts that it meets
 pub record IsAfter (m : Mark) (fronts : List Front) (k new : Kept) : Type 0 where
   pub moment : new.moment ≡ k.moment + 1
   pub calls : new.calls.items ≡ calls_after k.calls.items k.moment m
-  pub deed : Deed
-  pub is_deed : IsDeed k.calls.items m deed
-  pub each : (r : Row) → Contains new.rows.items r → IsMade k.calls.items k.moment deed k.rows.items fronts r
+  pub effect : Effect
+  pub is_effect : IsEffect k.calls.items m effect
+  pub each : (r : Row) → Contains new.rows.items r → IsMade k.calls.items k.moment effect k.rows.items fronts r
   pub all_rows : (row : Row) → Contains k.rows.items row
-      → AllOfRow k.calls.items deed row (IsKeptIn new.calls.items new.rows.items)
+      → AllOfRow k.calls.items effect row (IsKeptIn new.calls.items new.rows.items)
   pub all_fronts : (f : Front) → Contains fronts f
-      → AllOfFront k.calls.items k.moment deed f (IsKeptIn new.calls.items new.rows.items)
+      → AllOfFront k.calls.items k.moment effect f (IsKeptIn new.calls.items new.rows.items)
   pub apart : AreApart new.calls.items new.rows.items

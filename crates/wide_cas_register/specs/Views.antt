@@ -16,13 +16,13 @@ kills Fail = true
 kills Invoke = false
 kills Info = false
 
--- Dead if no row is left by what can kill, else Alive
+-- Dead if an event that may leave no row leaves none, else Alive
 abbrev pub IsStepLeft : Kept → EventKind → Step → Type 0
 IsStepLeft left kind step =
     ((step ≡ Dead) × (left.rows.items ≡ []) × IsTrue (kills kind))
     ⊎ ((step ≡ Alive) × (¬ ((left.rows.items ≡ []) × IsTrue (kills kind))))
 
--- what is prepared, or if nothing is, what is kept
+-- the prepared facts, or the kept ones if nothing is prepared
 abbrev pub next_of : Option Kept → Kept → Kept
 next_of None kept = kept
 next_of (Some next) kept = next

@@ -1,5 +1,5 @@
 //! The operations of a register with compare and set that may still take place.
-ghost use Rattle.std.specs.Prelude.{◌≡◌, ◌≢◌, ℕ, IfSome, None};
+ghost use Rattle.std.specs.Prelude.{◌≡◌, ◌≢◌, IfSome, None};
 ghost use Rattle.std.specs.List.{Contains};
 ghost use Rattle.wide_cas_register.specs.Facts.{what_by};
 ghost use Rattle.wide_cas_register.specs.declared.calls.Call.{Call};
@@ -17,8 +17,8 @@ pub enum What {
     Reads,
 }
 
-/// An operation that may still take place, since it is open or is a write or a cas that has crashed. It has its id, its effect, how many
-/// marks came before its invocation, and whether it is open.
+/// An operation that may still take place: an open one, or a write or a cas that has crashed. It has its id, its effect, the number of
+/// marks before its invocation, and whether it is open.
 #[derive(Clone, Copy)]
 pub struct Call {
     pub id: u32,

@@ -1,6 +1,6 @@
 //! The effect of walks on the ends: the fronts, layer upon layer.
-ghost use Rattle.std.specs.Prelude.{◌≡◌, ◌≤◌, ◌↔◌, ◌⊎◌, Option, None, drop, length, IfOk, IfSome, IsTrue, OnOk};
-ghost use Rattle.std.specs.List.{AllZip, Contains};
+ghost use Rattle.std.specs.Prelude.{◌≡◌, ◌≤◌, ◌↔◌, Option, None, drop, length, IfOk, IfSome, IsTrue, OnOk};
+ghost use Rattle.std.specs.List.{AllZip};
 ghost use Rattle.wide_cas_register.specs.Facts.{CanStep, IsStepBy};
 ghost use Rattle.wide_cas_register.specs.Fronts.{AreLeftOut, AreStepped, IsCovered, IsFirstFront, IsLayerBy, IsLess, IsPutIn, IsReached};
 ghost use Rattle.wide_cas_register.specs.declared.fronts.Front.{Front};
@@ -17,7 +17,7 @@ pub struct Front {
     pub writes: bool,
 }
 
-// Whether the other front may become all that this one may.
+// Whether `other` may become every front that `front` may become.
 fn is_less(calls: &[Call], front: &Front, other: &Front) -> bool
     ensures { IsTrue result ↔ IsLess calls.now front.now other.now }
 {
@@ -70,7 +70,8 @@ pub fn step(
     }
 }
 
-// Puts the front into the layer, if it is less than none that is there and none of the layer, in place of those that are less than it.
+// Adds the front to the layer, unless it is less than a front that is there or in the layer. Removes the layer's fronts that are less than this
+// one.
 fn keep(
     there: &[Front],
     layer: &mut Vec<Front>,

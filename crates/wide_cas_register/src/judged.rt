@@ -1,7 +1,6 @@
 //! Registers with compare and set that are judged live.
-ghost use Rattle.std.specs.Prelude.{◌≡◌, ◌↔◌, ◌<◌, IfOk, IsTrue, length};
+ghost use Rattle.std.specs.Prelude.{◌≡◌, ◌<◌, IfOk};
 ghost use Rattle.models.specs.Objects.{cas_register};
-ghost use Rattle.events.specs.Events.{act_by, mark_by_act};
 ghost use Rattle.linspec.specs.CasEnds.{HasMoreFrontsThan};
 ghost use Rattle.judging.specs.Meaning.{Commits, IsCopy, IsStart, Observes, Prepares, mark_by};
 ghost use Rattle.wide_cas_register.specs.Counts.{IsCounted};

@@ -1,6 +1,6 @@
 //! The facts that are kept of the history of a register with compare and set.
-ghost use Rattle.std.specs.Prelude.{◌≡◌, ◌≢◌, ◌↔◌, ◌⊎◌, ◌+◌, [], List, map, IfOk, IsTrue, OnOk};
-ghost use Rattle.std.specs.List.{Contains, filter};
+ghost use Rattle.std.specs.Prelude.{◌≡◌, ◌+◌, [], map, IfOk, OnOk};
+ghost use Rattle.std.specs.List.{filter};
 ghost use Rattle.events.specs.Events.{act_by, mark_by_act};
 ghost use Rattle.wide_cas_register.specs.Facts.{AreFacts, AreSame};
 ghost use Rattle.wide_cas_register.specs.Fronts.{AreGathered, IsAfter, IsReachedBy};
@@ -9,13 +9,13 @@ ghost use Rattle.wide_cas_register.specs.Facts.{calls_after, calls_with, crashed
 use crate::calls::{Call, What, what_of};
 use crate::fronts::{Front, Reached, fronts_of};
 use crate::left::{keep, keep_all};
-use crate::next::{Deed, deed_of, row_of_front, rows_of_row};
+use crate::next::{Effect, effect_of, row_of_front, rows_of_row};
 use crate::row::Row;
 use events::EventKind;
 use models::Op;
 use std::alloc::{AllocError, Global};
 
-/// The facts that are kept of a history: how many marks it has, the operations that may still take place, and the ends.
+/// The facts that are kept of a history: the number of its marks, the operations that may still take place, and the ends.
 #[derive(Drop)]
 pub struct Kept {
     pub moment: u64,
@@ -113,7 +113,7 @@ impl Kept {
         })
     }
 
-    // The moment of the mark after the next; `AllocError` if there are as many marks as can be counted.
+    // The moment after the next mark; `AllocError` if there are as many marks as can be counted.
     fn next_moment(&self) -> Result<u64, AllocError>
         ensures { IfOk result (λ moment. moment ≡ self.now.moment + 1) }
     {
@@ -150,19 +150,19 @@ impl Kept {
     fn rows_after(
         &self,
         alloc: Global,
-        deed: &Deed,
+        effect: &Effect,
         fronts: &[Front],
         later: &[Call],
     ) -> Result<Vec<Row>, AllocError>
-        ensures { IfOk result (λ left. AreGathered self.now deed.now later.now self.now.rows.items fronts.now left.items) }
+        ensures { IfOk result (λ left. AreGathered self.now effect.now later.now self.now.rows.items fronts.now left.items) }
     {
         let mut left = Vec::new(alloc);
         for row in &self.rows {
-            let made = rows_of_row(alloc, row, &self.calls, deed)?;
+            let made = rows_of_row(alloc, row, &self.calls, effect)?;
             keep_all(&mut left, later, made)?;
         }
         for front in fronts {
-            let found = row_of_front(front, &self.calls, self.moment, deed)?;
+            let found = row_of_front(front, &self.calls, self.moment, effect)?;
             if let Some(row) = found {
                 keep(&mut left, later, row)?;
             }
@@ -201,8 +201,8 @@ impl Kept {
     {
         let moment = self.next_moment()?;
         let calls = self.calls_after(alloc, id, kind, op)?;
-        let deed = deed_of(&self.calls, id, kind, op);
-        let rows = self.rows_after(alloc, &deed, fronts, &calls)?;
+        let effect = effect_of(&self.calls, id, kind, op);
+        let rows = self.rows_after(alloc, &effect, fronts, &calls)?;
         Ok(Kept {
             moment,
             calls,

@@ -58,7 +58,7 @@ fn all_fit(calls: &[Call], row: &Row, other: &Row) -> bool
     true
 }
 
-/// Whether the other row may become all that this one may. Costs O((its lists + operations) * lists of both).
+/// Whether `other` may become every row that `row` may become. Costs O((lists of `row` + operations) * lists of both).
 pub fn is_at_most(calls: &[Call], row: &Row, other: &Row) -> bool
     ensures { IsTrue result ↔ IsAtMostBy calls.now row.now other.now }
 {
@@ -93,7 +93,7 @@ fn leave_out(rows: &mut Vec<Row>, calls: &[Call], row: &Row)
     rows.retain(|other| !is_at_most(calls, other, row));
 }
 
-/// Puts the row among these, if it is at most none of them, in place of those that are at most it. Compares it with each row twice at most.
+/// Adds the row, unless it is at most another row, and removes the rows that are at most this one. Compares it with each row at most twice.
 pub fn keep(rows: &mut Vec<Row>, calls: &[Call], row: Row) -> Result<(), AllocError>
     ensures each { OnOk result ((r : Row) → Contains rows.new.items r → Contains rows.old.items r ⊎ (r ≡ row)) }
     ensures old { OnOk result ((r : Row) → Contains rows.old.items r → IsKeptIn calls.now rows.new.items r) }

@@ -1,10 +1,10 @@
 //! The effect of an event on a row, and on a front.
-ghost use Rattle.std.specs.Prelude.{◌≡◌, ◌↔◌, ◌⊎◌, [], ◌∷◌, Option, Some, None, IfOk, IfSome, IsTrue, OnOk};
+ghost use Rattle.std.specs.Prelude.{◌≡◌, ◌↔◌, [], ◌∷◌, Option, Some, None, IfOk, IfSome, IsTrue};
 ghost use Rattle.std.specs.List.{Contains};
 ghost use Rattle.models.specs.Objects.{answer_of};
 ghost use Rattle.events.specs.Events.{act_by, mark_by_act};
 ghost use Rattle.events.specs.Events.Mark.{Crashed, Invoked, Returned};
-ghost use Rattle.wide_cas_register.specs.Facts.{AllFoundWith, AllOfFront, AllOfRow, CanStep, HasDoor, IsDeed, IsDeedOfAnswer, IsDoneBy, IsFoundWith, IsFree, IsPutBefore, IsWithoutId, OfFront, OfRow};
+ghost use Rattle.wide_cas_register.specs.Facts.{AllFoundWith, AllOfFront, AllOfRow, CanStep, IsEffect, IsEffectOfAnswer, IsDoneBy, IsFoundWith, IsFree, IsPutBefore, IsWithoutId, OfFront, OfRow};
 ghost use Rattle.wide_cas_register.specs.declared.row.Row.{Row};
 
 use crate::calls::{Call, What, call_of, what_of};
@@ -16,7 +16,7 @@ use std::alloc::{AllocError, Global};
 
 /// The effect of an event on each row.
 #[derive(Clone, Copy)]
-pub enum Deed {
+pub enum Effect {
     /// It stays.
     Keeps,
     /// A read with this id begins.
@@ -38,62 +38,62 @@ pub enum Deed {
 }
 
 // The effect of an invocation on each row.
-fn deed_of_invoke(calls: &[Call], id: u32, op: &Op) -> Deed
-    ensures { IsDeed calls.now (Invoked id op.now) result }
+fn effect_of_invoke(calls: &[Call], id: u32, op: &Op) -> Effect
+    ensures { IsEffect calls.now (Invoked id op.now) result }
 {
     match what_of(op.name, &op.part) {
-        Some(What::Reads) => Deed::Begins(id),
-        _ => Deed::Keeps,
+        Some(What::Reads) => Effect::Begins(id),
+        _ => Effect::Keeps,
     }
 }
 
 // The effect of the answer of a read on each row.
-fn deed_of_answer(read: Call, part: &Part) -> Deed
-    ensures { IsDeedOfAnswer read (answer_of part.now) result }
+fn effect_of_answer(read: Call, part: &Part) -> Effect
+    ensures { IsEffectOfAnswer read (answer_of part.now) result }
 {
     match part {
-        Part::Nil => Deed::EndsNil(read.id),
-        Part::Int(value) => Deed::EndsRead(read, *value),
-        Part::Pair(_, _) | Part::Set(_) => Deed::Dies,
+        Part::Nil => Effect::EndsNil(read.id),
+        Part::Int(value) => Effect::EndsRead(read, *value),
+        Part::Pair(_, _) | Part::Set(_) => Effect::Dies,
     }
 }
 
 // The effect of an ok on each row.
-fn deed_of_ok(calls: &[Call], id: u32, part: &Part) -> Deed
-    ensures { IsDeed calls.now (Returned id (answer_of part.now)) result }
+fn effect_of_ok(calls: &[Call], id: u32, part: &Part) -> Effect
+    ensures { IsEffect calls.now (Returned id (answer_of part.now)) result }
 {
     match call_of(calls, id) {
-        None => Deed::Dies,
+        None => Effect::Dies,
         Some(call) => match call.what {
-            What::Writes(value) => Deed::EndsWrite(call, value),
-            What::Sets(from, to) => Deed::EndsCas(call, from, to),
-            What::Reads => deed_of_answer(call, part),
+            What::Writes(value) => Effect::EndsWrite(call, value),
+            What::Sets(from, to) => Effect::EndsCas(call, from, to),
+            What::Reads => effect_of_answer(call, part),
         },
     }
 }
 
 // The effect of an info on each row.
-fn deed_of_info(calls: &[Call], id: u32) -> Deed
-    ensures { IsDeed calls.now (Crashed id) result }
+fn effect_of_info(calls: &[Call], id: u32) -> Effect
+    ensures { IsEffect calls.now (Crashed id) result }
 {
     match call_of(calls, id) {
-        None => Deed::Keeps,
+        None => Effect::Keeps,
         Some(call) => match call.what {
-            What::Writes(_) | What::Sets(_, _) => Deed::Keeps,
-            What::Reads => Deed::Leaves(id),
+            What::Writes(_) | What::Sets(_, _) => Effect::Keeps,
+            What::Reads => Effect::Leaves(id),
         },
     }
 }
 
 /// The effect of an event of an operation on each row. The id is that of the operation, and the part of an ok is the answer.
-pub fn deed_of(calls: &[Call], id: u32, kind: EventKind, op: &Op) -> Deed
-    ensures { IsDeed calls.now (mark_by_act id id (act_by kind op.now)) result }
+pub fn effect_of(calls: &[Call], id: u32, kind: EventKind, op: &Op) -> Effect
+    ensures { IsEffect calls.now (mark_by_act id id (act_by kind op.now)) result }
 {
     match kind {
-        EventKind::Invoke => deed_of_invoke(calls, id, op),
-        EventKind::Ok => deed_of_ok(calls, id, &op.part),
-        EventKind::Fail => Deed::Fails(id),
-        EventKind::Info => deed_of_info(calls, id),
+        EventKind::Invoke => effect_of_invoke(calls, id, op),
+        EventKind::Ok => effect_of_ok(calls, id, &op.part),
+        EventKind::Fail => Effect::Fails(id),
+        EventKind::Info => effect_of_info(calls, id),
     }
 }
 
@@ -130,8 +130,8 @@ fn one(alloc: Global, row: Row) -> Result<Vec<Row>, AllocError>
 
 // The operation has failed.
 fn fail(alloc: Global, row: &Row, id: u32) -> Result<Vec<Row>, AllocError>
-    ensures each { IfOk result (λ made. (new : Row) → Contains made.items new → OfRow [] (Deed.Fails id) row.now new) }
-    ensures all { IfOk result (λ made. AllOfRow [] (Deed.Fails id) row.now (Contains made.items)) }
+    ensures each { IfOk result (λ made. (new : Row) → Contains made.items new → OfRow [] (Effect.Fails id) row.now new) }
+    ensures all { IfOk result (λ made. AllOfRow [] (Effect.Fails id) row.now (Contains made.items)) }
 {
     let needed = has_id(&row.needed, id);
     if needed {
@@ -151,8 +151,8 @@ fn end_write(
     value: i64,
 ) -> Result<Vec<Row>, AllocError>
     ensures each { IfOk result (λ made. (new : Row) → Contains made.items new
-        → OfRow calls.now (Deed.EndsWrite write.now value) row.now new) }
-    ensures all { IfOk result (λ made. AllOfRow calls.now (Deed.EndsWrite write.now value) row.now (Contains made.items)) }
+        → OfRow calls.now (Effect.EndsWrite write.now value) row.now new) }
+    ensures all { IfOk result (λ made. AllOfRow calls.now (Effect.EndsWrite write.now value) row.now (Contains made.items)) }
 {
     let needed = has_id(&row.needed, write.id);
     if needed {
@@ -216,8 +216,8 @@ fn end_read(
     value: i64,
 ) -> Result<Vec<Row>, AllocError>
     ensures each { IfOk result (λ made. (new : Row) → Contains made.items new
-        → OfRow calls.now (Deed.EndsRead read.now value) row.now new) }
-    ensures all { IfOk result (λ made. AllOfRow calls.now (Deed.EndsRead read.now value) row.now (Contains made.items)) }
+        → OfRow calls.now (Effect.EndsRead read.now value) row.now new) }
+    ensures all { IfOk result (λ made. AllOfRow calls.now (Effect.EndsRead read.now value) row.now (Contains made.items)) }
 {
     let found = Found {
         read: read.id,
@@ -237,38 +237,38 @@ fn end_read(
     Ok(Vec::new(alloc))
 }
 
-/// The rows that the deed makes of a row. Takes time in proportion to the operations, each with the values that the row finds.
+/// The rows that the effect makes of a row. Takes time in proportion to the operations, each with the values that the row finds.
 pub fn rows_of_row(
     alloc: Global,
     row: &Row,
     calls: &[Call],
-    deed: &Deed,
+    effect: &Effect,
 ) -> Result<Vec<Row>, AllocError>
-    ensures each { IfOk result (λ made. (new : Row) → Contains made.items new → OfRow calls.now deed.now row.now new) }
-    ensures all { IfOk result (λ made. AllOfRow calls.now deed.now row.now (Contains made.items)) }
+    ensures each { IfOk result (λ made. (new : Row) → Contains made.items new → OfRow calls.now effect.now row.now new) }
+    ensures all { IfOk result (λ made. AllOfRow calls.now effect.now row.now (Contains made.items)) }
 {
-    match deed {
-        Deed::Keeps => {
+    match effect {
+        Effect::Keeps => {
             let same = row.copy()?;
             let alone_same = one(alloc, same)?;
             Ok(alone_same)
         }
-        Deed::Begins(id) => {
+        Effect::Begins(id) => {
             let begun = row.with_read(*id)?;
             let alone_begun = one(alloc, begun)?;
             Ok(alone_begun)
         }
-        Deed::Leaves(id) => {
+        Effect::Leaves(id) => {
             let out = row.without(*id)?;
             let alone_out = one(alloc, out)?;
             Ok(alone_out)
         }
-        Deed::Fails(id) => fail(alloc, row, *id),
-        Deed::EndsWrite(write, value) => end_write(alloc, row, calls, write, *value),
-        Deed::EndsCas(cas, _, _) => end_cas(alloc, row, cas),
-        Deed::EndsRead(read, value) => end_read(alloc, row, calls, read, *value),
-        Deed::EndsNil(_) => Ok(Vec::new(alloc)),
-        Deed::Dies => Ok(Vec::new(alloc)),
+        Effect::Fails(id) => fail(alloc, row, *id),
+        Effect::EndsWrite(write, value) => end_write(alloc, row, calls, write, *value),
+        Effect::EndsCas(cas, _, _) => end_cas(alloc, row, cas),
+        Effect::EndsRead(read, value) => end_read(alloc, row, calls, read, *value),
+        Effect::EndsNil(_) => Ok(Vec::new(alloc)),
+        Effect::Dies => Ok(Vec::new(alloc)),
     }
 }
 
@@ -307,37 +307,37 @@ fn read_behind(front: &Front, id: u32, value: i64) -> Result<Option<Row>, AllocE
     Ok(Some(out))
 }
 
-/// The row that the deed makes of a front, if any. Takes time in proportion to the operations, each with the values that the front finds.
+/// The row that the effect makes of a front, if any. Takes time in proportion to the operations, each with the values that the front finds.
 pub fn row_of_front(
     front: &Front,
     calls: &[Call],
     moment: u64,
-    deed: &Deed,
+    effect: &Effect,
 ) -> Result<Option<Row>, AllocError>
-    ensures each { IfOk result (λ (made : Option Row). IfSome made (OfFront calls.now moment deed.now front.now)) }
-    ensures all { IfOk result (λ (made : Option Row). AllOfFront calls.now moment deed.now front.now (λ new. made ≡ Some new)) }
+    ensures each { IfOk result (λ (made : Option Row). IfSome made (OfFront calls.now moment effect.now front.now)) }
+    ensures all { IfOk result (λ (made : Option Row). AllOfFront calls.now moment effect.now front.now (λ new. made ≡ Some new)) }
 {
-    match deed {
-        Deed::EndsWrite(write, _) => {
+    match effect {
+        Effect::EndsWrite(write, _) => {
             let written = done_behind(front, calls, moment, write)?;
             Ok(written)
         }
-        Deed::EndsCas(cas, _, _) => {
+        Effect::EndsCas(cas, _, _) => {
             let set = done_behind(front, calls, moment, cas)?;
             Ok(set)
         }
-        Deed::EndsRead(read, value) => {
+        Effect::EndsRead(read, value) => {
             let answered = read_behind(front, read.id, *value)?;
             Ok(answered)
         }
-        Deed::EndsNil(id) => {
+        Effect::EndsNil(id) => {
             let out = front.row.without(*id)?;
             Ok(Some(out))
         }
-        Deed::Keeps => Ok(None),
-        Deed::Begins(_) => Ok(None),
-        Deed::Leaves(_) => Ok(None),
-        Deed::Fails(_) => Ok(None),
-        Deed::Dies => Ok(None),
+        Effect::Keeps => Ok(None),
+        Effect::Begins(_) => Ok(None),
+        Effect::Leaves(_) => Ok(None),
+        Effect::Fails(_) => Ok(None),
+        Effect::Dies => Ok(None),
     }
 }

@@ -1,5 +1,5 @@
 //! Ends as they are kept.
-ghost use Rattle.std.specs.Prelude.{◌≡◌, ◌<◌, ◌↔◌, ◌⊎◌, ℕ, IfOk, IsTrue, OnOk};
+ghost use Rattle.std.specs.Prelude.{◌≡◌, ◌<◌, ◌↔◌, ◌⊎◌, IfOk, IsTrue, OnOk};
 ghost use Rattle.std.specs.List.{Contains};
 ghost use Rattle.wide_cas_register.specs.Facts.{HasDoor, IsBegun, IsFirst, IsFoundBy, IsPut, IsSame, IsSet, IsWithoutId, is_set};
 ghost use Rattle.wide_cas_register.specs.declared.row.Found.{Found};
@@ -24,7 +24,7 @@ pub struct Row {
     pub finds: Vec<Found>,
 }
 
-// Whether the id is among these. Takes their time.
+// Whether the id is among `ids`. Costs O(ids).
 pub fn has_id(ids: &[u32], id: u32) -> bool
     ensures { IsTrue result ↔ Contains ids.now id }
 {

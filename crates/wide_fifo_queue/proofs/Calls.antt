@@ -1,5 +1,5 @@
--- operations by what they do
-use Rattle.std.proofs.Common.{◌≡◌, ℕ, ℤ, List, refl, sym, ap, ◌∙◌, subst}
+-- operations by their effect
+use Rattle.std.proofs.Common.{◌≡◌, ℤ, List, refl, sym, ap, ◌∙◌}
 use Rattle.std.specs.List.{Contains}
 use Rattle.models.specs.declared.operation.Name.{Name}
 use Rattle.models.specs.declared.operation.Name.TheVariants.{Enqueue, Dequeue}
@@ -10,9 +10,8 @@ use Rattle.models.specs.declared.finding.Answer.TheVariants.{Number}
 use Rattle.models.specs.Objects.{answer_of}
 use Rattle.events.specs.Events.{Mark}
 use Rattle.events.specs.Events.Mark.{Invoked}
-use Rattle.linspec.specs.MarkRule.{AreWellFormed}
 use Rattle.linspec.specs.Twins.{Enqueues, IsEnqueueOf}
-use Rattle.queue_pairs.specs.Pairs.{Dequeues, HasDequeued}
+use Rattle.queue_pairs.specs.Pairs.{Dequeues}
 use Rattle.wide_fifo_queue.specs.declared.known.Call.TheVariants as calls
 use Rattle.wide_fifo_queue.specs.declared.known.Pending.{Pending}
 use Rattle.wide_fifo_queue.specs.Facts.{call_by, Facts, AreFacts}
@@ -44,10 +43,6 @@ answer_number Nil v e = cc
 answer_number (Int a) v e = let q : Number a ≡ Number v = e in let r : a ≡ v = cc in ap Int r
 answer_number (Pair a b) v e = cc
 answer_number (Set those) v e = cc
-
-module _ (ms : List Mark) (well : AreWellFormed ms) where
-  pub enqueue_no_dequeue : (id : ℕ) (v w : ℤ) → IsEnqueueOf ms id v → ¬ HasDequeued ms id w
-  enqueue_no_dequeue id v w a d = no_both a.0 v a.2 (subst Dequeues (one_op ms well id d.op a.0 d.invoked a.1) d.dequeues)
 
 module _ (f : Facts) (ms : List Mark) (facts : AreFacts f ms) (p : Pending) (h : Contains f.pending p) where
   -- the operation of a pending call

@@ -13,7 +13,7 @@ use Rattle.linspec.specs.MarkRule.{id_of, IsNew, MayFollow, AreWellFormed}
 use Rattle.linspec.proofs.Lists.{snoc_cut}
 use Rattle.linspec.proofs.Open.{IsCompletion, was_open, stays_open, open_with_new, open_without_new, new_is_open}
 use Rattle.linspec.proofs.Marks.{Precedes-kept}
-use Rattle.linspec.specs.Twins.{IsEnqueueOf, MayEnqueue}
+use Rattle.linspec.specs.Twins.{MayEnqueue}
 use Rattle.queue_pairs.specs.Pairs.{HasDequeued, MayDequeue, IsLate}
 use Rattle.wide_fifo_queue.specs.declared.known.Pending.{Pending}
 use Rattle.wide_fifo_queue.specs.declared.known.Enqueued.{Enqueued}
@@ -65,12 +65,6 @@ module _ (ms : List Mark) (m : Mark) (well : AreWellFormed (ms ++ m ∷ [])) whe
 
   pub invoked_was : (id : ℕ) → IsInvoked ms id → (op : Op) → Contains longer (Invoked id op) → Contains ms (Invoked id op)
   invoked_was id i op h = ⊎_elim (λ k. k) (λ e. absurd (not_last id op i e)) (Contains-push_cases ms m _ h)
-
-  pub stood : (id : ℕ) → IsInvoked ms id → (op : Op) (n : ℕ) → StandsAt longer n (Invoked id op) → StandsAt ms n (Invoked id op)
-  stood id i op n s = ⊎_elim (λ k. k) (λ e. absurd (not_last id op i (sym e.0))) (stands_cases ms m n (Invoked id op) s)
-
-  pub enqueue_is : (id : ℕ) (v : ℤ) → IsEnqueueOf ms id v → IsEnqueueOf longer id v
-  enqueue_is id v a = (a.0, kept _ a.1, a.2)
 
   pub may_enqueue_was : (id : ℕ) (v : ℤ) → IsInvoked ms id → MayEnqueue longer id v → MayEnqueue ms id v
   may_enqueue_was id v i a = ((a.0.0, invoked_was id i a.0.0 a.0.1, a.0.2), λ k. a.1 (kept (Failed id) k))

@@ -1,4 +1,4 @@
--- A judged queue may go to another thread, and threads may share one.
+-- A judged queue can be sent to another thread, and threads can share one.
 use denote.Param.Send.{IsSend, IsSync, sendable}
 use Rattle.std.proofs.Crossing.{crosses}
 use Rattle.persistent.proofs.tree.Tree.TheLaws.TheKnot as tree

@@ -73,9 +73,6 @@ module _ (f : Facts) (ms : List Mark) (facts : AreFacts f ms) (e : Enqueued) (he
   pub pass_in : (w : Waiting) → Contains pass w → Contains f.waiting w × (w.value ≢ e.value)
   pass_in w h = split_in w (Contains-append_left pass rest w h)
 
-  pub rest_in : (w : Waiting) → Contains rest w → Contains f.waiting w × (w.value ≢ e.value)
-  rest_in w h = split_in w (Contains-append_right pass rest w h)
-
   pub old_in : (o : Owed) → Contains old_owed o → Contains f.owed o × (o.value ≢ e.value)
   old_in o h = let k = from_filter (is_other_value e.value) f.owed o h in (k.0, value_differs e.value o k.1)
 

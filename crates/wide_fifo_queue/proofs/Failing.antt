@@ -61,7 +61,7 @@ module _ (f : Facts) (ms : List Mark) (facts : AreFacts f ms) (id : ℕ) (well :
     takers = are;
   }
 
-  -- an operation that is no dequeue gives no value a taker
+  -- only a dequeue gives a value a taker
   pub takers_stay : ((op : Op) → Contains ms (Invoked id op) → (m : MayDequeue ms id) → ⊥) → AreMoments f.takers failed
   takers_stay none = takers_carried f ms facts (Failed id) well (no_ok_is_fail id)
       (λ i m q. (let e : id ≡ i = cc in none m.op (subst (λ j. Contains ms (Invoked j m.op)) (sym e) m.invoked) (subst (MayDequeue ms) (sym e) m)))

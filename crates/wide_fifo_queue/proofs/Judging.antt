@@ -11,7 +11,7 @@ use Rattle.events.specs.Events.{Mark}
 use Rattle.events.specs.Events.Mark.{Invoked, Returned, Failed, Crashed}
 use Rattle.linspec.specs.MarkRule.{MayFollow, AreWellFormed}
 use Rattle.linspec.specs.Orders.{IsLinearizable}
-use Rattle.linspec.proofs.Fronts.{IsLinearizable-append}
+use Rattle.linspec.proofs.Prefixes.{IsLinearizable-append}
 use Rattle.linspec.proofs.Lists.{Contains-nil}
 use Rattle.judging.specs.declared.step.Step.TheVariants.{Alive, Over}
 use Rattle.judging.specs.Meaning.{mark_by, IsAnswer, IsReturn, FrontierView, Costs}
@@ -56,7 +56,7 @@ has_twins f ms facts e h =
       },
     )
 
--- after a mark that may follow, what is not paired is dead
+-- after a mark that may follow, a history that is not paired is dead
 pub dead_after_ok : (f : Facts) (ms : List Mark) → AreFacts f ms → f.late ≡ [] → (id : ℕ) (answer : Answer) → AreWellFormed (ms ++ Returned id answer ∷ []) → ¬ IsPaired (ms ++ Returned id answer ∷ []) → IsDead (ms ++ Returned id answer ∷ [])
 dead_after_ok f ms facts no_late id answer well none =
     (well, λ l. none (paired_if_linearizable (ms ++ Returned id answer ∷ []) well (twins_none (ms ++ Returned id answer ∷ []) (twins_ok ms id answer well (no_twins f ms facts no_late))) l))

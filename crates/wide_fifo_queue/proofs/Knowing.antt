@@ -60,7 +60,7 @@ module _ (f : Facts) (ms : List Mark) (facts : AreFacts f ms) where
   pub is_entry : (e : Enqueued) → Contains f.entered e → MayEnqueue ms e.id e.value
   is_entry e h = entry_enqueues e (facts.entries.is e h)
 
-  -- an enqueue that is done is no late one
+  -- an enqueue that is done is not late
   pub done_entry : (a : ℕ) (v : ℤ) → IsEnqueueOf ms a v → HasReturned ms a → (e : Enqueued) × Contains f.entered e × (e.id ≡ a) × (e.value ≡ v)
   done_entry a v is r =
       let k = facts.entries.all a v (is, returned_not_failed ms facts.well a r.0 r.1) in

@@ -1,9 +1,8 @@
 -- owed values that are served by takers, one by one, exactly where each has a taker of its own in time
-use Rattle.std.proofs.Common.{◌≡◌, ◌≢◌, ◌↔◌, ℕ, ◌+◌, ◌<◌, ◌≤◌, ℤ, ◌⊎◌, inl, inr, ⊎_elim, true, false, cond, nat_eq, List, [], ◌∷◌, length, drop, get_or, refl, sym, ap, ◌∙◌, subst, arith}
+use Rattle.std.proofs.Common.{◌≡◌, ◌≢◌, ℕ, ◌<◌, ◌≤◌, ℤ, ◌⊎◌, inl, inr, ⊎_elim, true, false, cond, nat_eq, List, [], ◌∷◌, length, refl, sym, ap, ◌∙◌, subst, arith}
 use Rattle.std.specs.List.{Contains}
 use Rattle.std.specs.Ordering.{int_eq}
 use Rattle.std.proofs.lemmas.Bool.{cases_Bool, true≢false, eqb-true, eq-eqb}
-use Rattle.std.proofs.lemmas.List.{drop_more, drop_all}
 use Rattle.std.proofs.lemmas.Bool.Decides.{Decides-int_eq}
 use Rattle.linspec.specs.Orders.{Pairwise}
 use Rattle.linspec.proofs.Lists.{Contains-nil, Contains-head, Contains-tail, Contains-cons_cases}
@@ -152,30 +151,3 @@ pub served_no_longer : (takers : List ℕ) (owed : List Owed) → IsServed taker
 served_no_longer takers [] s = omega arith
 served_no_longer [] (o ∷ owed) s = absurd s
 served_no_longer (t ∷ takers) (o ∷ owed) s = let le : length owed ≤ length takers = served_no_longer takers owed s.1 in omega arith
-
--- whether they are served from a place on
-module _ (takers : List ℕ) (owed : List Owed) (at t : ℕ) (o : Owed) (in_takers : at < length takers) (in_owed : at < length owed) (is_t : t ≡ get_or takers at t) (is_o : o ≡ get_or owed at o) where
-  same_takers : drop at takers ≡ t ∷ drop (at + 1) takers
-  same_takers = drop_more takers at t in_takers ∙ ap (λ x. x ∷ drop (at + 1) takers) (sym is_t)
-
-  same_owed : drop at owed ≡ o ∷ drop (at + 1) owed
-  same_owed = drop_more owed at o in_owed ∙ ap (λ x. x ∷ drop (at + 1) owed) (sym is_o)
-
-  first_and_rest : IsServed (drop at takers) (drop at owed) → IsServed (t ∷ drop (at + 1) takers) (o ∷ drop (at + 1) owed)
-  first_and_rest s = subst (λ l. IsServed l (o ∷ drop (at + 1) owed)) same_takers (subst (IsServed (drop at takers)) same_owed s)
-
-  pub served_next : t ≤ o.deadline → IsServed (drop at takers) (drop at owed) ↔ IsServed (drop (at + 1) takers) (drop (at + 1) owed)
-  served_next le = (
-    (λ s. (first_and_rest s).1),
-    (λ s. (let both : IsServed (t ∷ drop (at + 1) takers) (o ∷ drop (at + 1) owed) = (le, s) in
-        subst (IsServed (drop at takers)) (sym same_owed) (subst (λ l. IsServed l (o ∷ drop (at + 1) owed)) (sym same_takers) both))),
-  )
-
-  pub not_served_here : o.deadline < t → ¬ IsServed (drop at takers) (drop at owed)
-  not_served_here lt s = let le : t ≤ o.deadline = (first_and_rest s).0 in omega arith
-
-pub served_at_end : (takers : List ℕ) (owed : List Owed) (at : ℕ) → length owed ≤ at → IsServed (drop at takers) (drop at owed)
-served_at_end takers owed at le = subst (IsServed (drop at takers)) (sym (drop_all at owed le)) (of_none (drop at takers))
-  where
-    of_none : (ts : List ℕ) → IsServed ts []
-    of_none ts = tt

@@ -1,4 +1,4 @@
--- Promise: what is judged, and counted against the budget: a queue is over once two enqueues that have not failed have one value
+-- Promise: the judged histories, and the count against the budget: a queue is over once two enqueues that have not failed have one value
 use Rattle.models.specs.Objects.{Object, fifo_queue}
 use Rattle.linspec.specs.Ends.{Count}
 use Rattle.linspec.specs.Twins.{CountsTwins}

@@ -1,4 +1,4 @@
--- Invariant: what is kept of the history of a queue, where the moment of a mark is how many marks come before it
+-- Invariant: the facts that are kept of the history of a queue. The moment of a mark is the number of marks before it
 use Rattle.std.specs.Prelude.{◌≡◌, ◌≢◌, ℕ, ◌+◌, ◌<◌, ◌≤◌, ℤ, ◌<ℤ◌, ◌⊎◌, Bool, not, nat_eq, Some, None, List, [], ◌∷◌, ◌++◌, length}
 use Rattle.std.specs.List.{Contains}
 use Rattle.std.specs.Ordering.{int_eq}
@@ -81,7 +81,7 @@ pub record Waits (entered : List Enqueued) (marks : List Mark) (v : ℤ) (moment
   pub answer : Answer
   pub stands : StandsAt marks moment (Returned entry.id answer)
 
--- what came in by this moment was passed over: a value whose enqueue was invoked after it was dequeued at that moment
+-- a value that came in by this moment was passed over: a dequeue at the other moment took a value whose enqueue was invoked later
 pub record IsPassed (entered : List Enqueued) (by moment : ℕ) : Type 0 where
   pub entry : Enqueued
   pub here : Contains entered entry

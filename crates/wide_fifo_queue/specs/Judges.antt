@@ -1,4 +1,4 @@
--- Invariant: what an event is answered
+-- Invariant: the answer to an event
 use Rattle.std.specs.Prelude.{Bool, true, false, Option, Some, None}
 use Rattle.events.specs.declared.event.EventKind.{EventKind}
 use Rattle.events.specs.declared.event.EventKind.TheVariants.{Invoke, Ok, Fail, Info}
@@ -29,7 +29,7 @@ abbrev pub step_by : Option Known → Step
 step_by None = Dead
 step_by (Some known) = Alive
 
--- what is prepared, or if nothing is, what is known
+-- the prepared facts, or the known ones if nothing is prepared
 abbrev pub next_of : Option (Option Known) → Option Known → Option Known
 next_of None known = known
 next_of (Some next) known = next

@@ -1,4 +1,4 @@
--- Invariant: what is asked of the facts
+-- Invariant: the questions about the facts
 use Rattle.std.specs.Prelude.{◌≡◌, ◌≢◌, ℕ, ◌+◌, ◌<◌, ◌≤◌, ℤ, ◌⊎◌, Option, Some, None, List, get_or, length}
 use Rattle.std.specs.List.{Contains, remove}
 use Rattle.wide_fifo_queue.specs.declared.known.Enqueued.{Enqueued}
@@ -28,7 +28,7 @@ abbrev pub IsInTime : ℕ → Option Owed → Type 0
 IsInTime since None = Unit {0}
 IsInTime since (Some o) = since ≤ o.deadline
 
--- the values that wait but this one, which does not wait where it is owed
+-- the waiting values except this one, which does not wait if it is owed
 abbrev pub IsWaitingBut : List Waiting → ℤ → Option Owed → List Waiting → Type 0
 IsWaitingBut waiting v None others = IsWithoutFirst waiting v others
 IsWaitingBut waiting v (Some o) others = others ≡ waiting

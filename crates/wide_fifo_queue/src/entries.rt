@@ -41,7 +41,7 @@ fn end_of(entered: &Row<Enqueued>, at: usize, value: i64) -> usize
     }
 }
 
-/// The enqueues with this one, in place of one of the same value. O(log n).
+/// The enqueues with this one, which replaces the one of the same value, if there is one. O(log n).
 pub fn with_entry(
     alloc: Global,
     entered: &Row<Enqueued>,

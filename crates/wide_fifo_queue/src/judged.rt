@@ -107,11 +107,12 @@ impl WideFifoQueue {
         })
     }
 
-    /// Prepares an event of an operation, and gives its answer. The id is the index of the operation's invocation: new for an
-    /// invocation, else that of an open operation. The part of an ok is the answer. Over if the event is an ok and two enqueues that have
-    /// not failed have one value: then nothing is prepared. An invocation and an info are answered Alive, since they kill nothing. The
-    /// history stays the same until [`commit`](Self::commit). After `AllocError` no commit must follow. Another prepared event is dropped.
-    /// O(open operations, crashed dequeues, log n in the values), and O(log n) for each value that came in while this one did.
+    /// Prepares an event of an operation, and gives its answer. The id is the index of the operation's invocation: new for an invocation,
+    /// else that of an open operation. The part of an ok is the answer. Over if the event is an ok and two enqueues that have not failed
+    /// have one value: then nothing is prepared. An invocation and an info are answered Alive, since they kill nothing. The history stays
+    /// the same until [`commit`](Self::commit). After `AllocError` no commit must follow. Another prepared event is dropped. O(open
+    /// operations, crashed dequeues, log n in the values), and O(log n) for each value whose enqueue was concurrent with the dequeued
+    /// one's.
     pub fn prepare(&mut self, id: u32, kind: EventKind, op: &Op) -> Result<Step, AllocError>
         ensures { Prepares (view_of self.old) (view_of self.new) counts_more the_object (mark_by id kind op.now) result }
     {
@@ -137,8 +138,8 @@ impl WideFifoQueue {
         }
     }
 
-    /// An event of an operation: [`prepare`](Self::prepare) and [`commit`](Self::commit) in one. After Over, and on `AllocError`, the history
-    /// stays the same.
+    /// An event of an operation: [`prepare`](Self::prepare) and [`commit`](Self::commit) in one. After Over, and on `AllocError`, the
+    /// history stays the same.
     pub fn observe(&mut self, id: u32, kind: EventKind, op: &Op) -> Result<Step, AllocError>
         ensures { Observes (view_of self.old) (view_of self.new) counts_more the_object (mark_by id kind op.now) result }
     {

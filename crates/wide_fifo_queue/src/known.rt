@@ -1,5 +1,5 @@
 //! The known facts of the history of a queue.
-ghost use Rattle.std.specs.Prelude.{◌≡◌, ◌+◌, IfOk};
+ghost use Rattle.std.specs.Prelude.{◌≡◌, IfOk};
 ghost use Rattle.wide_fifo_queue.specs.Facts.{call_by, facts_of, later, no_facts};
 
 use models::{Name, Part};
@@ -17,7 +17,7 @@ pub enum Call {
     Other,
 }
 
-/// An open operation: its id, its call, and how many marks came before its invocation.
+/// An open operation: its id, its call, and the number of marks before its invocation.
 #[derive(Clone, Copy)]
 pub struct Pending {
     pub id: u32,
@@ -25,7 +25,7 @@ pub struct Pending {
     pub since: u64,
 }
 
-/// An enqueue that has not failed: its value, its id, how many marks came before its invocation, and, if the value was dequeued, before the
+/// An enqueue that has not failed: its value, its id, the number of marks before its invocation, and, if the value was dequeued, before the
 /// return of that dequeue.
 #[derive(Clone, Copy)]
 pub struct Enqueued {
@@ -35,14 +35,14 @@ pub struct Enqueued {
     pub taken: Option<u64>,
 }
 
-/// A value whose enqueue is done, and which was not dequeued: how many marks came before the return of the enqueue.
+/// A value whose enqueue is done, and which was not dequeued, with the number of marks before the return of the enqueue.
 #[derive(Clone, Copy)]
 pub struct Waiting {
     pub value: i64,
     pub by: u64,
 }
 
-/// The same of a value that came in before one that was dequeued: and how many marks came before the first return of a dequeue of such a
+/// The same of a value that was enqueued before a dequeued one, with the number of marks before the first return of a dequeue of such a
 /// value.
 #[derive(Clone, Copy)]
 pub struct Owed {
@@ -51,7 +51,7 @@ pub struct Owed {
     pub deadline: u64,
 }
 
-/// The known facts of a history: how many marks it has, the open operations, and its values.
+/// The known facts of a history: the number of its marks, the open operations, and its values.
 #[derive(Drop)]
 pub struct Known {
     pub alloc: Global,
@@ -65,7 +65,7 @@ pub struct Known {
     pub waiting: Row<Waiting>,
     /// The owed ones, by deadline.
     pub owed: Vec<Owed>,
-    /// For each dequeue that is open or has crashed how many marks came before its invocation.
+    /// The number of marks before the invocation of each dequeue that is open or has crashed.
     pub takers: Vec<u64>,
 }
 

@@ -1,5 +1,5 @@
 //! Values that wait, by the return of their enqueue.
-ghost use Rattle.std.specs.Prelude.{◌≡◌, ◌≢◌, ◌<◌, ◌≤◌, [], ◌∷◌, ◌++◌, IfOk, OnOk, length, take, drop, get_or, map};
+ghost use Rattle.std.specs.Prelude.{◌≡◌, ◌<◌, ◌≤◌, [], ◌∷◌, ◌++◌, IfOk, OnOk, length, take, drop, get_or, map};
 ghost use Rattle.std.specs.List.{Contains};
 ghost use Rattle.wide_fifo_queue.specs.declared.known.Waiting.{Waiting};
 ghost use Rattle.wide_fifo_queue.specs.Facts.{owed_by};

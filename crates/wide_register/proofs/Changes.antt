@@ -5,7 +5,7 @@ use Rattle.std.specs.List.{Contains}
 use Rattle.events.specs.Events.{Mark}
 use Rattle.linspec.proofs.Lists.{Contains-head, Contains-cons_cases, Contains-nil, Pairwise-weaker}
 use Rattle.wide_register.specs.declared.calls.Call.{Call}
-use Rattle.wide_register.specs.declared.next.Deed.TheVariants.{Keeps}
+use Rattle.wide_register.specs.declared.next.Effect.TheVariants.{Keeps}
 use Rattle.wide_register.specs.declared.row.Row.{Row}
 use Rattle.wide_register.specs.declared.kept.Kept.{Kept}
 use Rattle.wide_register.specs.declared.kept.Change.{Change}
@@ -47,8 +47,8 @@ is_after m k c moment calls h = by_rows c.rows refl
         record {
           moment = moment;
           calls = calls;
-          deed = Keeps;
-          is_deed = a.0;
+          effect = Keeps;
+          is_effect = a.0;
           each = λ r g. (r, subst (λ (v : Vec Row). Contains v.items r) same g, r, same_itself r, finds_itself (moments_of c.calls.items) r);
           all = λ row g. (
             row ∷ [],
@@ -70,8 +70,8 @@ is_after m k c moment calls h = by_rows c.rows refl
         subst (λ (o : Option (Vec Row)). IsAfter m k (record { moment = c.moment; calls = c.calls; rows = rows_of o k.rows })) (sym e) (record {
           moment = moment;
           calls = calls;
-          deed = a.0;
-          is_deed = a.1;
+          effect = a.0;
+          is_effect = a.1;
           each = a.2.each;
           all = a.2.all;
           apart = λ p. a.2.apart;

@@ -15,10 +15,10 @@ use Rattle.linspec.proofs.Fates.{crashed_or_not}
 use Rattle.wide_register.specs.declared.calls.Call.{Call}
 use Rattle.wide_register.specs.declared.calls.What.{What}
 use Rattle.wide_register.specs.declared.calls.What.TheVariants.{Writes, Reads}
-use Rattle.wide_register.specs.declared.next.Deed.{Deed}
+use Rattle.wide_register.specs.declared.next.Effect.{Effect}
 use Rattle.wide_register.specs.declared.kept.Kept.{Kept}
 use Rattle.wide_register.specs.Counts.{AreTries, IsCounted}
-use Rattle.wide_register.specs.Facts.{AreFacts, IsCall, IsDeed}
+use Rattle.wide_register.specs.Facts.{AreFacts, IsCall, IsEffect}
 use Rattle.judging.specs.Meaning.{HasAtMostPending, StepsOfOk}
 use Rattle.wide_register.proofs.Others.{map_from}
 use Rattle.wide_register.proofs.Pending.{Pairwise-map}
@@ -50,8 +50,8 @@ module _ (k : Kept) (marks : List Mark) (f : AreFacts k marks) where
       length_ids [] = refl
       length_ids (c ∷ cs) = let e = length_ids cs in grind arith
 
-few_tries : (calls : List Call) (id : ℕ) (answer : Answer) (deed : Deed) (t : ℕ) → IsDeed calls (Returned id answer) deed → AreTries calls deed t → t ≤ length calls
-few_tries calls id answer deed t d a = ⊎_elim
+few_tries : (calls : List Call) (id : ℕ) (answer : Answer) (effect : Effect) (t : ℕ) → IsEffect calls (Returned id answer) effect → AreTries calls effect t → t ≤ length calls
+few_tries calls id answer effect t d a = ⊎_elim
     (λ k. (let e : t ≡ 1 = subst (λ x. AreTries calls x t) k.3 a in let l = some_length calls k.0 k.2.0 in omega arith))
     (λ d1. ⊎_elim
     (λ k. (let e : t ≡ 0 = subst (λ x. AreTries calls x t) k.3 a in omega arith))
@@ -66,7 +66,7 @@ pub ok_cost : (budget : ℕ) (k : Kept) (id : ℕ) (answer : Answer) (before aft
 ok_cost budget k id answer before after few c = (
   c.grows,
   λ marks f n p.
-      (let t = few_tries k.calls.items id answer c.deed c.tries c.is_deed c.are_tries in
+      (let t = few_tries k.calls.items id answer c.effect c.tries c.is_effect c.are_tries in
       let l = few_calls k marks f n p in
       let rows : length k.rows.items ≤ budget + 1 = omega arith in
       let tries : c.tries ≤ n = omega arith in
@@ -82,16 +82,16 @@ none_tried k m before after c e =
     grind arith
 
 pub invoke_cost : (k : Kept) (id : ℕ) (op : Op) (before after : ℕ) → IsCounted k (Invoked id op) before after → after ≡ before
-invoke_cost k id op before after c = none_tried k (Invoked id op) before after c (subst (λ x. AreTries k.calls.items x c.tries) c.is_deed c.are_tries)
+invoke_cost k id op before after c = none_tried k (Invoked id op) before after c (subst (λ x. AreTries k.calls.items x c.tries) c.is_effect c.are_tries)
 
 pub fail_cost : (k : Kept) (id : ℕ) (before after : ℕ) → IsCounted k (Failed id) before after → after ≡ before
-fail_cost k id before after c = none_tried k (Failed id) before after c (subst (λ x. AreTries k.calls.items x c.tries) c.is_deed c.are_tries)
+fail_cost k id before after c = none_tried k (Failed id) before after c (subst (λ x. AreTries k.calls.items x c.tries) c.is_effect c.are_tries)
 
 pub crash_cost : (k : Kept) (id : ℕ) (before after : ℕ) → IsCounted k (Crashed id) before after → after ≡ before
 crash_cost k id before after c = none_tried k (Crashed id) before after c (⊎_elim
     (λ d. subst (λ x. AreTries k.calls.items x c.tries) d.2 c.are_tries)
     (λ d. subst (λ x. AreTries k.calls.items x c.tries) d.1 c.are_tries)
-    c.is_deed)
+    c.is_effect)
 
 pub most_steps : (before rows many tries steps after : ℕ) → many ≡ rows → steps ≤ many * tries → after ≤ before + steps → after ≤ before + rows * tries
 most_steps before rows many tries steps after e s a = let p : many * tries ≡ rows * tries = ap (λ n. n * tries) e in omega (arith, p, s, a)

@@ -6,22 +6,22 @@ use Rattle.std.proofs.lemmas.List.Elements.{Contains-append_left, Contains-appen
 use Rattle.linspec.specs.Orders.{Pairwise}
 use Rattle.linspec.proofs.Lists.{Contains-nil, Pairwise-append}
 use Rattle.wide_register.specs.declared.calls.Call.{Call}
-use Rattle.wide_register.specs.declared.next.Deed.{Deed}
+use Rattle.wide_register.specs.declared.next.Effect.{Effect}
 use Rattle.wide_register.specs.declared.row.Row.{Row}
 use Rattle.wide_register.specs.declared.kept.Kept.{Kept}
 use Rattle.wide_register.specs.declared.gather.Halves.{Halves}
 use Rattle.wide_register.specs.Facts.{AreAllMade, AreApart, AreHalves, AreRowsAfter, FindTheSame, HasLeastGaps, HasNextBy, IsAtMostBy, IsKeptIn, IsMadeOf, IsNextBy, IsOpenIn, moments_of}
 
--- a row of these, and what the deed made of it
-abbrev pub IsMadeOfThese : Kept → List ℕ → Deed → List Row → Row → Type 0
-IsMadeOfThese k moments deed these r =
-    (row : Row) × Contains these row × (made : Row) × IsNextBy k.calls.items k.moment deed row made × FindTheSame moments made r
+-- a row of these, and what the effect made of it
+abbrev pub IsMadeOfThese : Kept → List ℕ → Effect → List Row → Row → Type 0
+IsMadeOfThese k moments effect these r =
+    (row : Row) × Contains these row × (made : Row) × IsNextBy k.calls.items k.moment effect row made × FindTheSame moments made r
 
-abbrev pub Each : Kept → List ℕ → Deed → List Row → List Row → Type 0
-Each k moments deed these made = (r : Row) → Contains made r → IsMadeOfThese k moments deed these r
+abbrev pub Each : Kept → List ℕ → Effect → List Row → List Row → Type 0
+Each k moments effect these made = (r : Row) → Contains made r → IsMadeOfThese k moments effect these r
 
-abbrev pub All : Kept → List ℕ → Deed → List Row → List Row → Type 0
-All k moments deed these made = (row : Row) → Contains these row → (next : List Row) × HasNextBy k.calls.items k.moment deed row next
+abbrev pub All : Kept → List ℕ → Effect → List Row → List Row → Type 0
+All k moments effect these made = (row : Row) → Contains these row → (next : List Row) × HasNextBy k.calls.items k.moment effect row next
     × ((m : Row) → Contains next m → (r : Row) × FindTheSame moments m r × Contains made r)
 
 abbrev pub AllLeast : List ℕ → List Row → Type 0
@@ -30,14 +30,14 @@ AllLeast moments made = (r : Row) → Contains made r → HasLeastGaps moments r
 pub none_least : (moments : List ℕ) (made : List Row) → made ≡ [] → AllLeast moments made
 none_least moments made q r h = absurd (Contains-nil r (subst (λ l. Contains l r) q h))
 
-module _ (k : Kept) (moments : List ℕ) (deed : Deed) (rows : List Row) where
-  pub none_each : (made : List Row) → made ≡ [] → Each k moments deed (take 0 rows) made
+module _ (k : Kept) (moments : List ℕ) (effect : Effect) (rows : List Row) where
+  pub none_each : (made : List Row) → made ≡ [] → Each k moments effect (take 0 rows) made
   none_each made q r h = absurd (Contains-nil r (subst (λ l. Contains l r) q h))
 
-  pub none_all : (made : List Row) → All k moments deed (take 0 rows) made
+  pub none_all : (made : List Row) → All k moments effect (take 0 rows) made
   none_all made row h = absurd (Contains-nil row h)
 
-module _ (k : Kept) (moments : List ℕ) (deed : Deed) (rows zs : List Row) (e : zs ≡ rows) (i : ℕ) where
+module _ (k : Kept) (moments : List ℕ) (effect : Effect) (rows zs : List Row) (e : zs ≡ rows) (i : ℕ) where
   module _ (row : Row) (h : i < length zs) (is : row ≡ get_or zs i row) (made new next : List Row)
       (joined : (r : Row) → Contains new r → Contains made r ⊎ ((m : Row) × Contains next m × FindTheSame moments m r × HasLeastGaps moments r))
       (still : (r : Row) → Contains made r → Contains new r)
@@ -45,16 +45,16 @@ module _ (k : Kept) (moments : List ℕ) (deed : Deed) (rows zs : List Row) (e :
     more : take (i + 1) rows ≡ take i rows ++ row ∷ []
     more = subst (λ l. take (i + 1) l ≡ take i l ++ row ∷ []) e (take_more zs i row h ∙ ap (λ z. take i zs ++ z ∷ []) (sym is))
 
-    pub each_gathered : Each k moments deed (take i rows) made → ((r : Row) → Contains next r → IsNextBy k.calls.items k.moment deed row r) → Each k moments deed (take (i + 1) rows) new
+    pub each_gathered : Each k moments effect (take i rows) made → ((r : Row) → Contains next r → IsNextBy k.calls.items k.moment effect row r) → Each k moments effect (take (i + 1) rows) new
     each_gathered before each r g = ⊎_elim
         (λ j. (let b = before r j in (b.0, subst (λ l. Contains l b.0) (sym more) (Contains-append_left (take i rows) (row ∷ []) b.0 b.1), b.2, b.3, b.4)))
         (λ m. (row, subst (λ l. Contains l row) (sym more) (Contains-push (take i rows) row), m.0, each m.0 m.1, m.2))
         (joined r g)
 
-    pub all_gathered : All k moments deed (take i rows) made → HasNextBy k.calls.items k.moment deed row next → All k moments deed (take (i + 1) rows) new
+    pub all_gathered : All k moments effect (take i rows) made → HasNextBy k.calls.items k.moment effect row next → All k moments effect (take (i + 1) rows) new
     all_gathered before all x g = ⊎_elim
         (λ j. (let b = before x j in (b.0, b.1, (λ m n. (let r = b.2 m n in (r.0, r.1, still r.0 r.2))))))
-        (λ q. (next, subst (λ y. HasNextBy k.calls.items k.moment deed y next) q all, taken))
+        (λ q. (next, subst (λ y. HasNextBy k.calls.items k.moment effect y next) q all, taken))
         (Contains-push_cases (take i rows) row x (subst (λ l. Contains l x) more g))
 
     pub least_gathered : AllLeast moments made → AllLeast moments new
@@ -64,11 +64,11 @@ module _ (k : Kept) (moments : List ℕ) (deed : Deed) (rows zs : List Row) (e :
     whole : take i rows ≡ rows
     whole = take_all i rows (subst (λ l. length l ≤ i) e most)
 
-    pub each_at_end : Each k moments deed (take i rows) made → Each k moments deed rows made
-    each_at_end h = subst (λ l. Each k moments deed l made) whole h
+    pub each_at_end : Each k moments effect (take i rows) made → Each k moments effect rows made
+    each_at_end h = subst (λ l. Each k moments effect l made) whole h
 
-    pub all_at_end : All k moments deed (take i rows) made → All k moments deed rows made
-    all_at_end h = subst (λ l. All k moments deed l made) whole h
+    pub all_at_end : All k moments effect (take i rows) made → All k moments effect rows made
+    all_at_end h = subst (λ l. All k moments effect l made) whole h
 
 -- of several rows one is put behind others, as far as reads that were invoked at these moments may tell
 module _ (moments : List ℕ) (first all more rows rest new : List Row) (row made : Row) (cut : more ≡ rest ++ row ∷ []) (pushed : new ≡ rows ++ made ∷ []) where
@@ -111,12 +111,12 @@ module _ (moments : List ℕ) (all more rows rest new : List Row) (row made : Ro
       (λ k. inr (k.0, k.1, still_joined rows new made pushed k.0 k.2))
       (was m h)
 
--- the rows that are left after a deed
-pub rows_after : (k : Kept) (deed : Deed) (later : List Call) (moments : List ℕ) (made left : List Row) → moments ≡ moments_of later
-    → ((r : Row) → Contains made r → IsMadeOf k moments deed r) → AreAllMade k moments deed (Contains made) → AllLeast moments made
-    → ((r : Row) → Contains left r → Contains made r) → ((r : Row) → Contains made r → IsKeptIn later left r) → AreApart later left → AreRowsAfter k later deed left
-rows_after k deed later moments made left e each all least within kept apart = record {
-  each = λ r h. subst (λ ms. IsMadeOf k ms deed r) e (each r (within r h));
+-- the rows that are left after an effect
+pub rows_after : (k : Kept) (effect : Effect) (later : List Call) (moments : List ℕ) (made left : List Row) → moments ≡ moments_of later
+    → ((r : Row) → Contains made r → IsMadeOf k moments effect r) → AreAllMade k moments effect (Contains made) → AllLeast moments made
+    → ((r : Row) → Contains left r → Contains made r) → ((r : Row) → Contains made r → IsKeptIn later left r) → AreApart later left → AreRowsAfter k later effect left
+rows_after k effect later moments made left e each all least within kept apart = record {
+  each = λ r h. subst (λ ms. IsMadeOf k ms effect r) e (each r (within r h));
   all = λ row h. (let n = all row h in (n.0, n.1, (λ m i. (let r = n.2 m i in (r.0, subst (λ ms. FindTheSame ms m r.0) e r.1, kept r.0 r.2)))));
   apart = apart;
   gaps = λ r h. subst (λ ms. HasLeastGaps ms r) e (least r (within r h));

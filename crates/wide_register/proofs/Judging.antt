@@ -5,8 +5,9 @@ use Rattle.std.specs.declared.alloc.AllocError.{AllocError}
 use Rattle.std.specs.List.{Contains}
 use Rattle.std.proofs.lemmas.Bool.{true≢false}
 use Rattle.models.specs.declared.operation.Op.{Op}
-use Rattle.models.specs.declared.model_kind.ModelKind.TheVariants.{WideRegister as WideRegisterKind}
-use Rattle.models.specs.Objects.{register, object_of, answer_of}
+use Rattle.models.specs.Objects.{register, answer_of}
+use Rattle.kinds.specs.declared.model_kind.ModelKind.TheVariants.{WideRegister as WideRegisterKind}
+use Rattle.kinds.specs.Kinds.{object_of}
 use Rattle.events.specs.declared.event.EventKind.{EventKind}
 use Rattle.events.specs.declared.event.EventKind.TheVariants.{Invoke, Ok, Fail, Info}
 use Rattle.events.specs.Events.{Mark, act_by, mark_by_act}

@@ -3,16 +3,13 @@ use Rattle.std.proofs.Common.{◌≡◌, ℕ, ◌+◌, ◌<◌, ◌≤◌, ℤ, 
 use Rattle.std.specs.List.{Contains}
 use Rattle.std.proofs.lemmas.List.{take_all, take_more}
 use Rattle.std.proofs.lemmas.List.Elements.{Contains-append_left, Contains-push, Contains-push_cases}
-use Rattle.linspec.proofs.Lists.{Contains-nil, Contains-head, Contains-cons_cases}
+use Rattle.linspec.proofs.Lists.{Contains-nil, Contains-head}
 use Rattle.wide_register.specs.declared.calls.Call.{Call}
 use Rattle.wide_register.specs.declared.row.Row.{Row}
 use Rattle.wide_register.specs.Facts.{Has, HasDoor, HasPuts, HasWritten, IsFree, IsPut, IsPutOf, IsWritten}
 
 -- a row alone
 module _ (P : Row → Type 0) (made : List Row) (r : Row) (e : made ≡ r ∷ []) (is : P r) where
-  pub each_alone : (new : Row) → Contains made new → P new
-  each_alone new h = ⊎_elim (λ q. subst P q is) (λ k. absurd (Contains-nil new k)) (Contains-cons_cases r [] new (subst (λ l. Contains l new) e h))
-
   pub has_alone : Has made P
   has_alone = (r, subst (λ l. Contains l r) (sym e) (Contains-head r []), is)
 
@@ -47,7 +44,7 @@ module _ (now : ℕ) (row : Row) where
     write_all behind there = ((λ n. absurd (free n)), (λ n. has_puts made w v w.id may (HasDoor row w) from behind there))
 
 module _ (calls : List Call) (now : ℕ) (row : Row) where
-  -- the ok of a read: so many of the operations were tried
+  -- the ok of a read, after n operations were tried
   module _ (r : Call) (v : ℤ) where
     abbrev pub Doors : Call → Type 0
     Doors c = HasDoor row r × HasDoor row c
@@ -60,12 +57,6 @@ module _ (calls : List Call) (now : ℕ) (row : Row) where
 
     abbrev pub AllTried : ℕ → List Row → Type 0
     AllTried i made = (c : Call) → Contains (take i calls) c → IsFree row v c → HasPuts now c v r.id (Doors c) row made
-
-    pub none_tried_each : (made : List Row) → made ≡ [] → EachTried 0 made
-    none_tried_each made e new h = absurd (Contains-nil new (subst (λ l. Contains l new) e h))
-
-    pub none_tried_all : (made : List Row) → AllTried 0 made
-    none_tried_all made c h f = absurd (Contains-nil c h)
 
     module _ (i : ℕ) (d : Call) (more : i < length calls) (made : List Row) (each : EachTried i made) (all : AllTried i made) where
       abbrev c : Call

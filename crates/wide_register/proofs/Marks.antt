@@ -1,4 +1,4 @@
--- what the deed makes of a row is what the mark makes of its end
+-- what the effect makes of a row is what the mark makes of its end
 use Rattle.std.proofs.Common.{◌≡◌, ◌≢◌, ◌↔◌, ℕ, ◌≤◌, ℤ, ◌⊎◌, inl, inr, ⊎_elim, Bool, true, false, IsTrue, nat_eq, map, Option, Some, None, List, [], ◌∷◌, length, refl, sym, ap, ◌∙◌, subst, arith}
 use Rattle.std.specs.List.{Contains, filter, list_any}
 use Rattle.std.proofs.lemmas.List.Elements.{Contains-append_left, Contains-push, Contains-push_cases}
@@ -16,11 +16,11 @@ use Rattle.lean_ends.proofs.Sound.{IsLeft}
 use Rattle.wide_register.specs.declared.calls.Call.{Call}
 use Rattle.wide_register.specs.declared.calls.What.{What}
 use Rattle.wide_register.specs.declared.calls.What.TheVariants.{Writes, Reads}
-use Rattle.wide_register.specs.declared.next.Deed.{Deed}
-use Rattle.wide_register.specs.declared.next.Deed.TheVariants.{Fails, Keeps}
+use Rattle.wide_register.specs.declared.next.Effect.{Effect}
+use Rattle.wide_register.specs.declared.next.Effect.TheVariants.{Fails, Keeps}
 use Rattle.wide_register.specs.declared.row.Passed.{Passed}
 use Rattle.wide_register.specs.declared.row.Row.{Row}
-use Rattle.wide_register.specs.Facts.{AreCalls, CanFind, Has, HasCall, HasNextBy, IsDeed, IsNextBy, IsSame, IsWithoutId, calls_with, crashed, end_of, is_other, outlives, what_by}
+use Rattle.wide_register.specs.Facts.{AreCalls, CanFind, Has, HasCall, HasNextBy, IsEffect, IsNextBy, IsSame, IsWithoutId, calls_with, crashed, end_of, is_other, outlives, what_by}
 use Rattle.wide_register.proofs.Ends.{needed_from, needed_to, finds_from, finds_to, same_end, without_once, with_read_once}
 use Rattle.wide_register.proofs.Moves.{same_call, without_is, is_read, found_before, found_after}
 use Rattle.wide_register.proofs.Others.{filtered, without_read, door_alike, same_row, with_new, with_crash, HaveDoors, HaveReadsOf, read_was_there, read_outlives}
@@ -113,8 +113,8 @@ module _ (marks : List Mark) (well : AreWellFormed marks) (calls : List Call) (a
     kept : (new : Row) → what_by op.name op.part ≢ Some Reads → IsSame row new → end_of more new ≡ e
     kept new n s = same_row calls more row Doors (no_read_begins calls now id (what_by op.name op.part) n) (here_still calls now id (what_by op.name op.part)) new s.state s.door s.needed s.passed
 
-    pub invoke_each : (deed : Deed) → deed ≡ Keeps → (new : Row) → IsNextBy calls now deed row new → Becomes marks e (Invoked id op) (end_of more new)
-    invoke_each deed d new n = ⊎_elim
+    pub invoke_each : (effect : Effect) → effect ≡ Keeps → (new : Row) → IsNextBy calls now effect row new → Becomes marks e (Invoked id op) (end_of more new)
+    invoke_each effect d new n = ⊎_elim
         (λ q. inl (reads_by op.name op.part q, begun new q s))
         (λ q. inr ((λ r. q (by_reads op r)), kept new q s))
         (reads_or (what_by op.name op.part))
@@ -122,8 +122,8 @@ module _ (marks : List Mark) (well : AreWellFormed marks) (calls : List Call) (a
         s : IsSame row new
         s = subst (λ x. IsNextBy calls now x row new) d n
 
-    pub invoke_all : (deed : Deed) → deed ≡ Keeps → (made : List Row) → HasNextBy calls now deed row made → (f : LeanEnd) → Becomes marks e (Invoked id op) f → Has made (λ new. end_of more new ≡ f)
-    invoke_all deed d made n f b =
+    pub invoke_all : (effect : Effect) → effect ≡ Keeps → (made : List Row) → HasNextBy calls now effect row made → (f : LeanEnd) → Becomes marks e (Invoked id op) f → Has made (λ new. end_of more new ≡ f)
+    invoke_all effect d made n f b =
         let m : Has made (IsSame row) = subst (λ x. HasNextBy calls now x row made) d n in
         ⊎_elim
         (λ j. (m.0, m.1, with_read_once e (end_of more m.0) f id (begun m.0 (by_reads op j.0) m.2) j.1))
@@ -135,13 +135,13 @@ module _ (marks : List Mark) (well : AreWellFormed marks) (calls : List Call) (a
     abbrev others : List Call
     others = filter (is_other id) calls
 
-    pub fail_each : (deed : Deed) → deed ≡ Fails id → (new : Row) → IsNextBy calls now deed row new → Becomes marks e (Failed id) (end_of others new)
-    fail_each deed d new n =
+    pub fail_each : (effect : Effect) → effect ≡ Fails id → (new : Row) → IsNextBy calls now effect row new → Becomes marks e (Failed id) (end_of others new)
+    fail_each effect d new n =
         let k : (¬ Contains row.needed.items id) × IsWithoutId id row new = subst (λ x. IsNextBy calls now x row new) d n in
         ((λ h. k.0 (needed_from calls row id h)), without_is id calls others (filtered id calls) row new k.1)
 
-    pub fail_all : (deed : Deed) → deed ≡ Fails id → (made : List Row) → HasNextBy calls now deed row made → (f : LeanEnd) → Becomes marks e (Failed id) f → Has made (λ new. end_of others new ≡ f)
-    fail_all deed d made n f b =
+    pub fail_all : (effect : Effect) → effect ≡ Fails id → (made : List Row) → HasNextBy calls now effect row made → (f : LeanEnd) → Becomes marks e (Failed id) f → Has made (λ new. end_of others new ≡ f)
+    fail_all effect d made n f b =
         let k : (¬ Contains row.needed.items id) → Has made (IsWithoutId id row) = subst (λ x. HasNextBy calls now x row made) d n in
         let m = k (λ h. b.0 (needed_to calls row id h)) in
         (m.0, m.1, without_once e (end_of others m.0) f id (without_is id calls others (filtered id calls) row m.0 m.2) b.1)
@@ -172,8 +172,8 @@ module _ (marks : List Mark) (well : AreWellFormed marks) (calls : List Call) (a
         cc e)
         s
 
-    pub crash_each : (deed : Deed) → IsDeed calls (Crashed id) deed → (new : Row) → IsNextBy calls now deed row new → Becomes marks e (Crashed id) (end_of left_ones new)
-    crash_each deed d new n = ⊎_elim
+    pub crash_each : (effect : Effect) → IsEffect calls (Crashed id) effect → (new : Row) → IsNextBy calls now effect row new → Becomes marks e (Crashed id) (end_of left_ones new)
+    crash_each effect d new n = ⊎_elim
         (λ k. inl (is_a_read k.0 k.1, without_is id calls left_ones (without_read id calls (all_read k.0 k.1)) row new (subst (λ x. IsNextBy calls now x row new) k.2 n)))
         (λ k. inr (
           (λ r. (let c = read_of r in not_read k.0 c.0 c.1.0 c.1.1 c.1.2)),
@@ -181,8 +181,8 @@ module _ (marks : List Mark) (well : AreWellFormed marks) (calls : List Call) (a
         ))
         d
 
-    pub crash_all : (deed : Deed) → IsDeed calls (Crashed id) deed → (made : List Row) → HasNextBy calls now deed row made → (f : LeanEnd) → Becomes marks e (Crashed id) f → Has made (λ new. end_of left_ones new ≡ f)
-    crash_all deed d made n f b = ⊎_elim
+    pub crash_all : (effect : Effect) → IsEffect calls (Crashed id) effect → (made : List Row) → HasNextBy calls now effect row made → (f : LeanEnd) → Becomes marks e (Crashed id) f → Has made (λ new. end_of left_ones new ≡ f)
+    crash_all effect d made n f b = ⊎_elim
         (λ k.
         let m : Has made (IsWithoutId id row) = subst (λ x. HasNextBy calls now x row made) k.2 n in
         ⊎_elim

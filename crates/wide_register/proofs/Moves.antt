@@ -116,7 +116,7 @@ module _ (marks : List Mark) (well : AreWellFormed marks) (calls : List Call) (a
     abbrev f : LeanEnd
     f = end_of those new
 
-    -- what may be found in the row that is put, by a read that was invoked at the moment
+    -- the values that a read invoked at the moment may find in the new row
     abbrev Behind : ℤ → ℕ → Type 0
     Behind u t = CanFind row u t ⊎ (u ≡ v)
 

@@ -12,10 +12,10 @@ use Rattle.lean_ends.proofs.Once.{read_no_write, same_value}
 use Rattle.lean_ends.proofs.Sound.{IsLeft}
 use Rattle.wide_register.specs.declared.calls.Call.{Call}
 use Rattle.wide_register.specs.declared.calls.What.TheVariants.{Writes, Reads}
-use Rattle.wide_register.specs.declared.next.Deed.{Deed}
-use Rattle.wide_register.specs.declared.next.Deed.TheVariants.{EndsWrite, EndsRead}
+use Rattle.wide_register.specs.declared.next.Effect.{Effect}
+use Rattle.wide_register.specs.declared.next.Effect.TheVariants.{EndsWrite, EndsRead}
 use Rattle.wide_register.specs.declared.row.Row.{Row}
-use Rattle.wide_register.specs.Facts.{AreCalls, CanFind, Has, HasCall, HasDoor, HasNextBy, HasPuts, IsDeed, IsNextBy, IsPutOf, IsWithoutId, end_of, is_other}
+use Rattle.wide_register.specs.Facts.{AreCalls, CanFind, Has, HasCall, HasDoor, HasNextBy, HasPuts, IsEffect, IsNextBy, IsPutOf, IsWithoutId, end_of, is_other}
 use Rattle.wide_register.proofs.Ends.{needed_from, needed_to, door_from, door_to, finds_from, finds_to, without_once, behind_once, before_once}
 use Rattle.wide_register.proofs.Moves.{same_call, without_is, is_behind, is_before, is_read, is_write}
 use Rattle.wide_register.proofs.Others.{filtered}
@@ -139,7 +139,7 @@ module _ (marks : List Mark) (well : AreWellFormed marks) (calls : List Call) (a
         ))
         b
 
-  module _ (id : ℕ) (answer : Answer) (open' : IsOpen marks id) (deed : Deed) where
+  module _ (id : ℕ) (answer : Answer) (open' : IsOpen marks id) (effect : Effect) where
     abbrev after : List Call
     after = filter (is_other id) calls
 
@@ -164,7 +164,7 @@ module _ (marks : List Mark) (well : AreWellFormed marks) (calls : List Call) (a
         (λ w. (ap (λ (x : Call). x.what) (same_call calls are.once c w.0 h w.1.0 (q ∙ sym w.1.1)) ∙ w.1.2, w.2, w.3))
         s
 
-    pub ok_each : IsDeed calls (Returned id answer) deed → (new : Row) → IsNextBy calls now deed row new → Becomes marks e (Returned id answer) (end_of after new)
+    pub ok_each : IsEffect calls (Returned id answer) effect → (new : Row) → IsNextBy calls now effect row new → Becomes marks e (Returned id answer) (end_of after new)
     ok_each d new n = ⊎_elim
         (λ k.
         let c = k.0 in
@@ -188,7 +188,7 @@ module _ (marks : List Mark) (well : AreWellFormed marks) (calls : List Call) (a
         d1)
         d
 
-    pub ok_all : IsDeed calls (Returned id answer) deed → (made : List Row) → HasNextBy calls now deed row made → (f : LeanEnd) → Becomes marks e (Returned id answer) f → Has made (λ new. end_of after new ≡ f)
+    pub ok_all : IsEffect calls (Returned id answer) effect → (made : List Row) → HasNextBy calls now effect row made → (f : LeanEnd) → Becomes marks e (Returned id answer) f → Has made (λ new. end_of after new ≡ f)
     ok_all d made n f b = ⊎_elim
         (λ k.
         let c = k.0 in

@@ -10,12 +10,12 @@ use Rattle.linspec.specs.LeanEnds.{LeanEnd, Becomes, IsAtMost}
 use Rattle.lean_ends.proofs.Left.{are_left, left_then}
 use Rattle.lean_ends.proofs.Sound.{IsLeft, left_after}
 use Rattle.wide_register.specs.declared.calls.Call.{Call}
-use Rattle.wide_register.specs.declared.next.Deed.{Deed}
-use Rattle.wide_register.specs.declared.next.Deed.TheVariants.{Keeps, Leaves, Fails, EndsWrite, EndsRead, Dies}
+use Rattle.wide_register.specs.declared.next.Effect.{Effect}
+use Rattle.wide_register.specs.declared.next.Effect.TheVariants.{Keeps, Leaves, Fails, EndsWrite, EndsRead, Dies}
 use Rattle.wide_register.specs.declared.row.Passed.{Passed}
 use Rattle.wide_register.specs.declared.row.Row.{Row}
 use Rattle.wide_register.specs.declared.kept.Kept.{Kept}
-use Rattle.wide_register.specs.Facts.{AreCalls, AreFacts, FindTheSame, Has, HasLeastGaps, HasNextBy, IsAfter, IsAtMostBy, IsDeed, IsNextBy, IsPut, calls_after, end_of, moments_of}
+use Rattle.wide_register.specs.Facts.{AreCalls, AreFacts, FindTheSame, Has, HasLeastGaps, HasNextBy, IsAfter, IsAtMostBy, IsEffect, IsNextBy, IsPut, calls_after, end_of, moments_of}
 use Rattle.wide_register.proofs.AtMost.{end_at_most, row_at_most}
 use Rattle.wide_register.proofs.Marks.{invoke_each, invoke_all, fail_each, fail_all, crash_each, crash_all}
 use Rattle.wide_register.proofs.Oks.{ok_each, ok_all}
@@ -38,27 +38,27 @@ well_then marks m well may xs ys n cut = ⊎_elim
         let same : n ≡ r = cc in
         well xs rest n (ap (λ x. xs ++ x ∷ rest) same ∙ f)
 
-module _ (marks : List Mark) (m : Mark) (well : AreWellFormed marks) (may : MayFollow marks m) (calls : List Call) (are : AreCalls calls marks) (row : Row) (low : row.door ≤ length marks) (late : (p : Passed) → Contains row.passed.items p → p.gap ≤ length marks) (left : IsLeft marks (end_of calls row)) (deed : Deed) (is : IsDeed calls m deed) where
+module _ (marks : List Mark) (m : Mark) (well : AreWellFormed marks) (may : MayFollow marks m) (calls : List Call) (are : AreCalls calls marks) (row : Row) (low : row.door ≤ length marks) (late : (p : Passed) → Contains row.passed.items p → p.gap ≤ length marks) (left : IsLeft marks (end_of calls row)) (effect : Effect) (is : IsEffect calls m effect) where
   abbrev after : List Call
   after = calls_after calls (length marks) m
 
   abbrev Each : Type 0
-  Each = (new : Row) → IsNextBy calls (length marks) deed row new → Becomes marks (end_of calls row) m (end_of after new)
+  Each = (new : Row) → IsNextBy calls (length marks) effect row new → Becomes marks (end_of calls row) m (end_of after new)
 
   abbrev All : Type 0
-  All = (made : List Row) → HasNextBy calls (length marks) deed row made → (f : LeanEnd) → Becomes marks (end_of calls row) m f → Has made (λ new. end_of after new ≡ f)
+  All = (made : List Row) → HasNextBy calls (length marks) effect row made → (f : LeanEnd) → Becomes marks (end_of calls row) m f → Has made (λ new. end_of after new ≡ f)
 
-next_each : (marks : List Mark) (m : Mark) (well : AreWellFormed marks) (may : MayFollow marks m) (calls : List Call) (are : AreCalls calls marks) (row : Row) (low : row.door ≤ length marks) (late : (p : Passed) → Contains row.passed.items p → p.gap ≤ length marks) (left : IsLeft marks (end_of calls row)) (deed : Deed) (is : IsDeed calls m deed) → Each marks m well may calls are row low late left deed is
-next_each marks (Invoked id op) well may calls are row low late left deed is = invoke_each marks well calls are row low left id op late deed is
-next_each marks (Returned id answer) well may calls are row low late left deed is = ok_each marks well calls are row low left id answer may deed is
-next_each marks (Failed id) well may calls are row low late left deed is = fail_each marks well calls are row low left id deed is
-next_each marks (Crashed id) well may calls are row low late left deed is = crash_each marks well calls are row low left id may deed is
+next_each : (marks : List Mark) (m : Mark) (well : AreWellFormed marks) (may : MayFollow marks m) (calls : List Call) (are : AreCalls calls marks) (row : Row) (low : row.door ≤ length marks) (late : (p : Passed) → Contains row.passed.items p → p.gap ≤ length marks) (left : IsLeft marks (end_of calls row)) (effect : Effect) (is : IsEffect calls m effect) → Each marks m well may calls are row low late left effect is
+next_each marks (Invoked id op) well may calls are row low late left effect is = invoke_each marks well calls are row low left id op late effect is
+next_each marks (Returned id answer) well may calls are row low late left effect is = ok_each marks well calls are row low left id answer may effect is
+next_each marks (Failed id) well may calls are row low late left effect is = fail_each marks well calls are row low left id effect is
+next_each marks (Crashed id) well may calls are row low late left effect is = crash_each marks well calls are row low left id may effect is
 
-next_all : (marks : List Mark) (m : Mark) (well : AreWellFormed marks) (may : MayFollow marks m) (calls : List Call) (are : AreCalls calls marks) (row : Row) (low : row.door ≤ length marks) (late : (p : Passed) → Contains row.passed.items p → p.gap ≤ length marks) (left : IsLeft marks (end_of calls row)) (deed : Deed) (is : IsDeed calls m deed) → All marks m well may calls are row low late left deed is
-next_all marks (Invoked id op) well may calls are row low late left deed is = invoke_all marks well calls are row low left id op late deed is
-next_all marks (Returned id answer) well may calls are row low late left deed is = ok_all marks well calls are row low left id answer may deed is
-next_all marks (Failed id) well may calls are row low late left deed is = fail_all marks well calls are row low left id deed is
-next_all marks (Crashed id) well may calls are row low late left deed is = crash_all marks well calls are row low left id may deed is
+next_all : (marks : List Mark) (m : Mark) (well : AreWellFormed marks) (may : MayFollow marks m) (calls : List Call) (are : AreCalls calls marks) (row : Row) (low : row.door ≤ length marks) (late : (p : Passed) → Contains row.passed.items p → p.gap ≤ length marks) (left : IsLeft marks (end_of calls row)) (effect : Effect) (is : IsEffect calls m effect) → All marks m well may calls are row low late left effect is
+next_all marks (Invoked id op) well may calls are row low late left effect is = invoke_all marks well calls are row low left id op late effect is
+next_all marks (Returned id answer) well may calls are row low late left effect is = ok_all marks well calls are row low left id answer may effect is
+next_all marks (Failed id) well may calls are row low late left effect is = fail_all marks well calls are row low left id effect is
+next_all marks (Crashed id) well may calls are row low late left effect is = crash_all marks well calls are row low left id may effect is
 
 put_door : {P Q : Type 0} (row new : Row) (now : ℕ) → row.door ≤ now → (P → new.door ≡ now) → (Q → new.door ≡ row.door) → P ⊎ Q → new.door ≤ now
 put_door row new now low p q h = ⊎_elim (λ x. (let d = p x in omega arith)) (λ x. (let d = q x in omega arith)) h
@@ -66,7 +66,7 @@ put_door row new now low p q h = ⊎_elim (λ x. (let d = p x in omega arith)) (
 same_door : (row new : Row) (now : ℕ) → row.door ≤ now → new.door ≡ row.door → new.door ≤ now
 same_door row new now low d = omega arith
 
-next_door : (calls : List Call) (now : ℕ) (deed : Deed) (row new : Row) → row.door ≤ now → IsNextBy calls now deed row new → new.door ≤ now
+next_door : (calls : List Call) (now : ℕ) (effect : Effect) (row new : Row) → row.door ≤ now → IsNextBy calls now effect row new → new.door ≤ now
 next_door calls now Keeps row new low n = same_door row new now low n.door
 next_door calls now (Leaves id) row new low n = same_door row new now low n.door
 next_door calls now (Fails id) row new low n = same_door row new now low n.1.door
@@ -124,9 +124,9 @@ module _ (m : Mark) (k new : Kept) (a : IsAfter m k new) (marks : List Mark) (f 
   told : (made r : Row) → FindTheSame (moments_of those) made r → end_of those r ≡ end_of those made
   told made r s = end_told those made r s
 
-  becomes : (row : Row) → Contains k.rows.items row → (r : Row) → IsNextBy calls k.moment a.deed row r → Becomes marks (end_of calls row) m (end_of those r)
+  becomes : (row : Row) → Contains k.rows.items row → (r : Row) → IsNextBy calls k.moment a.effect row r → Becomes marks (end_of calls row) m (end_of those r)
   becomes row h r n = subst (λ c. Becomes marks (end_of calls row) m (end_of c r)) (sym calls_are)
-      (next_each marks m f.well may calls f.calls row (low row h) (late row h) (left row h) a.deed a.is_deed r (subst (λ t. IsNextBy calls t a.deed row r) f.now n))
+      (next_each marks m f.well may calls f.calls row (low row h) (late row h) (left row h) a.effect a.is_effect r (subst (λ t. IsNextBy calls t a.effect row r) f.now n))
 
   each : (e : LeanEnd) → Contains nexts e → (d : LeanEnd) × Contains ends d × Becomes marks d m e
   each e h =
@@ -138,8 +138,8 @@ module _ (m : Mark) (k new : Kept) (a : IsAfter m k new) (marks : List Mark) (f 
   of_row : (row : Row) → Contains k.rows.items row → (e : LeanEnd) → Becomes marks (end_of calls row) m e → (g : LeanEnd) × Contains nexts g × IsAtMost longer e g
   of_row row h e b =
       let made = a.all row h in
-      let n = subst (λ t. HasNextBy calls t a.deed row made.0) f.now made.1 in
-      let x = next_all marks m f.well may calls f.calls row (low row h) (late row h) (left row h) a.deed a.is_deed made.0 n e b in
+      let n = subst (λ t. HasNextBy calls t a.effect row made.0) f.now made.1 in
+      let x = next_all marks m f.well may calls f.calls row (low row h) (late row h) (left row h) a.effect a.is_effect made.0 n e b in
       let r = made.2 x.0 x.1 in
       let is : end_of those r.0 ≡ e = told x.0 r.0 r.1 ∙ ap (λ c. end_of c x.0) calls_are ∙ x.2 in
       let q = r.2 in
@@ -169,7 +169,7 @@ module _ (m : Mark) (k new : Kept) (a : IsAfter m k new) (marks : List Mark) (f 
   door_after : (r : Row) → Contains new.rows.items r → r.door ≤ new.moment
   door_after r h =
       let row = a.each r h in
-      let d = next_door calls k.moment a.deed row.0 row.2 (f.doors row.0 row.1) row.3 in
+      let d = next_door calls k.moment a.effect row.0 row.2 (f.doors row.0 row.1) row.3 in
       let e : r.door ≡ row.2.door = row.4.door in
       let n = a.moment in
       omega arith

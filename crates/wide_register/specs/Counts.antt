@@ -2,22 +2,22 @@
 use Rattle.std.specs.Prelude.{◌≡◌, ℕ, ◌+◌, ◌*◌, ◌≤◌, List, length}
 use Rattle.events.specs.Events.{Mark}
 use Rattle.wide_register.specs.declared.calls.Call.{Call}
-use Rattle.wide_register.specs.declared.next.Deed.{Deed}
-use Rattle.wide_register.specs.declared.next.Deed.TheVariants.{EndsWrite, EndsRead}
+use Rattle.wide_register.specs.declared.next.Effect.{Effect}
+use Rattle.wide_register.specs.declared.next.Effect.TheVariants.{EndsWrite, EndsRead}
 use Rattle.wide_register.specs.declared.kept.Kept.{Kept}
-use Rattle.wide_register.specs.Facts.{IsDeed}
+use Rattle.wide_register.specs.Facts.{IsEffect}
 
--- this many operations are tried at each row: the write of the deed, or the writes of the value that was read
-abbrev pub AreTries : List Call → Deed → ℕ → Type 0
+-- this many operations are tried at each row: the write of the effect, or the writes of the value that was read
+abbrev pub AreTries : List Call → Effect → ℕ → Type 0
 AreTries calls (EndsWrite w v) n = n ≡ 1
 AreTries calls (EndsRead r v) n = n ≤ length calls
 AreTries calls _ n = n ≡ 0
 
 -- the count of steps before a mark and after it
 pub record IsCounted (k : Kept) (m : Mark) (before after : ℕ) : Type 0 where
-  pub deed : Deed
-  pub is_deed : IsDeed k.calls.items m deed
+  pub effect : Effect
+  pub is_effect : IsEffect k.calls.items m effect
   pub tries : ℕ
-  pub are_tries : AreTries k.calls.items deed tries
+  pub are_tries : AreTries k.calls.items effect tries
   pub grows : before ≤ after
   pub most : after ≤ before + length k.rows.items * tries

@@ -11,8 +11,8 @@ use Rattle.wide_register.specs.declared.calls.What.{What}
 use Rattle.wide_register.specs.declared.calls.What.TheVariants.{Writes, Reads}
 use Rattle.wide_register.specs.declared.row.Passed.{Passed}
 use Rattle.wide_register.specs.declared.row.Row.{Row}
-use Rattle.wide_register.specs.declared.next.Deed.{Deed}
-use Rattle.wide_register.specs.declared.next.Deed.TheVariants.{Keeps, Leaves, Fails, EndsWrite, EndsRead, Dies}
+use Rattle.wide_register.specs.declared.next.Effect.{Effect}
+use Rattle.wide_register.specs.declared.next.Effect.TheVariants.{Keeps, Leaves, Fails, EndsWrite, EndsRead, Dies}
 use Rattle.std.specs.Global.{Vec}
 use Rattle.wide_register.specs.declared.kept.Kept.{Kept}
 use Rattle.wide_register.specs.declared.kept.Change.{Change}
@@ -99,8 +99,8 @@ HasLeastGaps moments row =
 abbrev pub moments_of : List Call → List ℕ
 moments_of calls = map (λ (c : Call). c.since) (filter (λ (c : Call). is_read c.what) calls)
 
--- the write takes place, before the gap this value may be found from then on, and this state is left behind all; the operation that is
--- done by it is out
+-- the write takes place. From then on this value may be found before the gap, and this state is left behind all. The operation that ends by it
+-- is out
 pub record IsPut (write : ℕ) (value : Option ℤ) (gap : ℕ) (state : Option ℤ) (out : ℕ) (row new : Row) : Type 0 where
   pub state_is : new.state ≡ state
   pub needed : (i : ℕ) → Contains new.needed.items i ↔ (((i ≡ write) ⊎ Contains row.needed.items i) × (i ≢ out))
@@ -139,7 +139,7 @@ end_of calls row = record {
   finds = λ r v. list_any (λ (c : Call). (nat_eq c.id r && is_read c.what) && can_find row v c.since) calls;
 }
 
--- a row that needs the operation needs another one's if it is open, and may be passed by it only where the other one may
+-- if the operation is open and the row needs it, the other row needs it. If the row's door is open to it, so is the door of the other row
 pub record FitsAt (row other : Row) (c : Call) : Type 0 where
   pub needed : Contains row.needed.items c.id → c.is_open ≡ true → Contains other.needed.items c.id
   pub door : HasDoor row c → c.since < other.door
@@ -216,8 +216,8 @@ HasWritten now w v row made =
     (Contains row.needed.items w.id → Has made (IsWithoutId w.id row))
     × ((¬ Contains row.needed.items w.id) → HasPuts now w v w.id (HasDoor row w) row made)
 
--- the effect of the deed on the row
-abbrev pub IsNextBy : List Call → ℕ → Deed → Row → Row → Type 0
+-- the effect of the effect on the row
+abbrev pub IsNextBy : List Call → ℕ → Effect → Row → Row → Type 0
 IsNextBy calls now Keeps row new = IsSame row new
 IsNextBy calls now (Leaves id) row new = IsWithoutId id row new
 IsNextBy calls now (Fails id) row new = (¬ Contains row.needed.items id) × IsWithoutId id row new
@@ -228,8 +228,8 @@ IsNextBy calls now (EndsRead r v) row new =
     × ((c : Call) × Contains calls c × IsFree row v c × IsPutOf now c v r.id (HasDoor row r × HasDoor row c) row new))
 IsNextBy calls now Dies row new = ⊥
 
--- all that the deed makes of the row is among these
-abbrev pub HasNextBy : List Call → ℕ → Deed → Row → List Row → Type 0
+-- all that the effect makes of the row is among these
+abbrev pub HasNextBy : List Call → ℕ → Effect → Row → List Row → Type 0
 HasNextBy calls now Keeps row made = Has made (IsSame row)
 HasNextBy calls now (Leaves id) row made = Has made (IsWithoutId id row)
 HasNextBy calls now (Fails id) row made =
@@ -245,26 +245,26 @@ HasNextBy calls now Dies row made = Unit {0}
 abbrev pub HasCall : List Call → ℕ → What → Call → Type 0
 HasCall calls id what c = Contains calls c × (c.id ≡ id) × (c.what ≡ what)
 
--- the deed is that of the read with this answer
-abbrev pub IsDeedOfAnswer : Call → Answer → Deed → Type 0
-IsDeedOfAnswer read answer deed =
-    ((answer ≡ Nothing) × (deed ≡ Leaves read.id))
-    ⊎ ((v : ℤ) × (answer ≡ Number v) × (deed ≡ EndsRead read v))
-    ⊎ ((deed ≡ Dies) × (answer ≢ Nothing) × ((v : ℤ) → answer ≢ Number v))
+-- the effect is that of the read with this answer
+abbrev pub IsEffectOfAnswer : Call → Answer → Effect → Type 0
+IsEffectOfAnswer read answer effect =
+    ((answer ≡ Nothing) × (effect ≡ Leaves read.id))
+    ⊎ ((v : ℤ) × (answer ≡ Number v) × (effect ≡ EndsRead read v))
+    ⊎ ((effect ≡ Dies) × (answer ≢ Nothing) × ((v : ℤ) → answer ≢ Number v))
 
--- the deed is that of the mark
-abbrev pub IsDeed : List Call → Mark → Deed → Type 0
-IsDeed calls (Invoked id op) deed = deed ≡ Keeps
-IsDeed calls (Returned id answer) deed =
-    ((c : Call) × (v : ℤ) × HasCall calls id (Writes v) c × (deed ≡ EndsWrite c v))
-    ⊎ ((c : Call) × HasCall calls id Reads c × (answer ≡ Nothing) × (deed ≡ Leaves id))
-    ⊎ ((c : Call) × (v : ℤ) × HasCall calls id Reads c × (answer ≡ Number v) × (deed ≡ EndsRead c v))
-    ⊎ ((deed ≡ Dies) × (((c : Call) → Contains calls c → c.id ≢ id)
+-- the effect is that of the mark
+abbrev pub IsEffect : List Call → Mark → Effect → Type 0
+IsEffect calls (Invoked id op) effect = effect ≡ Keeps
+IsEffect calls (Returned id answer) effect =
+    ((c : Call) × (v : ℤ) × HasCall calls id (Writes v) c × (effect ≡ EndsWrite c v))
+    ⊎ ((c : Call) × HasCall calls id Reads c × (answer ≡ Nothing) × (effect ≡ Leaves id))
+    ⊎ ((c : Call) × (v : ℤ) × HasCall calls id Reads c × (answer ≡ Number v) × (effect ≡ EndsRead c v))
+    ⊎ ((effect ≡ Dies) × (((c : Call) → Contains calls c → c.id ≢ id)
     ⊎ ((c : Call) × HasCall calls id Reads c × (answer ≢ Nothing) × ((v : ℤ) → answer ≢ Number v))))
-IsDeed calls (Failed id) deed = deed ≡ Fails id
-IsDeed calls (Crashed id) deed =
-    ((c : Call) × HasCall calls id Reads c × (deed ≡ Leaves id))
-    ⊎ ((((c : Call) → Contains calls c → c.id ≢ id) ⊎ ((c : Call) × (v : ℤ) × HasCall calls id (Writes v) c)) × (deed ≡ Keeps))
+IsEffect calls (Failed id) effect = effect ≡ Fails id
+IsEffect calls (Crashed id) effect =
+    ((c : Call) × HasCall calls id Reads c × (effect ≡ Leaves id))
+    ⊎ ((((c : Call) → Contains calls c → c.id ≢ id) ⊎ ((c : Call) × (v : ℤ) × HasCall calls id (Writes v) c)) × (effect ≡ Keeps))
 
 -- the operations but this one
 abbrev pub is_other : ℕ → Call → Bool
@@ -288,42 +288,42 @@ calls_after calls now (Returned id answer) = filter (is_other id) calls
 calls_after calls now (Failed id) = filter (is_other id) calls
 calls_after calls now (Crashed id) = map (crashed id) (filter (outlives id) calls)
 
--- the deed makes the row of one of these, as far as reads that were invoked at these moments may tell
-abbrev pub IsMadeOf : Kept → List ℕ → Deed → Row → Type 0
-IsMadeOf k moments deed r =
-    (row : Row) × Contains k.rows.items row × (made : Row) × IsNextBy k.calls.items k.moment deed row made
+-- the effect makes the row of one of these, as far as reads that were invoked at these moments may tell
+abbrev pub IsMadeOf : Kept → List ℕ → Effect → Row → Type 0
+IsMadeOf k moments effect r =
+    (row : Row) × Contains k.rows.items row × (made : Row) × IsNextBy k.calls.items k.moment effect row made
     × FindTheSame moments made r
 
--- of all that the deed makes of these rows, as far as such reads may tell, there is one that is so
-abbrev pub AreAllMade : Kept → List ℕ → Deed → (Row → Type 0) → Type 0
-AreAllMade k moments deed P =
-    (row : Row) → Contains k.rows.items row → (made : List Row) × HasNextBy k.calls.items k.moment deed row made
+-- of all that the effect makes of these rows, as far as such reads may tell, there is one that is so
+abbrev pub AreAllMade : Kept → List ℕ → Effect → (Row → Type 0) → Type 0
+AreAllMade k moments effect P =
+    (row : Row) → Contains k.rows.items row → (made : List Row) × HasNextBy k.calls.items k.moment effect row made
     × ((m : Row) → Contains made m → (r : Row) × FindTheSame moments m r × P r)
 
 -- the mark makes the second of the first
 pub record IsAfter (m : Mark) (k new : Kept) : Type 0 where
   pub moment : new.moment ≡ k.moment + 1
   pub calls : new.calls.items ≡ calls_after k.calls.items k.moment m
-  pub deed : Deed
-  pub is_deed : IsDeed k.calls.items m deed
-  pub each : (r : Row) → Contains new.rows.items r → IsMadeOf k (moments_of new.calls.items) deed r
-  pub all : AreAllMade k (moments_of new.calls.items) deed (IsKeptIn new.calls.items new.rows.items)
+  pub effect : Effect
+  pub is_effect : IsEffect k.calls.items m effect
+  pub each : (r : Row) → Contains new.rows.items r → IsMadeOf k (moments_of new.calls.items) effect r
+  pub all : AreAllMade k (moments_of new.calls.items) effect (IsKeptIn new.calls.items new.rows.items)
   pub apart : AreApart k.calls.items k.rows.items → AreApart new.calls.items new.rows.items
   pub gaps : ((row : Row) → Contains k.rows.items row → HasLeastGaps (moments_of k.calls.items) row)
       → (r : Row) → Contains new.rows.items r → HasLeastGaps (moments_of new.calls.items) r
 
--- these are the rows after the deed
-pub record AreRowsAfter (k : Kept) (later : List Call) (deed : Deed) (rows : List Row) : Type 0 where
-  pub each : (r : Row) → Contains rows r → IsMadeOf k (moments_of later) deed r
-  pub all : AreAllMade k (moments_of later) deed (IsKeptIn later rows)
+-- these are the rows after the effect
+pub record AreRowsAfter (k : Kept) (later : List Call) (effect : Effect) (rows : List Row) : Type 0 where
+  pub each : (r : Row) → Contains rows r → IsMadeOf k (moments_of later) effect r
+  pub all : AreAllMade k (moments_of later) effect (IsKeptIn later rows)
   pub apart : AreApart later rows
   pub gaps : (r : Row) → Contains rows r → HasLeastGaps (moments_of later) r
 
 -- the rows after the mark, or none if they stay as they are
 abbrev pub AreChanged : Mark → Kept → List Call → Option (Vec Row) → Type 0
 AreChanged m k later None =
-    IsDeed k.calls.items m Keeps × ((c : Call) → Contains k.calls.items c → Contains later c)
-AreChanged m k later (Some rows) = (deed : Deed) × IsDeed k.calls.items m deed × AreRowsAfter k later deed rows.items
+    IsEffect k.calls.items m Keeps × ((c : Call) → Contains k.calls.items c → Contains later c)
+AreChanged m k later (Some rows) = (effect : Effect) × IsEffect k.calls.items m effect × AreRowsAfter k later effect rows.items
 
 -- the rows of a change, or those that stay
 abbrev pub rows_of : Option (Vec Row) → Vec Row → Vec Row

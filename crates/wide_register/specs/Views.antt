@@ -29,7 +29,7 @@ IsStepLeft left kind step =
     ((step ≡ Dead) × (left.rows.items ≡ []) × IsTrue (kills kind))
     ⊎ ((step ≡ Alive) × (¬ ((left.rows.items ≡ []) × IsTrue (kills kind))))
 
--- what is prepared, or if nothing is, what is kept
+-- the prepared facts, or the kept ones if nothing is prepared
 abbrev pub next_of : Option Change → Kept → Kept
 next_of None kept = kept
 next_of (Some change) kept = changed change kept

@@ -1,5 +1,5 @@
 //! The operations of a register that may still take place.
-ghost use Rattle.std.specs.Prelude.{◌≡◌, ◌≢◌, ℕ, IfSome, None};
+ghost use Rattle.std.specs.Prelude.{◌≡◌, ◌≢◌, IfSome, None};
 ghost use Rattle.std.specs.List.{Contains};
 ghost use Rattle.wide_register.specs.Facts.{what_by};
 ghost use Rattle.wide_register.specs.declared.calls.Call.{Call};

@@ -1,16 +1,16 @@
 //! Registers that are judged live.
 ghost use Rattle.std.specs.Prelude.{◌≡◌, ◌↔◌, ◌<◌, [], IfOk, IsTrue, length};
-ghost use Rattle.models.specs.Objects.{object_of};
-ghost use Rattle.models.specs.declared.model_kind.ModelKind.TheVariants.{WideRegister as OfWideRegister};
+ghost use Rattle.kinds.specs.Kinds.{object_of};
+ghost use Rattle.kinds.specs.declared.model_kind.ModelKind.TheVariants.{WideRegister as OfWideRegister};
 ghost use Rattle.events.specs.Events.{act_by, mark_by_act};
 ghost use Rattle.linspec.specs.Counts.{CountsMoreThan};
 ghost use Rattle.judging.specs.Meaning.{Commits, IsCopy, IsStart, Observes, Prepares, mark_by};
 ghost use Rattle.wide_register.specs.Counts.{IsCounted};
-ghost use Rattle.wide_register.specs.Facts.{IsDeed, changed};
+ghost use Rattle.wide_register.specs.Facts.{changed};
 ghost use Rattle.wide_register.specs.Views.{IsStepLeft, is_an_ok, kills, view_of};
 
 use crate::kept::{Change, Kept};
-use crate::next::{deed_of, tries_of};
+use crate::next::{effect_of, tries_of};
 use events::EventKind;
 use judging::Step;
 use models::Op;
@@ -93,12 +93,12 @@ impl WideRegister {
         self.applied
     }
 
-    // How many steps there are after those of an event.
+    // The number of steps after an event.
     fn counted(&self, id: u32, kind: EventKind, op: &Op) -> u64
         ensures { IsCounted self.now.kept (mark_by_act id id (act_by kind op.now)) self.now.applied result }
     {
-        let deed = deed_of(&self.kept.calls, id, kind, op);
-        let tries = tries_of(&self.kept.calls, &deed);
+        let effect = effect_of(&self.kept.calls, id, kind, op);
+        let tries = tries_of(&self.kept.calls, &effect);
         let steps = (self.kept.rows.len() as u64).saturating_mul(tries);
         self.applied.saturating_add(steps)
     }

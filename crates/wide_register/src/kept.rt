@@ -8,7 +8,7 @@ ghost use Rattle.wide_register.specs.declared.row.Row.{Row};
 
 use crate::calls::{Call, What, what_of};
 use crate::gather::gather;
-use crate::next::{Deed, deed_of, next_rows};
+use crate::next::{Effect, effect_of, next_rows};
 use crate::row::Row;
 use events::EventKind;
 use models::Op;
@@ -154,7 +154,7 @@ impl Kept {
         })
     }
 
-    // The moment of the mark after the next; `AllocError` if there are as many marks as can be counted.
+    // The moment after the next mark; `AllocError` if there are as many marks as can be counted.
     fn next_moment(&self) -> Result<u64, AllocError>
         ensures { IfOk result (λ moment. moment ≡ self.now.moment + 1) }
     {
@@ -187,26 +187,36 @@ impl Kept {
         Ok(calls)
     }
 
-    // All that the deed makes of the rows, as far as reads that were invoked at these moments may tell.
-    fn rows_made(&self, alloc: Global, deed: &Deed, moments: &[u64]) -> Result<Vec<Row>, AllocError>
-        ensures each { IfOk result (λ made. (r : Row) → Contains made.items r → IsMadeOf self.now moments.now deed.now r) }
-        ensures all { IfOk result (λ made. AreAllMade self.now moments.now deed.now (Contains made.items)) }
+    // All that the effect makes of the rows, as far as reads that were invoked at these moments may tell.
+    fn rows_made(
+        &self,
+        alloc: Global,
+        effect: &Effect,
+        moments: &[u64],
+    ) -> Result<Vec<Row>, AllocError>
+        ensures each { IfOk result (λ made. (r : Row) → Contains made.items r → IsMadeOf self.now moments.now effect.now r) }
+        ensures all { IfOk result (λ made. AreAllMade self.now moments.now effect.now (Contains made.items)) }
         ensures least { IfOk result (λ made. (r : Row) → Contains made.items r → HasLeastGaps moments.now r) }
     {
         let mut made = Vec::new(alloc);
         for row in &self.rows {
-            let next = next_rows(alloc, row, &self.calls, self.moment, deed)?;
+            let next = next_rows(alloc, row, &self.calls, self.moment, effect)?;
             join(&mut made, next, moments)?;
         }
         Ok(made)
     }
 
     // The rows after the event.
-    fn rows_after(&self, alloc: Global, deed: &Deed, later: &[Call]) -> Result<Vec<Row>, AllocError>
-        ensures { IfOk result (λ left. AreRowsAfter self.now later.now deed.now left.items) }
+    fn rows_after(
+        &self,
+        alloc: Global,
+        effect: &Effect,
+        later: &[Call],
+    ) -> Result<Vec<Row>, AllocError>
+        ensures { IfOk result (λ left. AreRowsAfter self.now later.now effect.now left.items) }
     {
         let moments = moments_of(alloc, later)?;
-        let made = self.rows_made(alloc, deed, &moments)?;
+        let made = self.rows_made(alloc, effect, &moments)?;
         let left = gather(alloc, later, made)?;
         Ok(left)
     }
@@ -226,8 +236,8 @@ impl Kept {
         if matches!(kind, EventKind::Invoke) {
             return Ok(None);
         }
-        let deed = deed_of(&self.calls, id, kind, op);
-        let rows = self.rows_after(alloc, &deed, later)?;
+        let effect = effect_of(&self.calls, id, kind, op);
+        let rows = self.rows_after(alloc, &effect, later)?;
         Ok(Some(rows))
     }
 

@@ -22,7 +22,7 @@ fn has_ids(those: &[u32], these: &[u32]) -> bool
     true
 }
 
-// Whether the value stands here at as late a gap. It most likely is at this place.
+// Whether `those` has the value at a gap that is not earlier. The value is probably at place `at`.
 fn has_passed_at(those: &[Passed], at: usize, passed: Passed) -> bool
     ensures { IsTrue result ↔ IsPassedIn those.now passed }
 {
@@ -32,7 +32,7 @@ fn has_passed_at(those: &[Passed], at: usize, passed: Passed) -> bool
     those.iter().any(|other| other.value == passed.value && passed.gap <= other.gap)
 }
 
-// Whether each value stands there at as late a gap.
+// Whether `those` has each value of `these` at a gap that is not earlier.
 fn has_passed(those: &[Passed], these: &[Passed]) -> bool
     ensures { IsTrue result ↔ ((p : Passed) → Contains these.now p → IsPassedIn those.now p) }
 {
@@ -74,7 +74,7 @@ fn all_fit(calls: &[Call], row: &Row, other: &Row) -> bool
     true
 }
 
-/// Whether the other row may become all that this one may. Costs O(its lists + operations), each with those of the other.
+/// Whether `other` may become every row that `row` may become. Costs O(m n) in the sizes of both rows and the operations.
 pub fn is_at_most(calls: &[Call], row: &Row, other: &Row) -> bool
     ensures { IsTrue result ↔ IsAtMostBy calls.now row.now other.now }
 {
@@ -109,7 +109,7 @@ fn leave_out(rows: &mut Vec<Row>, calls: &[Call], row: &Row)
     rows.retain(|other| !is_at_most(calls, other, row));
 }
 
-/// Puts the row among these, if it is at most none of them, in place of those that are at most it. Costs O(rows).
+/// Adds the row, unless it is at most another row, and removes the rows that are at most this one. Costs a comparison with each row.
 pub fn keep(rows: &mut Vec<Row>, calls: &[Call], row: Row) -> Result<(), AllocError>
     ensures each { OnOk result ((r : Row) → Contains rows.new.items r → Contains rows.old.items r ⊎ (r ≡ row)) }
     ensures old { OnOk result ((r : Row) → Contains rows.old.items r → IsKeptIn calls.now rows.new.items r) }

@@ -5,7 +5,7 @@ ghost use Rattle.models.specs.Objects.{answer_of};
 ghost use Rattle.events.specs.Events.{act_by, mark_by_act};
 ghost use Rattle.events.specs.Events.Mark.{Crashed, Returned};
 ghost use Rattle.wide_register.specs.Counts.{AreTries};
-ghost use Rattle.wide_register.specs.Facts.{Has, HasDoor, HasNextBy, HasPuts, HasWritten, IsDeed, IsDeedOfAnswer, IsFree, IsNextBy, IsPut, IsPutOf, IsWithoutId, IsWritten};
+ghost use Rattle.wide_register.specs.Facts.{Has, HasDoor, HasNextBy, HasPuts, HasWritten, IsEffect, IsEffectOfAnswer, IsFree, IsNextBy, IsPut, IsPutOf, IsWithoutId, IsWritten};
 ghost use Rattle.wide_register.specs.declared.row.Row.{Row};
 
 use crate::calls::{Call, What, call_of};
@@ -16,7 +16,7 @@ use std::alloc::{AllocError, Global};
 
 /// The effect of an event on each row.
 #[derive(Clone, Copy)]
-pub enum Deed {
+pub enum Effect {
     /// It stays.
     Keeps,
     /// The operation with this id is out.
@@ -32,51 +32,51 @@ pub enum Deed {
 }
 
 // The effect of the answer of a read on each row.
-fn deed_of_answer(read: Call, part: &Part) -> Deed
-    ensures { IsDeedOfAnswer read (answer_of part.now) result }
+fn effect_of_answer(read: Call, part: &Part) -> Effect
+    ensures { IsEffectOfAnswer read (answer_of part.now) result }
 {
     match part {
-        Part::Nil => Deed::Leaves(read.id),
-        Part::Int(value) => Deed::EndsRead(read, *value),
-        Part::Pair(_, _) | Part::Set(_) => Deed::Dies,
+        Part::Nil => Effect::Leaves(read.id),
+        Part::Int(value) => Effect::EndsRead(read, *value),
+        Part::Pair(_, _) | Part::Set(_) => Effect::Dies,
     }
 }
 
 // The effect of an ok on each row.
-fn deed_of_ok(calls: &[Call], id: u32, part: &Part) -> Deed
-    ensures { IsDeed calls.now (Returned id (answer_of part.now)) result }
+fn effect_of_ok(calls: &[Call], id: u32, part: &Part) -> Effect
+    ensures { IsEffect calls.now (Returned id (answer_of part.now)) result }
 {
     match call_of(calls, id) {
-        None => Deed::Dies,
+        None => Effect::Dies,
         Some(call) => match call.what {
-            What::Writes(value) => Deed::EndsWrite(call, value),
-            What::Reads => deed_of_answer(call, part),
+            What::Writes(value) => Effect::EndsWrite(call, value),
+            What::Reads => effect_of_answer(call, part),
         },
     }
 }
 
 // The effect of an info on each row.
-fn deed_of_info(calls: &[Call], id: u32) -> Deed
-    ensures { IsDeed calls.now (Crashed id) result }
+fn effect_of_info(calls: &[Call], id: u32) -> Effect
+    ensures { IsEffect calls.now (Crashed id) result }
 {
     match call_of(calls, id) {
-        None => Deed::Keeps,
+        None => Effect::Keeps,
         Some(call) => match call.what {
-            What::Writes(_) => Deed::Keeps,
-            What::Reads => Deed::Leaves(id),
+            What::Writes(_) => Effect::Keeps,
+            What::Reads => Effect::Leaves(id),
         },
     }
 }
 
 /// The effect of an event of an operation on each row. The id is that of the operation, and the part of an ok is the answer.
-pub fn deed_of(calls: &[Call], id: u32, kind: EventKind, op: &Op) -> Deed
-    ensures { IsDeed calls.now (mark_by_act id id (act_by kind op.now)) result }
+pub fn effect_of(calls: &[Call], id: u32, kind: EventKind, op: &Op) -> Effect
+    ensures { IsEffect calls.now (mark_by_act id id (act_by kind op.now)) result }
 {
     match kind {
-        EventKind::Invoke => Deed::Keeps,
-        EventKind::Ok => deed_of_ok(calls, id, &op.part),
-        EventKind::Fail => Deed::Fails(id),
-        EventKind::Info => deed_of_info(calls, id),
+        EventKind::Invoke => Effect::Keeps,
+        EventKind::Ok => effect_of_ok(calls, id, &op.part),
+        EventKind::Fail => Effect::Fails(id),
+        EventKind::Info => effect_of_info(calls, id),
     }
 }
 
@@ -202,8 +202,8 @@ fn end_read(
     value: i64,
 ) -> Result<Vec<Row>, AllocError>
     ensures each { IfOk result (λ made. (new : Row) → Contains made.items new
-        → IsNextBy calls.now moment (Deed.EndsRead read.now value) row.now new) }
-    ensures all { IfOk result (λ made. HasNextBy calls.now moment (Deed.EndsRead read.now value) row.now made.items) }
+        → IsNextBy calls.now moment (Effect.EndsRead read.now value) row.now new) }
+    ensures all { IfOk result (λ made. HasNextBy calls.now moment (Effect.EndsRead read.now value) row.now made.items) }
 {
     let may_find = row.may_answer(read, value);
     if may_find {
@@ -221,35 +221,35 @@ pub fn next_rows(
     row: &Row,
     calls: &[Call],
     moment: u64,
-    deed: &Deed,
+    effect: &Effect,
 ) -> Result<Vec<Row>, AllocError>
-    ensures each { IfOk result (λ made. (new : Row) → Contains made.items new → IsNextBy calls.now moment deed.now row.now new) }
-    ensures all { IfOk result (λ made. HasNextBy calls.now moment deed.now row.now made.items) }
+    ensures each { IfOk result (λ made. (new : Row) → Contains made.items new → IsNextBy calls.now moment effect.now row.now new) }
+    ensures all { IfOk result (λ made. HasNextBy calls.now moment effect.now row.now made.items) }
 {
-    match deed {
-        Deed::Keeps => {
+    match effect {
+        Effect::Keeps => {
             let same = row.copy()?;
             let alone_same = one(alloc, same)?;
             Ok(alone_same)
         }
-        Deed::Leaves(id) => {
+        Effect::Leaves(id) => {
             let out = row.without(*id)?;
             let alone_out = one(alloc, out)?;
             Ok(alone_out)
         }
-        Deed::Fails(id) => {
+        Effect::Fails(id) => {
             let failed = fail(alloc, row, *id)?;
             Ok(failed)
         }
-        Deed::EndsWrite(write, value) => {
+        Effect::EndsWrite(write, value) => {
             let written = end_write(alloc, row, moment, write, *value)?;
             Ok(written)
         }
-        Deed::EndsRead(read, value) => {
+        Effect::EndsRead(read, value) => {
             let answered = end_read(alloc, row, calls, moment, read, *value)?;
             Ok(answered)
         }
-        Deed::Dies => Ok(Vec::new(alloc)),
+        Effect::Dies => Ok(Vec::new(alloc)),
     }
 }
 
@@ -274,12 +274,12 @@ fn writes_of(calls: &[Call], value: i64) -> u64
 }
 
 /// How many operations an event tries at each row. Costs O(operations).
-pub fn tries_of(calls: &[Call], deed: &Deed) -> u64
-    ensures { AreTries calls.now deed.now result }
+pub fn tries_of(calls: &[Call], effect: &Effect) -> u64
+    ensures { AreTries calls.now effect.now result }
 {
-    match deed {
-        Deed::EndsWrite(_, _) => 1,
-        Deed::EndsRead(_, value) => writes_of(calls, *value),
+    match effect {
+        Effect::EndsWrite(_, _) => 1,
+        Effect::EndsRead(_, value) => writes_of(calls, *value),
         _ => 0,
     }
 }

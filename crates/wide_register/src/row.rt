@@ -26,14 +26,14 @@ pub struct Row {
     pub passed: Vec<Passed>,
 }
 
-// Whether the id is among these. Takes their time.
+// Whether the id is among `ids`. Costs O(ids).
 pub fn has_id(ids: &[u32], id: u32) -> bool
     ensures { IsTrue result ↔ Contains ids.now id }
 {
     ids.contains(&id)
 }
 
-/// The first place from this one on of a value that is not greater. Costs O(places before it).
+/// The first place from `from` on whose value is at most `value`. Costs O(places).
 pub fn place_of(passed: &[Passed], from: usize, value: i64) -> usize
     ensures { from ≤ length passed.now → result ≤ length passed.now }
 {
@@ -51,7 +51,7 @@ fn is_of(one: &Passed, value: i64) -> bool
     one.value == value
 }
 
-// Whether the value stands at this place; if so, it stood at the gap, too.
+// Whether the value is at place `at`. If so, its gap is raised to `gap`.
 fn is_raised(passed: &mut [Passed], at: usize, gap: u64, value: i64) -> bool
     ensures raised { IsTrue result → (v : ℤ) (t : ℕ) → StoodAfter passed.new v t
         ↔ (StoodAfter passed.old v t ⊎ ((value ≡ v) × (t < gap))) }

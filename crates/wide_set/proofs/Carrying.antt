@@ -49,9 +49,6 @@ module _ (ms : List Mark) (m : Mark) (well : AreWellFormed (ms ++ m ∷ [])) whe
   pub read_is : (id : ℕ) (s : List ℤ) → HasRead ms id s → HasRead longer id s
   read_is id s r = record { op = r.op; invoked = kept _ r.invoked; reads = r.reads; of_all = r.of_all; answer = kept _ r.answer }
 
-  pub cannot_fail_is : (id : ℕ) → CannotFail ms id → CannotFail longer id
-  cannot_fail_is id c = ⊎_elim (λ r. inl (r.0, kept _ r.1)) (λ k. inr (kept _ k)) c
-
   -- an operation that was invoked before is not invoked by the last mark
   pub not_last : (id : ℕ) (op : Op) → IsInvoked ms id → m ≢ Invoked id op
   not_last id op i e = (subst (MayFollow ms) e may) (Invoked id i.0) i.1 refl

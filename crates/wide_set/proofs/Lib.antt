@@ -16,5 +16,4 @@ pub mod Searching
 pub mod Beginning
 pub mod Prepared
 pub mod Bases
-pub mod Stepping
 pub mod Crossing

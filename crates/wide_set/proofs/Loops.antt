@@ -6,9 +6,6 @@ use Rattle.std.proofs.lemmas.List.Elements.{Contains-append_left, Contains-push,
 use Rattle.linspec.proofs.Lists.{Contains-nil}
 
 module _ {X : Type 0} (P : X → Type 0) (xs : List X) where
-  pub at_first : (y : X) → Contains (take 0 xs) y → P y
-  at_first y k = absurd (Contains-nil y k)
-
   pub with_next : (i : ℕ) (x : X) → i < length xs → x ≡ get_or xs i x → ((y : X) → Contains (take i xs) y → P y) → P x → (y : X) → Contains (take (i + 1) xs) y → P y
   with_next i x h is before here y k = ⊎_elim (before y) (λ e. subst P e here) (Contains-push_cases (take i xs) x y (subst (λ l. Contains l y) (take_more xs i x h ∙ ap (λ z. take i xs ++ z ∷ []) (sym is)) k))
 

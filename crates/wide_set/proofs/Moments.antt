@@ -6,7 +6,7 @@ use Rattle.std.proofs.lemmas.List.{append-nil}
 use Rattle.std.proofs.lemmas.List.Elements.{Contains-append_left, Contains-append_right, Contains-push}
 use Rattle.models.specs.declared.operation.Op.{Op}
 use Rattle.models.specs.declared.finding.Answer.{Answer}
-use Rattle.events.specs.Events.{Mark, IsFront}
+use Rattle.events.specs.Events.{Mark, IsPrefixOf}
 use Rattle.events.specs.Events.Mark.{Invoked, Returned}
 use Rattle.linspec.specs.MarkRule.{AreWellFormed}
 use Rattle.linspec.specs.Operations.{Precedes}
@@ -62,8 +62,8 @@ stands_cases ms x n m s = ⊎_elim
 -- an earlier mark is before a later one
 pub before_it : (ms : List Mark) (n k : ℕ) (m x : Mark) (s : StandsAt ms n m) (u : StandsAt ms k x) → n < k → Contains u.before m
 before_it ms n k m x s u lt = ⊎_elim
-    (λ (f : IsFront u.before (s.before ++ m ∷ [])). whole f.0 f.1)
-    (λ (f : IsFront (s.before ++ m ∷ []) u.before). subst (λ l. Contains l m) f.1 (Contains-append_left (s.before ++ m ∷ []) f.0 m (Contains-push s.before m)))
+    (λ (f : IsPrefixOf u.before (s.before ++ m ∷ [])). whole f.0 f.1)
+    (λ (f : IsPrefixOf (s.before ++ m ∷ []) u.before). subst (λ l. Contains l m) f.1 (Contains-append_left (s.before ++ m ∷ []) f.0 m (Contains-push s.before m)))
     (two_cuts u.before (x ∷ u.after) (s.before ++ m ∷ []) s.after (u.cut ∙ sym (append_assoc s.before (m ∷ []) s.after ∙ s.cut)))
   where
     whole : (rest : List Mark) → u.before ++ rest ≡ s.before ++ m ∷ [] → Contains u.before m

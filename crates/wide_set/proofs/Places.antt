@@ -3,7 +3,7 @@ use Rattle.std.proofs.Common.{◌≡◌, ◌≢◌, ℕ, zero, suc, ◌+◌, ◌
 use Rattle.std.specs.List.{Contains}
 use Rattle.std.proofs.lemmas.Bool.{cases_lt}
 use Rattle.std.proofs.lemmas.List.{take-append-drop, take_more, drop_more, drop_all, take_all}
-use Rattle.std.proofs.lemmas.List.Elements.{Contains-append_left, Contains-append_right, Contains-append_cases, Contains-push, Contains-push_cases, Contains-get_or}
+use Rattle.std.proofs.lemmas.List.Elements.{Contains-append_right, Contains-append_cases, Contains-push, Contains-push_cases, Contains-get_or}
 use Rattle.values.specs.Members.{IsAscending}
 use Rattle.values.proofs.Sorting.{one_ascending}
 use Rattle.linspec.specs.Orders.{Pairwise}
@@ -30,9 +30,6 @@ IsUpTo a b = IsWithin a.members b.members × (length a.members ≤ length b.memb
 module _ (answers : List Answered) (are : AreNested answers) (at : ℕ) where
   whole : take at answers ++ drop at answers ≡ answers
   whole = take-append-drop at answers
-
-  pub in_left : (a : Answered) → Contains (take at answers) a → Contains answers a
-  in_left a h = subst (λ l. Contains l a) whole (Contains-append_left (take at answers) (drop at answers) a h)
 
   pub in_right : (a : Answered) → Contains (drop at answers) a → Contains answers a
   in_right a h = subst (λ l. Contains l a) whole (Contains-append_right (take at answers) (drop at answers) a h)

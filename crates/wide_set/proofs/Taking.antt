@@ -12,7 +12,7 @@ use Rattle.events.specs.Events.Mark.{Invoked, Returned, Failed, Crashed}
 use Rattle.linspec.specs.Operations.{IsOpen}
 use Rattle.linspec.specs.MarkRule.{MayFollow, AreWellFormed}
 use Rattle.linspec.proofs.Lists.{snoc_cut}
-use Rattle.linspec.proofs.Fronts.{IsLinearizable-append}
+use Rattle.linspec.proofs.Prefixes.{IsLinearizable-append}
 use Rattle.set_chains.specs.Chains.{HasRead, IsChained, MayAnswer}
 use Rattle.set_chains.proofs.Once.{one_answer}
 use Rattle.set_chains.proofs.Legal.{chained_if_linearizable}

@@ -50,8 +50,8 @@ abbrev pub IsSettledBy : List Mark → ℕ → Option ℕ → Type 0
 IsSettledBy marks id None = Contains marks (Crashed id)
 IsSettledBy marks id (Some moment) = (answer : Answer) × StandsAt marks moment (Returned id answer)
 
--- the log of adds that can no longer fail. Each logged add is one. For each one of a value beyond the base, the log has an add of the
--- value with at most its moment of invocation. If it is done, the log has one with at most its moment of return
+-- the log of adds that can no longer fail. Each logged add is such an add. For each such add of a value beyond the base, the log has an add
+-- of that value with at most its moment of invocation; and, if it is done, one with at most its moment of return
 pub record AreLogged (log : List Added) (base : List ℤ) (marks : List Mark) : Type 0 where
   pub is : (a : Added) → Contains log a
       → (id : ℕ) × (op : Op) × IsAddOf marks id a.value × StandsAt marks a.since (Invoked id op)

@@ -1,5 +1,5 @@
 //! Changes of the facts by events.
-ghost use Rattle.std.specs.Prelude.{◌≡◌, ◌≢◌, ◌+◌, IfOk, OnOk, OnErr, IsTrue};
+ghost use Rattle.std.specs.Prelude.{◌≡◌, ◌≢◌, ◌+◌, IfOk, OnOk, OnErr};
 ghost use Rattle.std.specs.List.{Contains, filter, insert};
 ghost use Rattle.models.specs.Objects.{answer_of};
 ghost use Rattle.events.specs.Events.{act_by, mark_by_act};
@@ -26,7 +26,7 @@ pub enum Change {
     Leaves(u32),
     /// The add with this id is done or has crashed.
     Logs(u32, Added),
-    /// The read with this id has a new answer, which stands at this place of the chain.
+    /// The read with this id has a new answer, at this place of the chain.
     Answers(u32, usize, Answered),
 }
 

@@ -1,7 +1,5 @@
 //! Facts that no later event needs.
-ghost use Rattle.std.specs.Prelude.{◌≡◌, IfOk, IsOk, List};
-ghost use Rattle.events.specs.Events.{Mark};
-ghost use Rattle.wide_set.specs.Facts.{AreFacts, facts_of};
+ghost use Rattle.wide_set.specs.Facts.{facts_of};
 ghost use Rattle.wide_set.specs.Kept.{IsKept};
 
 use crate::known::{Known, ROOM};

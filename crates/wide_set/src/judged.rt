@@ -1,7 +1,7 @@
 //! Sets that are judged live.
-ghost use Rattle.std.specs.Prelude.{◌≡◌, ◌≢◌, ◌↔◌, [], List, Some, None, IfOk, OnOk, OnErr, IsTrue};
-ghost use Rattle.models.specs.Objects.{object_of};
-ghost use Rattle.models.specs.declared.model_kind.ModelKind.TheVariants.{WideSet as OfWideSet};
+ghost use Rattle.std.specs.Prelude.{◌≡◌, ◌≢◌, ◌↔◌, List, Some, None, IfOk, OnOk, OnErr, IsTrue};
+ghost use Rattle.kinds.specs.Kinds.{object_of};
+ghost use Rattle.kinds.specs.declared.model_kind.ModelKind.TheVariants.{WideSet as OfWideSet};
 ghost use Rattle.events.specs.Events.{act_by, mark_by_act, Mark};
 ghost use Rattle.linspec.specs.Counts.{CountsMoreThan};
 ghost use Rattle.judging.specs.Meaning.{Commits, IsCopy, IsStart, Observes, Prepares, mark_by};

@@ -7,7 +7,7 @@ use models::{Name, Part};
 use std::alloc::{AllocError, Global};
 use values::Members;
 
-/// The least number of logged adds of which some are forgotten.
+/// The log forgets adds only if it has at least this number of them.
 pub const ROOM: usize = 64;
 
 /// A call of a set.
@@ -21,7 +21,7 @@ pub enum Call {
     Other,
 }
 
-/// An open operation: its id, its call, and how many marks came before its invocation.
+/// An open operation: its id, its call, and the number of marks before its invocation.
 #[derive(Clone, Copy)]
 pub struct Pending {
     pub id: u32,
@@ -29,15 +29,15 @@ pub struct Pending {
     pub since: u64,
 }
 
-/// An answer of a read, and how many marks came before the first return of a read that gave it.
+/// An answer of a read, and the number of marks before the first return of a read with this answer.
 #[derive(Drop)]
 pub struct Answered {
     pub members: Members,
     pub by: u64,
 }
 
-/// The known facts of a history: how many marks it has, the open operations, the adds that can no longer fail, and the different
-/// answers, each within the next. Adds of the values in `base` may be forgotten, and so may answers within it.
+/// The known facts of a history: the number of its marks, the open operations, the adds that can no longer fail, and the different answers,
+/// each a subset of the next. Adds of the values in `base` may be forgotten, and so may answers that are subsets of `base`.
 #[derive(Drop)]
 pub struct Known {
     pub alloc: Global,

@@ -10,7 +10,7 @@ use persistent::Row;
 use std::alloc::{AllocError, Global};
 use std::marker::Model;
 
-/// An add that can no longer fail: its value, how many marks came before its invocation, and, if it is done, before its return.
+/// An add that can no longer fail: its value, the number of marks before its invocation, and, if it is done, before its return.
 #[derive(Clone, Copy)]
 pub struct Added {
     pub value: i64,

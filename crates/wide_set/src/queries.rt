@@ -5,7 +5,7 @@ ghost use Rattle.values.specs.Members.{IsAscending};
 ghost use Rattle.wide_set.specs.declared.known.Answered.{Answered};
 ghost use Rattle.wide_set.specs.declared.known.Pending.{Pending};
 ghost use Rattle.wide_set.specs.declared.log.Added.{Added};
-ghost use Rattle.wide_set.specs.Facts.{AreNested, AreSpared, HasAdd, HasLogged, HasPendingAdd, IsDoneBeyond, facts_of};
+ghost use Rattle.wide_set.specs.Facts.{AreNested, AreSpared, HasLogged, HasPendingAdd, IsDoneBeyond, facts_of};
 ghost use Rattle.wide_set.specs.Queries.{HasBefore, HasTimely, HasTimelyLogged, HasTimelyPending, IsAnswered, IsBefore, IsFirstWith, IsLastBefore, IsLeastSince, IsNoLater, IsPlaced, IsTimelyAdd, IsTimelyCall, IsWithinLimit, earlier_of};
 
 use crate::known::{Answered, Call, Known, Pending};
@@ -14,7 +14,7 @@ use crate::members::{has, is_covered, is_within};
 use std::alloc::{AllocError, Global};
 use values::Members;
 
-/// Where an answer stands in the chain.
+/// The place of an answer in the chain.
 #[derive(Clone, Copy)]
 pub enum Place {
     /// Nowhere: the read cannot answer so.

@@ -7,7 +7,7 @@ use Rattle.std.proofs.lemmas.List.Elements.{Contains-append_left}
 use Rattle.values.proofs.Bags.{same_int, other_int}
 use Rattle.models.specs.declared.operation.Op.{Op}
 use Rattle.models.specs.declared.finding.Answer.TheVariants.{Number}
-use Rattle.events.specs.Events.{Mark, IsFront}
+use Rattle.events.specs.Events.{Mark, IsPrefixOf}
 use Rattle.events.specs.Events.Mark.{Invoked, Returned, Failed}
 use Rattle.linspec.specs.MarkRule.{AreWellFormed}
 use Rattle.linspec.specs.Operations.{IsInvoked}
@@ -24,7 +24,7 @@ use Rattle.wide_unordered_queue.proofs.Carrying.{least_within, least_stays}
 pub at_end : (ms : List Mark) (id : ℕ) (v : ℤ) (least : ℕ) → IsInvoked ms id → IsLeast ms id v least → dequeued ms v ms + least ≤ enqueued ms v ms
 at_end ms id v least i is = is.within ms [] (append-nil ms) i
 
--- the ok of a dequeue with v, of which as many more were enqueued than dequeued
+-- the ok of a dequeue with v, by the number of enqueues of v beyond its dequeues
 module _ (ms : List Mark) (id : ℕ) (v : ℤ) (well : AreWellFormed (ms ++ Returned id (Number v) ∷ [])) (op : Op) (invoked : Contains ms (Invoked id op)) (is : IsDequeue op)
     (times : ℕ) (counted : dequeued ms v ms + times ≡ enqueued ms v ms) (some : 0 < times) where
   abbrev ok : Mark
@@ -161,11 +161,11 @@ module _ (ms : List Mark) (id : ℕ) (well : AreWellFormed (ms ++ Failed id ∷ 
               let exact : dequeued ms v later + least ≡ enqueued ms v later = its.met.4 in
               let b = enqueued_with ms id well v later its.met.1 cut' there in
               ⊎_elim
-              (λ (f : IsFront front later).
+              (λ (f : IsPrefixOf front later).
               let j : IsInvoked later i = (h.met.3.0, subst (λ l. Contains l (Invoked i h.met.3.0)) f.1 (Contains-append_left front f.0 _ h.met.3.1)) in
               let a : dequeued ms v later + n ≤ enqueued ms v later = h.within later its.met.1 cut' j in
               met_at (n - 1) later its.met.1 cut' j (omega (arith, a, exact, b, le, some)))
-              (λ (f : IsFront later front). absurd (none (there.0, subst (λ l. Contains l (Invoked id there.0)) f.1 (Contains-append_left later f.0 _ there.1), there.2)))
+              (λ (f : IsPrefixOf later front). absurd (none (there.0, subst (λ l. Contains l (Invoked id there.0)) f.1 (Contains-append_left later f.0 _ there.1), there.2)))
               (two_cuts front rest later its.met.1 (cut ∙ sym cut')))
               (enqueue_or_not ms id well v front rest cut);
         }

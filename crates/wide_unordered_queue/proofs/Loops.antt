@@ -1,7 +1,7 @@
 -- what a loop over a list has shown so far
-use Rattle.std.proofs.Common.{◌≡◌, ℕ, ◌+◌, ◌<◌, ◌≤◌, ⊎_elim, List, [], ◌∷◌, ◌++◌, length, map, take, get_or, sym, ap, ◌∙◌, subst}
+use Rattle.std.proofs.Common.{ℕ, ◌+◌, ◌<◌, ◌≤◌, ⊎_elim, List, length, take, get_or, sym, subst}
 use Rattle.std.specs.List.{Contains}
-use Rattle.std.proofs.lemmas.List.{map-append, take_all, take_more}
+use Rattle.std.proofs.lemmas.List.{take_all, take_more}
 use Rattle.std.proofs.lemmas.List.Elements.{Contains-push_cases}
 
 module _ {X : Type 0} (P : X → Type 0) (xs : List X) where
@@ -10,7 +10,3 @@ module _ {X : Type 0} (P : X → Type 0) (xs : List X) where
 
   pub with_here : (i : ℕ) (d : X) → i < length xs → ((y : X) → Contains (take i xs) y → P y) → P (get_or xs i d) → (y : X) → Contains (take (i + 1) xs) y → P y
   with_here i d h before here y k = ⊎_elim (before y) (λ e. subst P e here) (Contains-push_cases (take i xs) (get_or xs i d) y (subst (λ l. Contains l y) (take_more xs i d h) k))
-
--- a list that is made of another one, element by element
-pub map_more : {X Y : Type 0} (f : X → Y) (xs : List X) (i : ℕ) (d : X) → i < length xs → map f (take i xs) ++ f (get_or xs i d) ∷ [] ≡ map f (take (i + 1) xs)
-map_more f xs i d h = sym (ap (map f) (take_more xs i d h) ∙ map-append f (take i xs) (get_or xs i d ∷ []))

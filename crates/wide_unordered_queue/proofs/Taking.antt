@@ -13,7 +13,7 @@ use Rattle.events.specs.Events.Mark.{Invoked, Returned, Failed, Crashed}
 use Rattle.linspec.specs.Operations.{IsOpen}
 use Rattle.linspec.specs.MarkRule.{MayFollow, AreWellFormed}
 use Rattle.linspec.proofs.Lists.{snoc_cut}
-use Rattle.linspec.proofs.Fronts.{IsLinearizable-append}
+use Rattle.linspec.proofs.Prefixes.{IsLinearizable-append}
 use Rattle.set_chains.proofs.Once.{one_op}
 use Rattle.bag_matches.specs.Counts.{enqueued, dequeued, IsBalanced}
 use Rattle.bag_matches.proofs.Legal.{balanced_if_linearizable}

@@ -1,4 +1,4 @@
--- Invariant: what is kept of the history of a queue without an order
+-- Invariant: the facts that are kept of the history of a queue without an order
 use Rattle.std.specs.Prelude.{◌≡◌, ℕ, ◌+◌, ◌-◌, ◌≤◌, ℤ, Bool, false, not, ◌&&◌, nat_eq, nat_le, if◌then◌else◌, List, [], ◌∷◌, ◌++◌, map}
 use Rattle.std.specs.List.{Contains, filter}
 use Rattle.std.specs.Ordering.{int_eq}

@@ -1,4 +1,4 @@
--- Invariant: what an event is answered, and what is prepared of it
+-- Invariant: the answer to an event, and its prepared facts
 use Rattle.std.specs.Prelude.{◌↔◌, Bool, true, false, IsTrue, Option, Some, None, List, [], ◌∷◌, ◌++◌, Result, IfOk}
 use Rattle.std.specs.declared.alloc.AllocError.{AllocError}
 use Rattle.models.specs.Objects.{unordered_queue}
@@ -29,7 +29,7 @@ IsAlive marks (Failed id) alive = IsTrue alive ↔ IsLinearizable unordered_queu
 IsAlive marks (Invoked id op) alive = IsTrue alive
 IsAlive marks (Crashed id) alive = IsTrue alive
 
--- what is prepared, or where nothing is, what is due
+-- the prepared facts, or the present ones if nothing is prepared
 abbrev pub next_of : Option Change → Option Change → Option Change
 next_of None due = due
 next_of (Some change) due = Some change

@@ -7,7 +7,7 @@ use persistent::Row;
 use std::alloc::{AllocError, Global};
 use std::marker::Model;
 
-/// Values, ascending, each as often as it was enqueued more than dequeued. A copy shares all but 128 of them.
+/// Values, ascending, each as often as its enqueues exceed its dequeues. A copy shares all values except up to 128 of them.
 #[derive(Drop)]
 pub struct Backlog {
     alloc: Global,
@@ -36,7 +36,7 @@ impl Backlog {
         }
     }
 
-    // The place behind the values that are at most this one.
+    // The number of values that are at most `value`, which is the place behind them.
     fn place_behind(&self, value: i64) -> usize
         ensures within { result ≤ length self.now }
         ensures before { (k : ℕ) (d : ℤ) → result ≡ k + 1 → get_or self.now k d ≤ℤ value }
@@ -61,7 +61,7 @@ impl Backlog {
         to.saturating_sub(from)
     }
 
-    /// The values with one more of this one. O(log n) in time and memory.
+    /// The values with `value` once more. O(log n) in time and memory.
     pub fn with(&self, value: i64) -> Result<Backlog, AllocError>
         ensures { IfOk result (λ more. more ≡ with_one value self.now) }
     {
@@ -80,7 +80,7 @@ impl Backlog {
         at < self.row.len() && self.row.get(at) == value
     }
 
-    /// The values with one less of this one, if it is in. O(log n) in time and memory.
+    /// The values with `value` once less, if it is in. O(log n) in time and memory.
     pub fn without(&self, value: i64) -> Result<Backlog, AllocError>
         ensures { IfOk result (λ less. less ≡ without_one value self.now) }
     {

@@ -1,5 +1,5 @@
 //! Changes of the facts by events.
-ghost use Rattle.std.specs.Prelude.{◌≡◌, ◌≢◌, IfOk, OnOk, OnErr};
+ghost use Rattle.std.specs.Prelude.{◌≡◌, ◌≢◌, OnOk, OnErr};
 ghost use Rattle.std.specs.List.{Contains};
 ghost use Rattle.models.specs.Objects.{answer_of};
 ghost use Rattle.events.specs.Events.{act_by, mark_by_act};

@@ -57,7 +57,7 @@ pub fn drop_pending(pending: &mut Vec<Pending>, id: u32)
     pending.retain(|call| call.id != id);
 }
 
-// The operation with a least that is one less, if it enqueues the value and its least is no less than this one.
+// The operation, with its least number less by one if it enqueues the value and that number is at least `least`.
 fn lower(call: &Pending, value: i64, least: usize) -> Pending
     ensures { result ≡ lowered value least call.now }
 {

@@ -5,10 +5,10 @@ use Rattle.std.proofs.lemmas.List.{take_more, length-take-le}
 use Rattle.models.specs.Objects.{unordered_queue}
 use Rattle.models.specs.Runs.{times_in}
 use Rattle.witness.specs.declared.calls.Call.{Call}
-use Rattle.witness.specs.declared.needs.Needs.{Needs}
-use Rattle.witness.specs.declared.misfit.Misfit.TheVariants.{CannotTakePlace, AnotherAnswer}
-use Rattle.witness.specs.Calls.{CanRun, IsHalt, unanswered}
-use Rattle.witness.specs.Needs.{AreNeeds, AreBefore}
+use Rattle.witness.specs.declared.requirement.Requirement.{Requirement}
+use Rattle.witness.specs.declared.mismatch.MismatchReason.TheVariants.{CannotTakePlace, AnotherAnswer}
+use Rattle.witness.specs.Calls.{CanRun, IsRejection, unanswered}
+use Rattle.witness.specs.Requirements.{IsRequirement, AreBefore}
 use Rattle.witness.proofs.InTurn.{from_place, cut_at}
 use Rattle.witness.proofs.Runs.{CanRun-right}
 
@@ -20,15 +20,15 @@ pub one_ahead : {X : Type 0} (xs : List X) (at : ℕ) (x : X) → 0 < at → at 
 one_ahead xs at x lt fits is = let e : at - 1 + 1 ≡ at = omega arith in subst (λ n. drop (at - 1) xs ≡ x ∷ drop n xs) e (from_place xs (at - 1) x (omega arith) is)
 
 -- one call more
-pub needs_more : (calls later : List Call) (at : ℕ) (c : Call) (needs before : Needs) → 0 < at → at ≤ length calls → c ≡ get_or calls (at - 1) c
-    → AreBefore c needs (Some before) → AreNeeds (drop at calls ++ later) needs → AreNeeds (drop (at - 1) calls ++ later) before
-needs_more calls later at c needs before lt fits is by ahead =
-    subst (λ l. AreNeeds (l ++ later) before) (sym (one_ahead calls at c lt fits is)) (by (drop at calls ++ later) ahead)
+pub requirement_more : (calls later : List Call) (at : ℕ) (c : Call) (requirement before : Requirement) → 0 < at → at ≤ length calls → c ≡ get_or calls (at - 1) c
+    → AreBefore c requirement (Some before) → IsRequirement (drop at calls ++ later) requirement → IsRequirement (drop (at - 1) calls ++ later) before
+requirement_more calls later at c requirement before lt fits is by ahead =
+    subst (λ l. IsRequirement (l ++ later) before) (sym (one_ahead calls at c lt fits is)) (by (drop at calls ++ later) ahead)
 
 -- one that can't take place
-pub no_more : (calls later : List Call) (at : ℕ) (c : Call) (needs : Needs) → 0 < at → at ≤ length calls → c ≡ get_or calls (at - 1) c
-    → AreBefore c needs None → AreNeeds (drop at calls ++ later) needs → (s : List ℤ) → ¬ CanRun unordered_queue (calls ++ later) s
-no_more calls later at c needs lt fits is by ahead s h =
+pub no_more : (calls later : List Call) (at : ℕ) (c : Call) (requirement : Requirement) → 0 < at → at ≤ length calls → c ≡ get_or calls (at - 1) c
+    → AreBefore c requirement None → IsRequirement (drop at calls ++ later) requirement → (s : List ℤ) → ¬ CanRun unordered_queue (calls ++ later) s
+no_more calls later at c requirement lt fits is by ahead s h =
     let whole : take (at - 1) calls ++ (c ∷ drop at calls) ≡ calls = subst (λ n. take (at - 1) calls ++ c ∷ drop n calls ≡ calls) (omega arith) (cut_at calls (at - 1) c (omega arith) is) in
     let e : calls ++ later ≡ take (at - 1) calls ++ (c ∷ (drop at calls ++ later)) = ap (λ l. l ++ later) (sym whole) ∙ append_assoc (take (at - 1) calls) (c ∷ drop at calls) later in
     let r = CanRun-right unordered_queue (take (at - 1) calls) (c ∷ (drop at calls ++ later)) s (subst (λ l. CanRun unordered_queue l s) e h) in
@@ -39,38 +39,38 @@ no_items : (xs : List ℤ) → length xs ≡ 0 → xs ≡ []
 no_items [] e = refl
 no_items (x ∷ xs) e = absurd (omega (arith, e))
 
-pub met : (calls : List Call) (needs : Needs) → AreNeeds calls needs → length needs.values ≡ 0 → IsTrue (nat_eq needs.more 0) ↔ CanRun unordered_queue calls []
-met calls needs are none = (
+pub met : (calls : List Call) (requirement : Requirement) → IsRequirement calls requirement → length requirement.values ≡ 0 → IsTrue (nat_eq requirement.more 0) ↔ CanRun unordered_queue calls []
+met calls requirement are none = (
   (λ t. (are []).1 (record {
-    has = λ v. (let e = ap (times_in v) (no_items needs.values none) in let z : times_in v [] ≡ 0 = refl in omega (arith, e, z));
-    has_more = (let e = eqb-true needs.more 0 t in omega (arith, e, none));
+    has = λ v. (let e = ap (times_in v) (no_items requirement.values none) in let z : times_in v [] ≡ 0 = refl in omega (arith, e, z));
+    has_more = (let e = eqb-true requirement.more 0 t in omega (arith, e, none));
   })),
-  (λ r. let n = (are []).0 r in eq-eqb needs.more 0 (let e = n.has_more in omega (arith, e))),
+  (λ r. let n = (are []).0 r in eq-eqb requirement.more 0 (let e = n.has_more in omega (arith, e))),
 )
 
-pub unmet : (calls : List Call) (needs : Needs) → AreNeeds calls needs → ¬ (length needs.values ≡ 0) → ¬ CanRun unordered_queue calls []
-unmet calls needs are some r = let n = (are []).0 r in some (let e = n.has_more in omega (arith, e))
+pub unmet : (calls : List Call) (requirement : Requirement) → IsRequirement calls requirement → ¬ (length requirement.values ≡ 0) → ¬ CanRun unordered_queue calls []
+unmet calls requirement are some r = let n = (are []).0 r in some (let e = n.has_more in omega (arith, e))
 
 -- the fewest calls that can't take place
-pub halt_of : (calls : List Call) (at : ℕ) (c : Call) → at < length calls → c ≡ get_or calls at c → CanRun unordered_queue (take at calls) [] → CanRun unordered_queue (take at calls ++ unanswered c ∷ []) []
-    → ¬ CanRun unordered_queue (take (at + 1) calls) [] → IsHalt unordered_queue calls at AnotherAnswer
-halt_of calls at c fits is can_run stands halts = record {
+pub rejection_of : (calls : List Call) (at : ℕ) (c : Call) → at < length calls → c ≡ get_or calls at c → CanRun unordered_queue (take at calls) [] → CanRun unordered_queue (take at calls ++ unanswered c ∷ []) []
+    → ¬ CanRun unordered_queue (take (at + 1) calls) [] → IsRejection unordered_queue calls at AnotherAnswer
+rejection_of calls at c fits is can_run positions rejected = record {
   before = take at calls;
   call = c;
   after = drop (at + 1) calls;
   cut = cut_at calls at c fits is;
   place = length-take-le at calls (omega arith);
   can_run = can_run;
-  halts = (stands, λ r. halts (subst (λ l. CanRun unordered_queue l []) (sym (take_more calls at c fits ∙ ap (λ x. take at calls ++ x ∷ []) (sym is))) r));
+  rejected = (positions, λ r. rejected (subst (λ l. CanRun unordered_queue l []) (sym (take_more calls at c fits ∙ ap (λ x. take at calls ++ x ∷ []) (sym is))) r));
 }
 
-pub stop_of : (calls : List Call) (at : ℕ) (c : Call) → at < length calls → c ≡ get_or calls at c → CanRun unordered_queue (take at calls) [] → ¬ CanRun unordered_queue (take at calls ++ unanswered c ∷ []) [] → IsHalt unordered_queue calls at CannotTakePlace
-stop_of calls at c fits is can_run halts = record {
+pub stop_of : (calls : List Call) (at : ℕ) (c : Call) → at < length calls → c ≡ get_or calls at c → CanRun unordered_queue (take at calls) [] → ¬ CanRun unordered_queue (take at calls ++ unanswered c ∷ []) [] → IsRejection unordered_queue calls at CannotTakePlace
+stop_of calls at c fits is can_run rejected = record {
   before = take at calls;
   call = c;
   after = drop (at + 1) calls;
   cut = cut_at calls at c fits is;
   place = length-take-le at calls (omega arith);
   can_run = can_run;
-  halts = halts;
+  rejected = rejected;
 }

@@ -5,7 +5,7 @@ use Rattle.std.proofs.lemmas.List.{length-drop, get_or-drop}
 use Rattle.std.proofs.lemmas.Option.{slice_get_within, get_or_from_slice_get}
 use Rattle.std.proofs.lemmas.List.Elements.{Contains-append_right, filter-append}
 use Rattle.events.specs.declared.event.Event.{Event}
-use Rattle.events.specs.Events.{IsFront}
+use Rattle.events.specs.Events.{IsPrefixOf}
 use Rattle.linspec.specs.Orders.{Pairwise}
 use Rattle.linspec.proofs.Filters.{filter-yes}
 use Rattle.linspec.proofs.Lists.{Contains-head, Contains-tail}
@@ -46,7 +46,7 @@ one_cut (y ∷ a) b (z ∷ c) d x once e =
     ap (λ l. y ∷ l) rest ∙ ap (λ h. h ∷ c) head
 
 -- if one list is cut twice, and the second cut's element is not in the first cut's prefix, then that prefix is a prefix of the second one
-pub front_of : {X : Type 0} (a b c d : List X) (x y : X) → a ++ x ∷ b ≡ c ++ y ∷ d → ¬ Contains (a ++ x ∷ []) y → IsFront (a ++ x ∷ []) c
+pub front_of : {X : Type 0} (a b c d : List X) (x y : X) → a ++ x ∷ b ≡ c ++ y ∷ d → ¬ Contains (a ++ x ∷ []) y → IsPrefixOf (a ++ x ∷ []) c
 front_of [] b [] d x y e out = (let head : x ≡ y = cc in absurd (out (subst (Contains (x ∷ [])) head (Contains-head x []))))
 front_of [] b (z ∷ c) d x y e out = (let head : x ≡ z = cc in (c, ap (λ h. h ∷ c) head))
 front_of (w ∷ a) b [] d x y e out = (let head : w ≡ y = cc in absurd (out (subst (Contains (w ∷ (a ++ x ∷ []))) head (Contains-head w (a ++ x ∷ [])))))

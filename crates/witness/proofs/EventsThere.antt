@@ -16,7 +16,7 @@ use Rattle.events.specs.Events.{Entry, OpEvent, op_event, op_event_in, act_by, m
 use Rattle.events.specs.Events.Mark.{Invoked, Returned}
 use Rattle.linspec.proofs.Lists.{Contains-nil, Contains-cons_cases}
 use Rattle.witness.specs.Orders.{is_of}
-use Rattle.witness.specs.Fates.{op_in, op_at, answer_at}
+use Rattle.witness.specs.Statuses.{op_in, op_at, answer_at}
 use Rattle.witness.specs.Placing.{key_at}
 
 -- the facts about an event that speaks of an operation

@@ -3,11 +3,11 @@ pub mod Searching
 pub mod Runs
 pub mod Outcomes
 pub mod InTurn
-pub mod QueueNeeds
+pub mod QueueRequirements
 pub mod Ahead
 pub mod EventsThere
-pub mod FatesFound
-pub mod KnownFates
+pub mod StatusesFound
+pub mod KnownStatuses
 pub mod Sound
 pub mod Late
 pub mod ByKeys

@@ -4,18 +4,19 @@ use Rattle.std.proofs.lemmas.Bool.{true≢false}
 use Rattle.std.proofs.lemmas.List.{length-append, length-map}
 use Rattle.models.specs.declared.operation.Op.{Op}
 use Rattle.models.specs.declared.finding.Found.{Found}
-use Rattle.models.specs.declared.model_kind.ModelKind.{ModelKind}
-use Rattle.models.specs.declared.model_kind.ModelKind.TheVariants.{Register, CasRegister, Mutex, FifoQueue, Set, UnorderedQueue, WideRegister, WideCasRegister, WideSet, WideFifoQueue, WideUnorderedQueue}
-use Rattle.models.specs.declared.any_state.AnyState.{AnyState}
-use Rattle.models.specs.AnyState.{any, outcomes_of}
-use Rattle.models.specs.Objects.{IsOneOf, table_of, object_of}
+use Rattle.models.specs.Objects.{IsOneOf}
 use Rattle.models.proofs.Apart.{register_alone, cas_register_alone, mutex_alone, queue_alone, set_alone}
-use Rattle.models.proofs.AnyStates.{step_of, outcome_of}
+use Rattle.kinds.specs.declared.model_kind.ModelKind.{ModelKind}
+use Rattle.kinds.specs.declared.model_kind.ModelKind.TheVariants.{Register, CasRegister, Mutex, FifoQueue, Set, UnorderedQueue, WideRegister, WideCasRegister, WideSet, WideFifoQueue, WideUnorderedQueue}
+use Rattle.kinds.specs.declared.any_state.AnyState.{AnyState}
+use Rattle.kinds.specs.AnyState.{any, outcomes_of}
+use Rattle.kinds.specs.Kinds.{table_of, object_of}
+use Rattle.kinds.proofs.AnyStates.{step_of, outcome_of}
 use Rattle.witness.specs.declared.calls.Call.{Call}
-use Rattle.witness.specs.declared.misfit.Misfit.{Misfit}
-use Rattle.witness.specs.declared.misfit.Misfit.TheVariants.{CannotTakePlace, AnotherAnswer}
+use Rattle.witness.specs.declared.mismatch.MismatchReason.{MismatchReason}
+use Rattle.witness.specs.declared.mismatch.MismatchReason.TheVariants.{CannotTakePlace, AnotherAnswer}
 use Rattle.witness.specs.Calls.{FitsIf, CanRun, unanswered}
-use Rattle.witness.specs.Taking.{HasOrder, LeadsTo, HaltsIn, Takes}
+use Rattle.witness.specs.Taking.{HasOrder, LeadsTo, IsRejectedIn, Takes}
 
 few : {X : Type 0} (xs : List X) → (IsTrue false ↔ (1 < length xs)) → length xs ≤ 1
 few xs h = not_more (length xs) (λ l. true≢false (sym (h.1 l)))
@@ -78,23 +79,23 @@ module _ (kind : ModelKind) (s : (object_of kind).State) (c : Call) where
       ),
     )
 
-    pub one_stands : CanRun (object_of kind) (unanswered c ∷ []) s
-    one_stands = (x.1, the_step.0, the_step.2, tt, tt)
+    pub one_is_next : CanRun (object_of kind) (unanswered c ∷ []) s
+    one_is_next = (x.1, the_step.0, the_step.2, tt, tt)
 
-    pub one_unfit : ¬ FitsIf x.1 c.answer → ¬ CanRun (object_of kind) (c ∷ []) s
-    one_unfit unfit h = unfit (subst (λ f. FitsIf f c.answer) (no_other h.1 h.0 h.2).1 h.3)
+    pub one_mismatch : ¬ FitsIf x.1 c.answer → ¬ CanRun (object_of kind) (c ∷ []) s
+    one_mismatch mismatch h = mismatch (subst (λ f. FitsIf f c.answer) (no_other h.1 h.0 h.2).1 h.3)
 
 -- the result of the last outcome
 only_last : {X : Type 0} (front : List X) (x : X) → length (front ++ x ∷ []) ≤ 1 → front ++ x ∷ [] ≡ x ∷ []
 only_last [] x h = refl
 only_last (y ∷ front) x h = let l = length-append front (x ∷ []) in absurd (omega (arith, l))
 
-settle : (kind : ModelKind) (s : (object_of kind).State) (c : Call) (x : AnyState × Found) (r : Result AnyState Misfit) → outcomes_of kind s c.op ≡ x ∷ []
+settle : (kind : ModelKind) (s : (object_of kind).State) (c : Call) (x : AnyState × Found) (r : Result AnyState MismatchReason) → outcomes_of kind s c.op ≡ x ∷ []
     → MatchResult r (λ next. (next ≡ x.0) × FitsIf x.1 c.answer) (λ why. (why ≡ AnotherAnswer) × ¬ FitsIf x.1 c.answer) → Takes kind s c r
 settle kind s c x (Ok next) one h = let t = one_taken kind s c x one h.1 in (t.0, h.0 ∙ t.1, t.2)
-settle kind s c x (Err why) one h = subst (HaltsIn (object_of kind) s c) (sym h.0) (one_stands kind s c x one, one_unfit kind s c x one h.1)
+settle kind s c x (Err why) one h = subst (IsRejectedIn (object_of kind) s c) (sym h.0) (one_is_next kind s c x one, one_mismatch kind s c x one h.1)
 
-pub taken : (kind : ModelKind) (s : (object_of kind).State) (c : Call) → HasOrder kind → (front : List (AnyState × Found)) (last : Option (AnyState × Found)) (r : Result AnyState Misfit)
+pub taken : (kind : ModelKind) (s : (object_of kind).State) (c : Call) → HasOrder kind → (front : List (AnyState × Found)) (last : Option (AnyState × Found)) (r : Result AnyState MismatchReason)
     → MatchOption last (outcomes_of kind s c.op ≡ []) (λ x. outcomes_of kind s c.op ≡ front ++ x ∷ [])
     → MatchOption last (r ≡ Err CannotTakePlace) (λ x. MatchResult r (λ next. (next ≡ x.0) × FitsIf x.1 c.answer) (λ why. (why ≡ AnotherAnswer) × ¬ FitsIf x.1 c.answer))
     → Takes kind s c r

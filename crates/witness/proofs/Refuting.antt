@@ -3,10 +3,11 @@ use Rattle.std.proofs.Common.{◌≡◌, ◌≢◌, ℕ, ◌+◌, ◌≤◌, tru
 use Rattle.std.specs.List.{Contains}
 use Rattle.std.proofs.lemmas.Bool.{eqb-true, eq-eqb}
 use Rattle.std.proofs.lemmas.List.Elements.{Contains-append_left, Contains-append_right}
-use Rattle.models.specs.declared.model_kind.ModelKind.{ModelKind}
 use Rattle.models.specs.declared.finding.Found.{Found}
 use Rattle.models.specs.declared.finding.Answer.{Answer}
-use Rattle.models.specs.Objects.{Object, object_of, Fits}
+use Rattle.models.specs.Objects.{Object, Fits}
+use Rattle.kinds.specs.declared.model_kind.ModelKind.{ModelKind}
+use Rattle.kinds.specs.Kinds.{object_of}
 use Rattle.events.specs.declared.event.Event.{Event}
 use Rattle.events.specs.Events.{Mark, marks}
 use Rattle.events.specs.Events.Mark.{Invoked, Returned, Failed}
@@ -17,13 +18,13 @@ use Rattle.linspec.proofs.Filters.{from_filter, to_filter, to_map, from_map, map
 use Rattle.linspec.proofs.Marks.{Run-cut}
 use Rattle.locality.proofs.Locality.{IsLinearizable-keys}
 use Rattle.witness.specs.declared.calls.Call.{Call}
-use Rattle.witness.specs.declared.fates.Fate.{Fate}
-use Rattle.witness.specs.declared.misfit.Misfit.{Misfit}
-use Rattle.witness.specs.declared.misfit.Misfit.TheVariants.{NoEvent, NoInvocation, Twice, Failed as ThatFailed, TooLate, CannotTakePlace, AnotherAnswer, LeftOut}
+use Rattle.witness.specs.declared.statuses.OperationStatus.{OperationStatus}
+use Rattle.witness.specs.declared.mismatch.MismatchReason.{MismatchReason}
+use Rattle.witness.specs.declared.mismatch.MismatchReason.TheVariants.{NoEvent, NoInvocation, Twice, Failed as ThatFailed, TooLate, CannotTakePlace, AnotherAnswer, LeftOut}
 use Rattle.witness.specs.Calls.{FitsIf, CanRun}
-use Rattle.witness.specs.Orders.{marks_in, marks_of_key, is_of, among, IsWitness, HasAnswer, IsCall, AreCalls, before_on_key, IsTooLate, HaltsThere, IsMisfit}
-use Rattle.witness.specs.Fates.{AreFates}
-use Rattle.witness.proofs.Runs.{no_halt}
+use Rattle.witness.specs.Orders.{marks_in, marks_of_key, is_of, among, IsWitness, HasAnswer, IsCall, AreCalls, before_on_key, IsTooLate, IsRejectedThere, IsMismatchReason}
+use Rattle.witness.specs.Statuses.{AreStatuses}
+use Rattle.witness.proofs.Runs.{no_rejection}
 use Rattle.witness.proofs.Cuts.{key_cut}
 use Rattle.witness.proofs.Sound.{entries, IsSound, IsThere, is_there, one_op, invoked_within, to_key, in_whole, key_precedes, must, returned}
 use Rattle.witness.proofs.Reasons.{get_in}
@@ -119,7 +120,7 @@ module _ (events : List Event) (sound : IsSound events) where
         Pairwise-across (λ a b. ¬ Precedes (marks_of_key events t.key) b a) before (id ∷ after) (subst (Pairwise (λ a b. ¬ Precedes (marks_of_key events t.key) b a)) (sym cut) (in_time t.key))
         t.other id t.earlier (Contains-head id after) (key_precedes events sound t.key id t.other r.0 e.0 r.1 e.1 t.precedes)
 
-    runs : (place id : ℕ) (why : Misfit) → slice_get order place ≡ Some id → (h : HaltsThere kind events order place id why) → CanRun (object_of kind) (h.calls ++ h.call ∷ []) (object_of kind).start
+    runs : (place id : ℕ) (why : MismatchReason) → slice_get order place ≡ Some id → (h : IsRejectedThere kind events order place id why) → CanRun (object_of kind) (h.calls ++ h.call ∷ []) (object_of kind).start
     runs place id why at h =
         let o : Object = object_of kind in
         let k = w.each h.key in
@@ -135,13 +136,13 @@ module _ (events : List Event) (sound : IsSound events) where
         let s = on_its_key h.key x.id (subst (λ l. Contains l x.id) k.ids_are (to_map (λ (y : Taken). y.id) k.order x (inside x i))) in
         k.legal.fits x a (inside x i) (subst (λ j. Contains (marks_of_key events j) (Returned x.id a)) s.1 (to_key events sound x.id s.0 (Returned x.id a) f refl)))
 
-    halts_nowhere : (place id : ℕ) (why : Misfit) → slice_get order place ≡ Some id → HaltsThere kind events order place id why → ⊥
-    halts_nowhere place id why at h = no_halt (object_of kind) h.calls h.call why (runs place id why at h) h.halts
+    rejected_nowhere : (place id : ℕ) (why : MismatchReason) → slice_get order place ≡ Some id → IsRejectedThere kind events order place id why → ⊥
+    rejected_nowhere place id why at h = no_rejection (object_of kind) h.calls h.call why (runs place id why at h) h.rejected
 
-    module _ (fates : List Fate) (are : AreFates events fates) where
+    module _ (statuses : List OperationStatus) (are : AreStatuses events statuses) where
       not_left : (id : ℕ) → HasReturned (marks_in events) id → Contains order id
       not_left id r =
-          let s = is_there events sound id (returned events sound fates are id (must events sound fates are id r)).0 in
+          let s = is_there events sound id (returned events sound statuses are id (must events sound statuses are id r)).0 in
           let o = w.each s.entry.key in
           let x = o.legal.all_done id (r.0, to_key events sound id s (Returned id r.0) r.1 refl) in
           (from_filter (λ i. is_of s.entry.key (slice_get events i)) order id (subst (λ l. Contains l id) o.ids_are (subst (Contains (map (λ (y : Taken). y.id) o.order)) x.2 (to_map (λ (y : Taken). y.id) o.order x.0 x.1)))).0
@@ -149,12 +150,12 @@ module _ (events : List Event) (sound : IsSound events) where
       no_event : (id : ℕ) → Contains order id → length events ≤ id → ⊥
       no_event id h past = let l = invoked_within events sound id (w.invoked id h) in absurd (omega (arith, l, past))
 
-      pub refuted : (place id : ℕ) (why : Misfit) → IsMisfit kind events order place id why → ⊥
+      pub refuted : (place id : ℕ) (why : MismatchReason) → IsMismatchReason kind events order place id why → ⊥
       refuted place id NoEvent m = no_event id (get_in order place id m.0) m.1
       refuted place id NoInvocation m = m.1 (w.invoked id (get_in order place id m.0))
       refuted place id Twice m = not_twice place id m.0 m.1
       refuted place id ThatFailed m = not_failed id (get_in order place id m.0) m.1
       refuted place id TooLate m = not_late place id m.0 m.1
-      refuted place id CannotTakePlace m = halts_nowhere place id CannotTakePlace m.0 m.1
-      refuted place id AnotherAnswer m = halts_nowhere place id AnotherAnswer m.0 m.1
+      refuted place id CannotTakePlace m = rejected_nowhere place id CannotTakePlace m.0 m.1
+      refuted place id AnotherAnswer m = rejected_nowhere place id AnotherAnswer m.0 m.1
       refuted place id LeftOut m = m.1.missing (not_left id m.1.returned)

@@ -4,9 +4,9 @@ use Rattle.models.specs.declared.finding.Found.TheVariants.{Unit as Done}
 use Rattle.models.specs.declared.finding.Answer.{Answer}
 use Rattle.models.specs.Objects.{Object}
 use Rattle.witness.specs.declared.calls.Call.{Call}
-use Rattle.witness.specs.declared.misfit.Misfit.{Misfit}
-use Rattle.witness.specs.declared.misfit.Misfit.TheVariants.{NoEvent, NoInvocation, Twice, Failed, TooLate, CannotTakePlace, AnotherAnswer, LeftOut}
-use Rattle.witness.specs.Calls.{FitsIf, CanRun, unanswered, HaltsBehind}
+use Rattle.witness.specs.declared.mismatch.MismatchReason.{MismatchReason}
+use Rattle.witness.specs.declared.mismatch.MismatchReason.TheVariants.{NoEvent, NoInvocation, Twice, Failed, TooLate, CannotTakePlace, AnotherAnswer, LeftOut}
+use Rattle.witness.specs.Calls.{FitsIf, CanRun, unanswered, IsRejectedAfter}
 
 -- the last of them can run from some state
 pub CanRun-right : (o : Object) (xs ys : List Call) (s : o.State) → CanRun o (xs ++ ys) s → (t : o.State) × CanRun o ys t
@@ -28,13 +28,13 @@ pub CanRun-change : (o : Object) (xs ys zs : List Call) (s : o.State) → ((t : 
 CanRun-change o [] ys zs s to h = to s h
 CanRun-change o (x ∷ xs) ys zs s to h = (h.0, h.1, h.2, h.3, CanRun-change o xs ys zs h.1 to h.4)
 
--- where the call can take place it does not halt
-pub no_halt : (o : Object) (calls : List Call) (c : Call) (why : Misfit) → CanRun o (calls ++ c ∷ []) o.start → ¬ HaltsBehind o calls c why
-no_halt o calls c CannotTakePlace runs h = h (CanRun-change o calls (c ∷ []) (unanswered c ∷ []) o.start (λ t r. (r.0, r.1, r.2, tt, tt)) runs)
-no_halt o calls c AnotherAnswer runs h = h.1 runs
-no_halt o calls c NoEvent runs h = h
-no_halt o calls c NoInvocation runs h = h
-no_halt o calls c Twice runs h = h
-no_halt o calls c Failed runs h = h
-no_halt o calls c TooLate runs h = h
-no_halt o calls c LeftOut runs h = h
+-- if the call can take place it is not rejected
+pub no_rejection : (o : Object) (calls : List Call) (c : Call) (why : MismatchReason) → CanRun o (calls ++ c ∷ []) o.start → ¬ IsRejectedAfter o calls c why
+no_rejection o calls c CannotTakePlace runs h = h (CanRun-change o calls (c ∷ []) (unanswered c ∷ []) o.start (λ t r. (r.0, r.1, r.2, tt, tt)) runs)
+no_rejection o calls c AnotherAnswer runs h = h.1 runs
+no_rejection o calls c NoEvent runs h = h
+no_rejection o calls c NoInvocation runs h = h
+no_rejection o calls c Twice runs h = h
+no_rejection o calls c Failed runs h = h
+no_rejection o calls c TooLate runs h = h
+no_rejection o calls c LeftOut runs h = h

@@ -1,4 +1,4 @@
--- the known facts about a history's events, and the fates of its operations
+-- the known facts about a history's events, and the statuses of its operations
 use Rattle.std.proofs.Common.{◌≡◌, ℕ, ◌<◌, nat_eq, true, Some, List, [], ◌∷◌, length, slice_get, refl, sym, ap, ◌∙◌, subst, ⊎_elim, arith}
 use Rattle.std.specs.List.{Contains}
 use Rattle.std.proofs.lemmas.Bool.{eqb-true}
@@ -17,16 +17,16 @@ use Rattle.linspec.proofs.Histories.{of_history}
 use Rattle.linspec.proofs.Lists.{Contains-nil, Contains-head, Contains-cons_cases, cut_at, Pairwise-across, Pairwise-right}
 use Rattle.std.proofs.lemmas.List.Elements.{Contains-append_left, Contains-append_right, Contains-append_cases}
 use Rattle.linspec.proofs.Filters.{to_map, from_map, map-cut}
-use Rattle.linspec.proofs.Fronts.{marks-append}
+use Rattle.linspec.proofs.Prefixes.{marks-append}
 use Rattle.linspec.proofs.Keyed.{to_of_key, from_marks, of_key-marks, Precedes-whole, Precedes-key}
-use Rattle.witness.specs.declared.fates.Fate.{Fate}
-use Rattle.witness.specs.declared.fates.Fate.TheVariants.{NoOperation, Pending, Returned as ReturnedAt, Failed as HasFailed}
+use Rattle.witness.specs.declared.statuses.OperationStatus.{OperationStatus}
+use Rattle.witness.specs.declared.statuses.OperationStatus.TheVariants.{NoOperation, Pending, Returned as ReturnedAt, Failed as HasFailed}
 use Rattle.witness.specs.Orders.{marks_in, marks_of_key, is_of}
-use Rattle.witness.specs.Fates.{fate_in, fate_at, op_at, answer_at, AreFates}
-use Rattle.witness.specs.Placing.{MayStand, MustStand, key_at}
+use Rattle.witness.specs.Statuses.{status_in, status_at, op_at, answer_at, AreStatuses}
+use Rattle.witness.specs.Placing.{MayBeInOrder, MustBeInOrder, key_at}
 use Rattle.witness.specs.KeyOrders.{IsBefore}
 use Rattle.witness.proofs.EventsThere.{entry_of, of_its_key, key_there, invocation_at, answer_of_return}
-use Rattle.witness.proofs.KnownFates.{IsReturned, Knows, knows}
+use Rattle.witness.proofs.KnownStatuses.{IsReturned, Knows, knows}
 
 abbrev pub entries : List Event → List Entry
 entries events = entries_of (indexed_from 0 events)
@@ -105,7 +105,7 @@ module _ (events : List Event) (sound : IsSound events) where
       (let r : a ≡ b = cc in r)
 
   -- and it answers once
-  index_by : (id : ℕ) (f : Fate) → Knows (entries events) id f → (e g : Entry) (a b : Answer) → Contains (entries events) e → Contains (entries events) g → e.mark ≡ Returned id a → g.mark ≡ Returned id b → e.index ≡ g.index
+  index_by : (id : ℕ) (f : OperationStatus) → Knows (entries events) id f → (e g : Entry) (a b : Answer) → Contains (entries events) e → Contains (entries events) g → e.mark ≡ Returned id a → g.mark ≡ Returned id b → e.index ≡ g.index
   index_by id NoOperation k e g a b h i p q = absurd (k (Returned id a) (subst (Contains (marks_in events)) p (to_map (λ (w : Entry). w.mark) (entries events) e h)) refl)
   index_by id Pending k e g a b h i p q = absurd (k.not_returned (a, subst (Contains (marks_in events)) p (to_map (λ (w : Entry). w.mark) (entries events) e h)))
   index_by id (ReturnedAt index) k e g a b h i p q = k.alone e a h p ∙ sym (k.alone g b i q)
@@ -115,8 +115,8 @@ module _ (events : List Event) (sound : IsSound events) where
   one_answer id a b h k =
       let f = from_marks (entries events) (Returned id a) h in
       let g = from_marks (entries events) (Returned id b) k in
-      let fate = fate_in (entries events) id in
-      let same : f.0 ≡ g.0 = one_entry (entries events) sound.rising f.0 g.0 f.1 g.1 (index_by id fate (knows (entries events) sound.well id) f.0 g.0 a b f.1 g.1 f.2 g.2) in
+      let status = status_in (entries events) id in
+      let same : f.0 ≡ g.0 = one_entry (entries events) sound.rising f.0 g.0 f.1 g.1 (index_by id status (knows (entries events) sound.well id) f.0 g.0 a b f.1 g.1 f.2 g.2) in
       let q : Returned id a ≡ Returned id b = sym f.2 ∙ ap (λ (w : Entry). w.mark) same ∙ g.2 in
       (let r : a ≡ b = cc in r)
 
@@ -146,44 +146,44 @@ module _ (events : List Event) (sound : IsSound events) where
   key_precedes key a b s t of_a of_b p = Precedes-key key (entries events) a b
       (λ e h q. ⊎_elim (λ i. its_key a s e h i ∙ of_a) (λ i. its_key b t e h i ∙ of_b) q) p
 
-  module _ (fates : List Fate) (are : AreFates events fates) where
-    pub known : (id : ℕ) → Knows (entries events) id (fate_at fates id)
+  module _ (statuses : List OperationStatus) (are : AreStatuses events statuses) where
+    pub known : (id : ℕ) → Knows (entries events) id (status_at statuses id)
     known id = subst (Knows (entries events) id) (sym (are.each id)) (knows (entries events) sound.well id)
 
-    known_by : (id : ℕ) (f : Fate) → fate_at fates id ≡ f → Knows (entries events) id f
+    known_by : (id : ℕ) (f : OperationStatus) → status_at statuses id ≡ f → Knows (entries events) id f
     known_by id f q = subst (Knows (entries events) id) q (known id)
 
-    -- an operation that may stand is invoked, and has not failed
-    may_invoked : (id : ℕ) (f : Fate) → Knows (entries events) id f → MayStand f → IsInvoked (marks_in events) id × (¬ Contains (marks_in events) (Failed id))
+    -- an operation that may be in an order is invoked, and has not failed
+    may_invoked : (id : ℕ) (f : OperationStatus) → Knows (entries events) id f → MayBeInOrder f → IsInvoked (marks_in events) id × (¬ Contains (marks_in events) (Failed id))
     may_invoked id NoOperation k m = absurd m
     may_invoked id Pending k m = (k.invoked, k.not_failed)
     may_invoked id (ReturnedAt index) k m = (k.invoked, k.not_failed)
     may_invoked id HasFailed k m = absurd m
 
-    pub may : (id : ℕ) → MayStand (fate_at fates id) → IsInvoked (marks_in events) id × (¬ Contains (marks_in events) (Failed id))
-    may id m = may_invoked id (fate_at fates id) (known id) m
+    pub may : (id : ℕ) → MayBeInOrder (status_at statuses id) → IsInvoked (marks_in events) id × (¬ Contains (marks_in events) (Failed id))
+    may id m = may_invoked id (status_at statuses id) (known id) m
 
-    -- an operation that has returned must stand, and the other way round
-    must_of : (id : ℕ) (f : Fate) → Knows (entries events) id f → HasReturned (marks_in events) id → MustStand f
+    -- an operation has returned exactly if it must be in each order
+    must_of : (id : ℕ) (f : OperationStatus) → Knows (entries events) id f → HasReturned (marks_in events) id → MustBeInOrder f
     must_of id NoOperation k r = absurd (k (Returned id r.0) r.1 refl)
     must_of id Pending k r = absurd (k.not_returned r)
     must_of id (ReturnedAt index) k r = tt
     must_of id HasFailed k r = absurd (k.not_returned r)
 
-    pub must : (id : ℕ) → HasReturned (marks_in events) id → MustStand (fate_at fates id)
-    must id r = must_of id (fate_at fates id) (known id) r
+    pub must : (id : ℕ) → HasReturned (marks_in events) id → MustBeInOrder (status_at statuses id)
+    must id r = must_of id (status_at statuses id) (known id) r
 
-    returned_of : (id : ℕ) (f : Fate) → Knows (entries events) id f → MustStand f → IsInvoked (marks_in events) id × HasReturned (marks_in events) id
+    returned_of : (id : ℕ) (f : OperationStatus) → Knows (entries events) id f → MustBeInOrder f → IsInvoked (marks_in events) id × HasReturned (marks_in events) id
     returned_of id NoOperation k m = absurd m
     returned_of id Pending k m = absurd m
     returned_of id (ReturnedAt index) k m = (k.invoked, (k.answer, subst (Contains (marks_in events)) k.says (to_map (λ (w : Entry). w.mark) (entries events) k.entry k.there)))
     returned_of id HasFailed k m = absurd m
 
-    pub returned : (id : ℕ) → MustStand (fate_at fates id) → IsInvoked (marks_in events) id × HasReturned (marks_in events) id
-    returned id m = returned_of id (fate_at fates id) (known id) m
+    pub returned : (id : ℕ) → MustBeInOrder (status_at statuses id) → IsInvoked (marks_in events) id × HasReturned (marks_in events) id
+    returned id m = returned_of id (status_at statuses id) (known id) m
 
-    -- it answers once, by the event of its fate
-    pub returned_at : (id index : ℕ) → fate_at fates id ≡ ReturnedAt index → (answer : Answer) × Contains (marks_in events) (Returned id answer) × (answer_at (slice_get events index) ≡ Some answer)
+    -- it answers once, by the event of its status
+    pub returned_at : (id index : ℕ) → status_at statuses id ≡ ReturnedAt index → (answer : Answer) × Contains (marks_in events) (Returned id answer) × (answer_at (slice_get events index) ≡ Some answer)
     returned_at id index q =
         let k : IsReturned (entries events) id index = known_by id (ReturnedAt index) q in (
           k.answer,
@@ -192,17 +192,17 @@ module _ (events : List Event) (sound : IsSound events) where
         )
 
     -- a pending operation has no answer
-    pub not_returned : (id : ℕ) → fate_at fates id ≡ Pending → ¬ HasReturned (marks_in events) id
+    pub not_returned : (id : ℕ) → status_at statuses id ≡ Pending → ¬ HasReturned (marks_in events) id
     not_returned id q = (known_by id Pending q).not_returned
 
-    pub not_invoked : (id : ℕ) → fate_at fates id ≡ NoOperation → ¬ IsInvoked (marks_in events) id
+    pub not_invoked : (id : ℕ) → status_at statuses id ≡ NoOperation → ¬ IsInvoked (marks_in events) id
     not_invoked id q h = known_by id NoOperation q (Invoked id h.0) h.1 refl
 
-    pub failed : (id : ℕ) → fate_at fates id ≡ HasFailed → IsInvoked (marks_in events) id × Contains (marks_in events) (Failed id)
+    pub failed : (id : ℕ) → status_at statuses id ≡ HasFailed → IsInvoked (marks_in events) id × Contains (marks_in events) (Failed id)
     failed id q = let k = known_by id HasFailed q in (k.invoked, k.failed)
 
-    -- precedence, by fates
-    pub to_precedes : (y x : ℕ) → IsBefore fates y x → IsInvoked (marks_in events) x → Precedes (marks_in events) y x
+    -- precedence, by statuses
+    pub to_precedes : (y x : ℕ) → IsBefore statuses y x → IsInvoked (marks_in events) x → Precedes (marks_in events) y x
     to_precedes y x b h =
         let k : IsReturned (entries events) y b.0 = known_by y (ReturnedAt b.0) b.1 in
         let s = is_there x h in
@@ -222,7 +222,7 @@ module _ (events : List Event) (sound : IsSound events) where
           invoked = (s.op, subst (Contains (marks (s.entry ∷ c.1))) s.says (to_map (λ (w : Entry). w.mark) (s.entry ∷ c.1) s.entry (Contains-head s.entry c.1)));
         }
 
-    before_by : (y x : ℕ) (f : Fate) → fate_at fates y ≡ f → Knows (entries events) y f → Precedes (marks_in events) y x → IsBefore fates y x
+    before_by : (y x : ℕ) (f : OperationStatus) → status_at statuses y ≡ f → Knows (entries events) y f → Precedes (marks_in events) y x → IsBefore statuses y x
     before_by y x f is k p =
         let c = map-cut (λ (w : Entry). w.mark) (entries events) p.before p.after p.cut in
         let e = from_map (λ (w : Entry). w.mark) c.0 (Returned y p.returned.0) (subst (λ l. Contains l (Returned y p.returned.0)) c.3 p.returned.1) in
@@ -231,13 +231,13 @@ module _ (events : List Event) (sound : IsSound events) where
         let here : Contains (entries events) g.0 = subst (λ l. Contains l g.0) (sym c.2) (Contains-append_right c.0 c.1 g.0 g.1) in
         let l : e.0.index < g.0.index = Pairwise-across (λ (v w : Entry). v.index < w.index) c.0 c.1 (subst IsRising c.2 sound.rising) e.0 g.0 e.1 g.1 in
         let at = (invocation_at events g.0 x p.invoked.0 (entry_of events g.0 here) g.2).0 in
-        by_fate f is k (p.returned.0, subst (Contains (marks_in events)) e.2 (to_map (λ (w : Entry). w.mark) (entries events) e.0 there)) e.0 there e.2 (omega (arith, l, at))
+        by_status f is k (p.returned.0, subst (Contains (marks_in events)) e.2 (to_map (λ (w : Entry). w.mark) (entries events) e.0 there)) e.0 there e.2 (omega (arith, l, at))
       where
-        by_fate : (f : Fate) → fate_at fates y ≡ f → Knows (entries events) y f → HasReturned (marks_in events) y → (e : Entry) → Contains (entries events) e → e.mark ≡ Returned y p.returned.0 → e.index < x → IsBefore fates y x
-        by_fate NoOperation is k r e h q l = absurd (k (Returned y r.0) r.1 refl)
-        by_fate Pending is k r e h q l = absurd (k.not_returned r)
-        by_fate (ReturnedAt index) is k r e h q l = (index, is, subst (λ n. n < x) (k.alone e p.returned.0 h q) l)
-        by_fate HasFailed is k r e h q l = absurd (k.not_returned r)
+        by_status : (f : OperationStatus) → status_at statuses y ≡ f → Knows (entries events) y f → HasReturned (marks_in events) y → (e : Entry) → Contains (entries events) e → e.mark ≡ Returned y p.returned.0 → e.index < x → IsBefore statuses y x
+        by_status NoOperation is k r e h q l = absurd (k (Returned y r.0) r.1 refl)
+        by_status Pending is k r e h q l = absurd (k.not_returned r)
+        by_status (ReturnedAt index) is k r e h q l = (index, is, subst (λ n. n < x) (k.alone e p.returned.0 h q) l)
+        by_status HasFailed is k r e h q l = absurd (k.not_returned r)
 
-    pub from_precedes : (y x : ℕ) → Precedes (marks_in events) y x → IsBefore fates y x
-    from_precedes y x p = before_by y x (fate_at fates y) refl (known y) p
+    pub from_precedes : (y x : ℕ) → Precedes (marks_in events) y x → IsBefore statuses y x
+    from_precedes y x p = before_by y x (status_at statuses y) refl (known y) p

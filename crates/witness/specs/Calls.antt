@@ -4,8 +4,8 @@ use Rattle.models.specs.declared.finding.Found.{Found}
 use Rattle.models.specs.declared.finding.Answer.{Answer}
 use Rattle.models.specs.Objects.{Object, Fits}
 use Rattle.witness.specs.declared.calls.Call.{Call}
-use Rattle.witness.specs.declared.misfit.Misfit.{Misfit}
-use Rattle.witness.specs.declared.misfit.Misfit.TheVariants.{CannotTakePlace, AnotherAnswer}
+use Rattle.witness.specs.declared.mismatch.MismatchReason.{MismatchReason}
+use Rattle.witness.specs.declared.mismatch.MismatchReason.TheVariants.{CannotTakePlace, AnotherAnswer}
 
 -- the value that was found fits the answer, if there is one
 abbrev pub FitsIf : Found → Option Answer → Type 0
@@ -22,17 +22,17 @@ abbrev pub unanswered : Call → Call
 unanswered c = record { op = c.op; answer = None }
 
 -- behind these the call can't take place; or it can, and only with another answer
-abbrev pub HaltsBehind : Object → List Call → Call → Misfit → Type 0
-HaltsBehind o before c CannotTakePlace = ¬ CanRun o (before ++ unanswered c ∷ []) o.start
-HaltsBehind o before c AnotherAnswer = CanRun o (before ++ unanswered c ∷ []) o.start × ¬ CanRun o (before ++ c ∷ []) o.start
-HaltsBehind o before c _ = ⊥
+abbrev pub IsRejectedAfter : Object → List Call → Call → MismatchReason → Type 0
+IsRejectedAfter o before c CannotTakePlace = ¬ CanRun o (before ++ unanswered c ∷ []) o.start
+IsRejectedAfter o before c AnotherAnswer = CanRun o (before ++ unanswered c ∷ []) o.start × ¬ CanRun o (before ++ c ∷ []) o.start
+IsRejectedAfter o before c _ = ⊥
 
--- the calls can take place up to this place, and halt there for this
-pub record IsHalt (o : Object) (calls : List Call) (at : ℕ) (why : Misfit) : Type 0 where
+-- the calls before this place can take place, and the call there is rejected for this reason
+pub record IsRejection (o : Object) (calls : List Call) (at : ℕ) (why : MismatchReason) : Type 0 where
   pub before : List Call
   pub call : Call
   pub after : List Call
   pub cut : before ++ call ∷ after ≡ calls
   pub place : length before ≡ at
   pub can_run : CanRun o before o.start
-  pub halts : HaltsBehind o before call why
+  pub rejected : IsRejectedAfter o before call why

@@ -1,7 +1,7 @@
 pub mod Calls
 pub mod Orders
 pub mod Taking
-pub mod Needs
-pub mod Fates
+pub mod Requirements
+pub mod Statuses
 pub mod Placing
 pub mod KeyOrders

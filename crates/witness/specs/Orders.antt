@@ -1,21 +1,22 @@
 -- Promise: an order of a history's operations, which shows that it is linearizable (Herlihy and Wing 1990, section 2)
 use Rattle.std.specs.Prelude.{◌≡◌, ℕ, ◌<◌, ◌≤◌, Bool, true, false, Option, Some, None, List, [], ◌∷◌, length, map, slice_get, take}
 use Rattle.std.specs.List.{filter, Contains}
-use Rattle.models.specs.declared.model_kind.ModelKind.{ModelKind}
 use Rattle.models.specs.declared.finding.Answer.{Answer}
-use Rattle.models.specs.Objects.{Object, object_of}
+use Rattle.models.specs.Objects.{Object}
+use Rattle.kinds.specs.declared.model_kind.ModelKind.{ModelKind}
+use Rattle.kinds.specs.Kinds.{object_of}
 use Rattle.events.specs.declared.event.Event.{Event}
 use Rattle.events.specs.Events.{Mark, marks, entries_of, indexed_from, of_key, is_event_of}
 use Rattle.events.specs.Events.Mark.{Invoked, Returned, Failed}
 use Rattle.linspec.specs.Operations.{IsInvoked, HasReturned, Precedes}
 use Rattle.linspec.specs.Orders.{Taken, IsLegalOrder}
 use Rattle.witness.specs.declared.calls.Call.{Call}
-use Rattle.witness.specs.declared.misfit.Misfit.{Misfit}
-use Rattle.witness.specs.declared.misfit.Misfit.TheVariants.{NoEvent, NoInvocation, Twice, Failed as HasFailed, TooLate, CannotTakePlace, AnotherAnswer, LeftOut}
-use Rattle.witness.specs.declared.misfit.Unfit.{Unfit}
+use Rattle.witness.specs.declared.mismatch.MismatchReason.{MismatchReason}
+use Rattle.witness.specs.declared.mismatch.MismatchReason.TheVariants.{NoEvent, NoInvocation, Twice, Failed as HasFailed, TooLate, CannotTakePlace, AnotherAnswer, LeftOut}
+use Rattle.witness.specs.declared.mismatch.Mismatch.{Mismatch}
 use Rattle.witness.specs.declared.confirming.Confirmation.{Confirmation}
 use Rattle.witness.specs.declared.confirming.Confirmation.TheVariants.{Linearizable, NoOrder}
-use Rattle.witness.specs.Calls.{HaltsBehind}
+use Rattle.witness.specs.Calls.{IsRejectedAfter}
 
 -- the marks of events, of all and of those of a key
 abbrev pub marks_in : List Event → List Mark
@@ -39,8 +40,8 @@ is_of key (Some e) = is_event_of key e
 abbrev pub among : List Event → ℕ → List ℕ → List ℕ
 among events key ids = filter (λ id. is_of key (slice_get events id)) ids
 
--- the order is of operations of the history, and those of each key, which is an object of this kind, are a legal order of its own
--- history, in which they stand
+-- the order is of operations of the history. Those of each key, in the order, are a legal order of the key's history, an object of this
+-- kind
 pub record IsWitness (kind : ModelKind) (events : List Event) (order : List ℕ) : Type 0 where
   pub invoked : (id : ℕ) → Contains order id → IsInvoked (marks_in events) id
   pub each : (key : ℕ) → IsOrder (object_of kind) (marks_of_key events key) (among events key order)
@@ -59,11 +60,11 @@ AreCalls marks [] [] = Unit {0}
 AreCalls marks (id ∷ ids) (c ∷ calls) = IsCall marks id c × AreCalls marks ids calls
 AreCalls marks _ _ = ⊥
 
--- the operations of the key that stand before the place in the order
+-- the operations of the key before the place in the order
 abbrev pub before_on_key : List Event → ℕ → List ℕ → ℕ → List ℕ
 before_on_key events key order place = among events key (take place order)
 
--- it has returned before an operation of its key is invoked that stands before it
+-- it has returned before the invocation of an earlier operation of its key in the order
 pub record IsTooLate (events : List Event) (order : List ℕ) (place id : ℕ) : Type 0 where
   pub key : ℕ
   pub of_key : is_of key (slice_get events id) ≡ true
@@ -71,15 +72,15 @@ pub record IsTooLate (events : List Event) (order : List ℕ) (place id : ℕ) :
   pub earlier : Contains (before_on_key events key order place) other
   pub precedes : Precedes (marks_in events) id other
 
--- behind those of its key that stand before it, the operation can't take place; or it can, and only with another answer
-pub record HaltsThere (kind : ModelKind) (events : List Event) (order : List ℕ) (place id : ℕ) (why : Misfit) : Type 0 where
+-- behind the earlier operations of its key, the operation can't take place; or it can, and only with another answer
+pub record IsRejectedThere (kind : ModelKind) (events : List Event) (order : List ℕ) (place id : ℕ) (why : MismatchReason) : Type 0 where
   pub key : ℕ
   pub of_key : is_of key (slice_get events id) ≡ true
   pub calls : List Call
   pub call : Call
   pub are : AreCalls (marks_in events) (before_on_key events key order place) calls
   pub is : IsCall (marks_in events) id call
-  pub halts : HaltsBehind (object_of kind) calls call why
+  pub rejected : IsRejectedAfter (object_of kind) calls call why
 
 -- it has returned, and is not in the order; it is the first such
 pub record IsLeftOut (events : List Event) (order : List ℕ) (id : ℕ) : Type 0 where
@@ -89,17 +90,17 @@ pub record IsLeftOut (events : List Event) (order : List ℕ) (id : ℕ) : Type 
 
 -- why the operation at this place of the order, whose invocation has this index, does not fit; or, behind the last place, why the
 -- operation must be in the order
-abbrev pub IsMisfit : ModelKind → List Event → List ℕ → ℕ → ℕ → Misfit → Type 0
-IsMisfit kind events order place id NoEvent = (slice_get order place ≡ Some id) × (length events ≤ id)
-IsMisfit kind events order place id NoInvocation = (slice_get order place ≡ Some id) × ¬ IsInvoked (marks_in events) id
-IsMisfit kind events order place id Twice = (slice_get order place ≡ Some id) × Contains (take place order) id
-IsMisfit kind events order place id HasFailed = (slice_get order place ≡ Some id) × Contains (marks_in events) (Failed id)
-IsMisfit kind events order place id TooLate = (slice_get order place ≡ Some id) × IsTooLate events order place id
-IsMisfit kind events order place id LeftOut = (place ≡ length order) × IsLeftOut events order id
-IsMisfit kind events order place id why = (slice_get order place ≡ Some id) × HaltsThere kind events order place id why
+abbrev pub IsMismatchReason : ModelKind → List Event → List ℕ → ℕ → ℕ → MismatchReason → Type 0
+IsMismatchReason kind events order place id NoEvent = (slice_get order place ≡ Some id) × (length events ≤ id)
+IsMismatchReason kind events order place id NoInvocation = (slice_get order place ≡ Some id) × ¬ IsInvoked (marks_in events) id
+IsMismatchReason kind events order place id Twice = (slice_get order place ≡ Some id) × Contains (take place order) id
+IsMismatchReason kind events order place id HasFailed = (slice_get order place ≡ Some id) × Contains (marks_in events) (Failed id)
+IsMismatchReason kind events order place id TooLate = (slice_get order place ≡ Some id) × IsTooLate events order place id
+IsMismatchReason kind events order place id LeftOut = (place ≡ length order) × IsLeftOut events order id
+IsMismatchReason kind events order place id why = (slice_get order place ≡ Some id) × IsRejectedThere kind events order place id why
 
 -- the reported reason if several hold: the one of the least rank
-abbrev pub rank_of : Misfit → ℕ
+abbrev pub rank_of : MismatchReason → ℕ
 rank_of NoEvent = 0
 rank_of NoInvocation = 1
 rank_of HasFailed = 2
@@ -109,25 +110,25 @@ rank_of CannotTakePlace = 5
 rank_of AnotherAnswer = 6
 rank_of LeftOut = 7
 
-abbrev pub NoneOfLesserRank : ModelKind → List Event → List ℕ → ℕ → ℕ → Misfit → Type 0
-NoneOfLesserRank kind events order place id why = (other : Misfit) → rank_of other < rank_of why → ¬ IsMisfit kind events order place id other
+abbrev pub NoneOfLesserRank : ModelKind → List Event → List ℕ → ℕ → ℕ → MismatchReason → Type 0
+NoneOfLesserRank kind events order place id why = (other : MismatchReason) → rank_of other < rank_of why → ¬ IsMismatchReason kind events order place id other
 
 -- it does not fit for this reason, and for none of a lesser rank
-pub record IsUnfit (kind : ModelKind) (events : List Event) (order : List ℕ) (unfit : Unfit) : Type 0 where
-  pub is_so : IsMisfit kind events order unfit.place unfit.event unfit.why
-  pub told : NoneOfLesserRank kind events order unfit.place unfit.event unfit.why
+pub record IsMismatch (kind : ModelKind) (events : List Event) (order : List ℕ) (mismatch : Mismatch) : Type 0 where
+  pub is_so : IsMismatchReason kind events order mismatch.place mismatch.event mismatch.why
+  pub told : NoneOfLesserRank kind events order mismatch.place mismatch.event mismatch.why
 
--- nothing that does not fit, for whatever reason, stands before it
-abbrev pub StandsFirst : ModelKind → List Event → List ℕ → Unfit → Type 0
-StandsFirst kind events order unfit =
-    (place id : ℕ) (why : Misfit) → IsMisfit kind events order place id why → unfit.place ≤ place
+-- nothing before it fails to fit, for any reason
+abbrev pub ComesFirst : ModelKind → List Event → List ℕ → Mismatch → Type 0
+ComesFirst kind events order mismatch =
+    (place id : ℕ) (why : MismatchReason) → IsMismatchReason kind events order place id why → mismatch.place ≤ place
 
 -- where it is said that the order is none, the reason is so
 abbrev pub HasReason : ModelKind → List Event → List ℕ → Confirmation → Type 0
 HasReason kind events order Linearizable = Unit {0}
-HasReason kind events order (NoOrder unfit) = IsUnfit kind events order unfit
+HasReason kind events order (NoOrder mismatch) = IsMismatch kind events order mismatch
 
 -- and the reported place is the first
 abbrev pub TellsFirst : ModelKind → List Event → List ℕ → Confirmation → Type 0
 TellsFirst kind events order Linearizable = Unit {0}
-TellsFirst kind events order (NoOrder unfit) = StandsFirst kind events order unfit
+TellsFirst kind events order (NoOrder mismatch) = ComesFirst kind events order mismatch

@@ -1,67 +1,67 @@
--- Invariant: the operations of an order, by their fates
+-- Invariant: the operations of an order, by their statuses
 use Rattle.std.specs.Prelude.{◌≡◌, ◌≢◌, ℕ, ◌+◌, ◌<◌, ◌≤◌, Option, Some, MatchOption, unwrap_or, option_and_then, List, [], ◌∷◌, length, slice_get, take}
 use Rattle.std.specs.List.{Contains}
 use Rattle.events.specs.declared.event.Event.{Event}
-use Rattle.events.specs.Events.{key_of, IsFront}
+use Rattle.events.specs.Events.{key_of, IsPrefixOf}
 use Rattle.linspec.specs.Orders.{Pairwise}
-use Rattle.witness.specs.declared.misfit.Misfit.{Misfit}
-use Rattle.witness.specs.declared.misfit.Misfit.TheVariants.{NoEvent, NoInvocation, Twice, Failed as ThatFailed, LeftOut}
-use Rattle.witness.specs.declared.misfit.Unfit.{Unfit}
-use Rattle.witness.specs.declared.fates.Fate.{Fate}
-use Rattle.witness.specs.declared.fates.Fate.TheVariants.{NoOperation, Pending, Returned, Failed}
-use Rattle.witness.specs.declared.placing.Stand.{Stand}
-use Rattle.witness.specs.Fates.{fate_at}
+use Rattle.witness.specs.declared.mismatch.MismatchReason.{MismatchReason}
+use Rattle.witness.specs.declared.mismatch.MismatchReason.TheVariants.{NoEvent, NoInvocation, Twice, Failed as ThatFailed, LeftOut}
+use Rattle.witness.specs.declared.mismatch.Mismatch.{Mismatch}
+use Rattle.witness.specs.declared.statuses.OperationStatus.{OperationStatus}
+use Rattle.witness.specs.declared.statuses.OperationStatus.TheVariants.{NoOperation, Pending, Returned, Failed}
+use Rattle.witness.specs.declared.placing.Position.{Position}
+use Rattle.witness.specs.Statuses.{status_at}
 
--- the operation may stand in an order; it must
-abbrev pub MayStand : Fate → Type 0
-MayStand NoOperation = ⊥
-MayStand Pending = Unit {0}
-MayStand (Returned index) = Unit {0}
-MayStand Failed = ⊥
+-- an operation with this status may be in an order; it must be in each order
+abbrev pub MayBeInOrder : OperationStatus → Type 0
+MayBeInOrder NoOperation = ⊥
+MayBeInOrder Pending = Unit {0}
+MayBeInOrder (Returned index) = Unit {0}
+MayBeInOrder Failed = ⊥
 
-abbrev pub MustStand : Fate → Type 0
-MustStand NoOperation = ⊥
-MustStand Pending = ⊥
-MustStand (Returned index) = Unit {0}
-MustStand Failed = ⊥
+abbrev pub MustBeInOrder : OperationStatus → Type 0
+MustBeInOrder NoOperation = ⊥
+MustBeInOrder Pending = ⊥
+MustBeInOrder (Returned index) = Unit {0}
+MustBeInOrder Failed = ⊥
 
 -- the key of an event, 0 if it has none
 abbrev pub key_at : Option Event → ℕ
 key_at e = unwrap_or (option_and_then key_of e) 0
 
 -- these operations, with their places from n on
-abbrev pub stands_from : List Event → ℕ → List ℕ → List Stand
-stands_from events n [] = []
-stands_from events n (id ∷ ids) = record { key = key_at (slice_get events id); place = n; id = id } ∷ stands_from events (n + 1) ids
+abbrev pub positions_from : List Event → ℕ → List ℕ → List Position
+positions_from events n [] = []
+positions_from events n (id ∷ ids) = record { key = key_at (slice_get events id); place = n; id = id } ∷ positions_from events (n + 1) ids
 
--- why an operation can't stand in an order, where it is known which ones stand before it; by the first test that it does not pass
-abbrev pub IsBarred : List Fate → (ℕ → Type 0) → ℕ → Misfit → Type 0
-IsBarred fates Taken id NoEvent = length fates ≤ id
-IsBarred fates Taken id NoInvocation = (id < length fates) × (fate_at fates id ≡ NoOperation)
-IsBarred fates Taken id ThatFailed = fate_at fates id ≡ Failed
-IsBarred fates Taken id Twice = Taken id
-IsBarred fates Taken id _ = ⊥
+-- the reason for which an operation may not be next in an order, by the first test that it does not pass. Taken are the operations before it
+abbrev pub IsBarred : List OperationStatus → (ℕ → Type 0) → ℕ → MismatchReason → Type 0
+IsBarred statuses Taken id NoEvent = length statuses ≤ id
+IsBarred statuses Taken id NoInvocation = (id < length statuses) × (status_at statuses id ≡ NoOperation)
+IsBarred statuses Taken id ThatFailed = status_at statuses id ≡ Failed
+IsBarred statuses Taken id Twice = Taken id
+IsBarred statuses Taken id _ = ⊥
 
--- why no more than these first operations of the order are placed
-abbrev pub StopsFor : List Fate → List ℕ → List ℕ → ℕ → ℕ → Misfit → Type 0
-StopsFor fates order ids place id LeftOut =
-    (ids ≡ order) × (place ≡ length order) × MustStand (fate_at fates id) × (¬ Contains order id)
-    × ((other : ℕ) → other < id → MustStand (fate_at fates other) → Contains order other)
-StopsFor fates order ids place id why = (ids ≡ take place order) × (slice_get order place ≡ Some id) × IsBarred fates (Contains ids) id why
+-- the reason for which only these first operations of the order are placed
+abbrev pub StopsFor : List OperationStatus → List ℕ → List ℕ → ℕ → ℕ → MismatchReason → Type 0
+StopsFor statuses order ids place id LeftOut =
+    (ids ≡ order) × (place ≡ length order) × MustBeInOrder (status_at statuses id) × (¬ Contains order id)
+    × ((other : ℕ) → other < id → MustBeInOrder (status_at statuses other) → Contains order other)
+StopsFor statuses order ids place id why = (ids ≡ take place order) × (slice_get order place ≡ Some id) × IsBarred statuses (Contains ids) id why
 
-abbrev pub Stops : List Fate → List ℕ → List ℕ → Unfit → Type 0
-Stops fates order ids stop = StopsFor fates order ids stop.place stop.event stop.why
+abbrev pub Stops : List OperationStatus → List ℕ → List ℕ → Mismatch → Type 0
+Stops statuses order ids stop = StopsFor statuses order ids stop.place stop.event stop.why
 
--- these are all, and each that must stand in the order is among them
-pub record AreAll (fates : List Fate) (order ids : List ℕ) : Type 0 where
+-- these are all, and each operation that must be in the order is among them
+pub record AreAll (statuses : List OperationStatus) (order ids : List ℕ) : Type 0 where
   pub all : ids ≡ order
-  pub each : (id : ℕ) → MustStand (fate_at fates id) → Contains order id
+  pub each : (id : ℕ) → MustBeInOrder (status_at statuses id) → Contains order id
 
 -- the first operations of the order, each once
-pub record ArePlaced (events : List Event) (fates : List Fate) (order : List ℕ) (stands : List Stand) (stop : Option Unfit) : Type 0 where
+pub record ArePlaced (events : List Event) (statuses : List OperationStatus) (order : List ℕ) (positions : List Position) (stop : Option Mismatch) : Type 0 where
   pub ids : List ℕ
-  pub front : IsFront ids order
-  pub are : stands ≡ stands_from events 0 ids
-  pub may : (id : ℕ) → Contains ids id → MayStand (fate_at fates id)
+  pub front : IsPrefixOf ids order
+  pub are : positions ≡ positions_from events 0 ids
+  pub may : (id : ℕ) → Contains ids id → MayBeInOrder (status_at statuses id)
   pub once : Pairwise (λ x y. x ≢ y) ids
-  pub ends : MatchOption stop (AreAll fates order ids) (Stops fates order ids)
+  pub ends : MatchOption stop (AreAll statuses order ids) (Stops statuses order ids)

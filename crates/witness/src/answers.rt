@@ -1,25 +1,28 @@
-//! The operations that stand in an order, with their answers.
+//! The operations of an order, with their answers.
 ghost use Rattle.std.specs.Prelude.{◌≡◌, Some, slice_get, IfOk};
 ghost use Rattle.std.specs.Option.{option_copied};
 ghost use Rattle.models.specs.declared.operation.Op.{Op};
-ghost use Rattle.witness.specs.Fates.{fate_at, op_at};
+ghost use Rattle.witness.specs.Statuses.{status_at, op_at};
 ghost use Rattle.witness.specs.KeyOrders.{AreCallsBy, AreThere, IsCallBy, answer_by, ids_of};
 
 use crate::calls::Call;
-use crate::fates::Fate;
-use crate::placing::Stand;
+use crate::placing::Position;
+use crate::statuses::OperationStatus;
 use events::{Body, Event, Process};
 use models::{Answer, Op};
 use std::alloc::{AllocError, Global};
 
-/// The fate of the operation of this index.
-pub fn fate_at(fates: &[Fate], id: usize) -> Fate
-    ensures { result ≡ fate_at fates.now id }
+/// The status of the operation with index `id`.
+pub fn status_at(statuses: &[OperationStatus], id: usize) -> OperationStatus
+    ensures { result ≡ status_at statuses.now id }
 {
-    fates.get(id).copied().unwrap_or(Fate::NoOperation)
+    statuses
+        .get(id)
+        .copied()
+        .unwrap_or(OperationStatus::NoOperation)
 }
 
-// The operation that the event of this index speaks of, if it does.
+// The operation of the event with index `id`, or `None` if the event has no operation.
 fn op_at(events: &[Event], id: usize) -> Option<&Op>
     ensures { option_copied result ≡ op_at (slice_get events.now id) }
 {
@@ -30,11 +33,11 @@ fn op_at(events: &[Event], id: usize) -> Option<&Op>
     }
 }
 
-// The answer of an operation of which this became, if it has returned.
-fn answer_by(events: &[Event], fate: Fate) -> Result<Option<Answer>, AllocError>
-    ensures { IfOk result (λ answer. answer ≡ answer_by events.now fate) }
+// The answer of an operation with this status, or `None` if the operation has not returned.
+fn answer_by(events: &[Event], status: OperationStatus) -> Result<Option<Answer>, AllocError>
+    ensures { IfOk result (λ answer. answer ≡ answer_by events.now status) }
 {
-    let Fate::Returned(index) = fate else {
+    let OperationStatus::Returned(index) = status else {
         return Ok(None);
     };
     match op_at(events, index) {
@@ -43,34 +46,34 @@ fn answer_by(events: &[Event], fate: Fate) -> Result<Option<Answer>, AllocError>
     }
 }
 
-// The operation of this index, with its answer.
-fn call_by(events: &[Event], fates: &[Fate], id: usize) -> Result<Call, AllocError>
+// The operation with index `id`, and its answer.
+fn call_by(events: &[Event], statuses: &[OperationStatus], id: usize) -> Result<Call, AllocError>
     requires { (op : Op) × (op_at (slice_get events.now id) ≡ Some op) }
-    ensures { IfOk result (IsCallBy events.now fates.now id) }
+    ensures { IfOk result (IsCallBy events.now statuses.now id) }
 {
     let Some(op) = op_at(events, id) else {
         unreachable!();
     };
-    let answer = answer_by(events, fate_at(fates, id))?;
+    let answer = answer_by(events, status_at(statuses, id))?;
     Ok(Call {
         op: op.copy()?,
         answer,
     })
 }
 
-/// The operations that stand there, with their answers. Takes their time, and memory for them, but not for the members of sets.
+/// The operations at these positions, with their answers. Costs time and memory in O(positions); members of sets are shared.
 pub fn calls_by(
     alloc: Global,
     events: &[Event],
-    fates: &[Fate],
-    stands: &[Stand],
+    statuses: &[OperationStatus],
+    positions: &[Position],
 ) -> Result<Vec<Call>, AllocError>
-    requires { AreThere events.now stands.now }
-    ensures { IfOk result (λ calls. AreCallsBy events.now fates.now (ids_of stands.now) calls.items) }
+    requires { AreThere events.now positions.now }
+    ensures { IfOk result (λ calls. AreCallsBy events.now statuses.now (ids_of positions.now) calls.items) }
 {
     let mut calls = Vec::new(alloc);
-    for stand in stands {
-        let call = call_by(events, fates, stand.id)?;
+    for position in positions {
+        let call = call_by(events, statuses, position.id)?;
         calls.push(call)?;
     }
     Ok(calls)

@@ -4,35 +4,35 @@ ghost use Rattle.linspec.specs.Orders.{IsLinearizable, product};
 ghost use Rattle.witness.specs.declared.confirming.Confirmation.{Confirmation};
 ghost use Rattle.witness.specs.Orders.{HasReason, IsWitness, TellsFirst, marks_in};
 
-use crate::fates::fates_of;
-use crate::keys::first_unfit;
-use crate::misfit::Unfit;
+use crate::keys::first_mismatch;
+use crate::mismatch::Mismatch;
 use crate::placing::place_all;
+use crate::statuses::statuses_of;
 use history::History;
-use models::ModelKind;
+use kinds::ModelKind;
 use std::alloc::{AllocError, Global};
 
-/// The result of an order of a history.
+/// The answer of `confirm` about an order.
 #[derive(Clone, Copy, Debug, PartialEq, Eq)]
 pub enum Confirmation {
-    /// The order is one of the history, which is linearizable.
+    /// The order is an order of the history. So the history is linearizable.
     Linearizable,
-    /// The order is none of the history: this does not fit. Nothing is said of the history.
-    NoOrder(Unfit),
+    /// The order is not an order of the history, because of this mismatch. The history may be linearizable or not.
+    NoOrder(Mismatch),
 }
 
-/// Whether these operations of the history, by the indices of their invocations, are an order of it. In an order those of each key, an
-/// object of this kind, can take place one after another, with their answers. No operation comes after one that it precedes in real time
-/// (Herlihy and Wing 1990, section 2). Then the history is linearizable. Operations of different keys may stand in any order. An operation
-/// that has returned must be in the order, and one that has failed must not. One that has not completed, or has crashed, may be left out,
-/// which says that it did not take place.
+/// Tests whether `order` is an order of the history. `order` has the indices of invocations. If it is an order, the history is linearizable
+/// (Herlihy and Wing 1990, section 2). These are the rules:
 ///
-/// Else it says what does not fit, at the first place at which something does not. It tries no other order, and says nothing of the
-/// history then.
+/// - The operations of each key, an object of this kind, can take place one after another, with their answers.
+/// - No operation comes after one that it precedes in real time. Operations of different keys may come in any order.
+/// - An operation that has returned is in the order, and one that has failed is not. An operation that has crashed or has not completed may
+///   be left out, and then did not take place.
 ///
-/// Costs O(n log n) in the events and in the order: the logarithm is of the keys, of the processes, of the state. A read of a set takes
-/// that of the members besides. A dequeue from a queue without an order takes its value out wherever it is. A dequeue without an answer
-/// takes out a value that no later one needs.
+/// If a rule is broken, the result has the first place at which something does not fit. No other order is tried.
+///
+/// Costs O(n log n) in the events and in the order; a read of a set also costs O(members). A dequeue from a queue without an order removes
+/// its value from any place, and a dequeue without an answer removes a value that no later dequeue needs.
 pub fn confirm(
     alloc: Global,
     history: &History,
@@ -48,10 +48,17 @@ pub fn confirm(
 {
     let _many = history.len();
     let events = history.events();
-    let fates = fates_of(alloc, events)?;
-    let placed = place_all(alloc, events, &fates, order)?;
-    match first_unfit(alloc, events, &fates, kind, placed.stands, placed.stop)? {
-        Some(unfit) => Ok(Confirmation::NoOrder(unfit)),
+    let statuses = statuses_of(alloc, events)?;
+    let placed = place_all(alloc, events, &statuses, order)?;
+    match first_mismatch(
+        alloc,
+        events,
+        &statuses,
+        kind,
+        placed.positions,
+        placed.stop,
+    )? {
+        Some(mismatch) => Ok(Confirmation::NoOrder(mismatch)),
         None => Ok(Confirmation::Linearizable),
     }
 }

@@ -1,107 +1,107 @@
-//! The operations of each key that stand in an order.
+//! The operations of each key in an order.
 ghost use Rattle.std.specs.Prelude.{◌≡◌, ℕ, ◌+◌, ◌<◌, ◌≤◌, ◌↔◌, ◌≢◌, ◌⊎◌, Some, None, MatchOption, length, slice_index_or, take, IfOk, IfSome, OnOk, IsTrue};
 ghost use Rattle.std.specs.List.{Contains};
-ghost use Rattle.witness.specs.declared.misfit.Unfit.{Unfit};
-ghost use Rattle.witness.specs.declared.placing.Stand.{Stand};
-ghost use Rattle.witness.specs.KeyOrders.{AreByKeys, AreInTime, AreThere, CanRunBy, FindsAll, IsBefore, Judges, KeyUnfit, ids_of};
+ghost use Rattle.witness.specs.declared.mismatch.Mismatch.{Mismatch};
+ghost use Rattle.witness.specs.declared.placing.Position.{Position};
+ghost use Rattle.witness.specs.KeyOrders.{AreByKeys, AreInTime, AreThere, CanRunBy, FindsAll, IsBefore, Judges, KeyMismatch, ids_of};
 
-use crate::answers::{calls_by, fate_at};
-use crate::fates::Fate;
-use crate::misfit::{Misfit, Unfit};
-use crate::placing::Stand;
-use crate::running::first_halt;
+use crate::answers::{calls_by, status_at};
+use crate::mismatch::{Mismatch, MismatchReason};
+use crate::placing::Position;
+use crate::running::first_rejection;
+use crate::statuses::OperationStatus;
 use events::Event;
-use models::ModelKind;
+use kinds::ModelKind;
 use std::alloc::{AllocError, Global};
 
-// Whether the operation of this index has returned before the index of an invocation.
-fn is_before(fates: &[Fate], id: usize, invocation: usize) -> bool
-    ensures { IsTrue result ↔ IsBefore fates.now id invocation }
+// Whether operation `id` has returned before the event with index `invocation`.
+fn is_before(statuses: &[OperationStatus], id: usize, invocation: usize) -> bool
+    ensures { IsTrue result ↔ IsBefore statuses.now id invocation }
 {
-    match fate_at(fates, id) {
-        Fate::Returned(index) => index < invocation,
+    match status_at(statuses, id) {
+        OperationStatus::Returned(index) => index < invocation,
         _ => false,
     }
 }
 
-// The first place of an operation that has returned before one is invoked that stands before it, if there is one. It has
-// returned then before the latest invocation.
-fn first_late(fates: &[Fate], stands: &[Stand]) -> Option<usize>
-    ensures { MatchOption result (AreInTime fates.now (ids_of stands.now)) (λ at. (at < length stands.now)
-        × AreInTime fates.now (ids_of (take at stands.now))
-        × ((d : Stand) → (other : ℕ) × Contains (ids_of (take at stands.now)) other
-        × IsBefore fates.now (slice_index_or stands.now at d).id other)) }
+// The first place of an operation that has returned before the invocation of an earlier operation of the order, if there is one. Such an
+// operation has returned before the latest of these invocations.
+fn first_late(statuses: &[OperationStatus], positions: &[Position]) -> Option<usize>
+    ensures { MatchOption result (AreInTime statuses.now (ids_of positions.now)) (λ at. (at < length positions.now)
+        × AreInTime statuses.now (ids_of (take at positions.now))
+        × ((d : Position) → (other : ℕ) × Contains (ids_of (take at positions.now)) other
+        × IsBefore statuses.now (slice_index_or positions.now at d).id other)) }
 {
     let mut latest = 0;
-    for (at, stand) in stands.iter().enumerate() {
-        if is_before(fates, stand.id, latest) {
+    for (at, position) in positions.iter().enumerate() {
+        if is_before(statuses, position.id, latest) {
             return Some(at);
         }
-        latest = latest.max(stand.id);
+        latest = latest.max(position.id);
     }
     None
 }
 
-// The operation at this place, which does not fit for this.
-fn unfit_at(stands: &[Stand], at: usize, why: Misfit) -> Unfit
-    requires { at < length stands.now }
-    ensures { (d : Stand) → let stand = slice_index_or stands.now at d in
-        (result.place ≡ stand.place) × (result.event ≡ stand.id) × (result.why ≡ why) }
+// The mismatch of the operation at place `at`, for this reason.
+fn mismatch_at(positions: &[Position], at: usize, why: MismatchReason) -> Mismatch
+    requires { at < length positions.now }
+    ensures { (d : Position) → let position = slice_index_or positions.now at d in
+        (result.place ≡ position.place) × (result.event ≡ position.id) × (result.why ≡ why) }
 {
-    let stand = &stands[at];
-    Unfit {
-        place: stand.place,
-        event: stand.id,
+    let position = &positions[at];
+    Mismatch {
+        place: position.place,
+        event: position.id,
         why,
     }
 }
 
-// Where the operations of one key, which are in time, halt first, if they do, one after another.
-fn halted(
+// The first operation of one key that cannot take place behind the ones before it, if there is one. All of them are in time.
+fn rejected(
     alloc: Global,
     events: &[Event],
-    fates: &[Fate],
+    statuses: &[OperationStatus],
     kind: ModelKind,
-    stands: &[Stand],
-) -> Result<Option<Unfit>, AllocError>
-    requires there { AreThere events.now stands.now }
-    requires in_time { AreInTime fates.now (ids_of stands.now) }
+    positions: &[Position],
+) -> Result<Option<Mismatch>, AllocError>
+    requires there { AreThere events.now positions.now }
+    requires in_time { AreInTime statuses.now (ids_of positions.now) }
     ensures { IfOk result (λ found. MatchOption found
-        (CanRunBy kind events.now fates.now (ids_of stands.now)) (KeyUnfit kind events.now fates.now stands.now)) }
+        (CanRunBy kind events.now statuses.now (ids_of positions.now)) (KeyMismatch kind events.now statuses.now positions.now)) }
 {
-    let calls = calls_by(alloc, events, fates, stands)?;
-    match first_halt(alloc, kind, &calls)? {
-        Some(halt) => Ok(Some(unfit_at(stands, halt.at, halt.why))),
+    let calls = calls_by(alloc, events, statuses, positions)?;
+    match first_rejection(alloc, kind, &calls)? {
+        Some(rejection) => Ok(Some(mismatch_at(positions, rejection.at, rejection.why))),
         None => Ok(None),
     }
 }
 
 // The first operation of one key that does not fit, if there is one.
-fn key_unfit(
+fn key_mismatch(
     alloc: Global,
     events: &[Event],
-    fates: &[Fate],
+    statuses: &[OperationStatus],
     kind: ModelKind,
-    stands: &[Stand],
-) -> Result<Option<Unfit>, AllocError>
-    requires { AreThere events.now stands.now }
-    ensures { IfOk result (Judges kind events.now fates.now stands.now) }
+    positions: &[Position],
+) -> Result<Option<Mismatch>, AllocError>
+    requires { AreThere events.now positions.now }
+    ensures { IfOk result (Judges kind events.now statuses.now positions.now) }
 {
-    let Some(late) = first_late(fates, stands) else {
-        return halted(alloc, events, fates, kind, stands);
+    let Some(late) = first_late(statuses, positions) else {
+        return rejected(alloc, events, statuses, kind, positions);
     };
-    match halted(alloc, events, fates, kind, &stands[..late])? {
-        Some(unfit) => Ok(Some(unfit)),
-        None => Ok(Some(unfit_at(stands, late, Misfit::TooLate))),
+    match rejected(alloc, events, statuses, kind, &positions[..late])? {
+        Some(mismatch) => Ok(Some(mismatch)),
+        None => Ok(Some(mismatch_at(positions, late, MismatchReason::TooLate))),
     }
 }
 
-// The one of both that stands first, if there is one.
-fn earlier(a: Option<Unfit>, b: Option<Unfit>) -> Option<Unfit>
+// The mismatch with the lesser place, or `None` if both are `None`.
+fn earlier(a: Option<Mismatch>, b: Option<Mismatch>) -> Option<Mismatch>
     ensures one { (result ≡ a) ⊎ (result ≡ b) }
     ensures none { result ≡ None → (a ≡ None) × (b ≡ None) }
-    ensures first { IfSome result (λ unfit. IfSome a (λ other. unfit.place ≤ other.place)
-        × IfSome b (λ other. unfit.place ≤ other.place)) }
+    ensures first { IfSome result (λ mismatch. IfSome a (λ other. mismatch.place ≤ other.place)
+        × IfSome b (λ other. mismatch.place ≤ other.place)) }
 {
     match (a, b) {
         (Some(x), Some(y)) => { if y.place < x.place { b } else { a } }
@@ -110,54 +110,54 @@ fn earlier(a: Option<Unfit>, b: Option<Unfit>) -> Option<Unfit>
     }
 }
 
-// Puts the operations of each key together. They stay in their order.
-fn sort_by_keys(stands: &mut Vec<Stand>) -> Result<(), AllocError>
-    ensures { OnOk result (AreByKeys stands.old.items stands.new.items) }
+// Sorts the operations by key, and keeps the order of those of one key.
+fn sort_by_keys(positions: &mut Vec<Position>) -> Result<(), AllocError>
+    ensures { OnOk result (AreByKeys positions.old.items positions.new.items) }
 {
-    stands.sort_by_key(|stand| stand.key)?;
+    positions.sort_by_key(|position| position.key)?;
     Ok(())
 }
 
-// The place behind the operations of the key at this place, which are together.
-fn end_of_key(stands: &[Stand], start: usize) -> usize
-    requires { start < length stands.now }
+// The place behind the last operation with the key of the one at `start`. Operations of one key are side by side.
+fn end_of_key(positions: &[Position], start: usize) -> usize
+    requires { start < length positions.now }
     ensures later { start < result }
-    ensures within { result ≤ length stands.now }
-    ensures same { (i : ℕ) (d : Stand) → start ≤ i → i < result
-        → (slice_index_or stands.now i d).key ≡ (slice_index_or stands.now start d).key }
-    ensures other { (d : Stand) → result < length stands.now
-        → (slice_index_or stands.now result d).key ≢ (slice_index_or stands.now start d).key }
+    ensures within { result ≤ length positions.now }
+    ensures same { (i : ℕ) (d : Position) → start ≤ i → i < result
+        → (slice_index_or positions.now i d).key ≡ (slice_index_or positions.now start d).key }
+    ensures other { (d : Position) → result < length positions.now
+        → (slice_index_or positions.now result d).key ≢ (slice_index_or positions.now start d).key }
 {
-    let key = stands[start].key;
-    for at in start + 1..stands.len() {
-        if stands[at].key != key {
+    let key = positions[start].key;
+    for at in start + 1..positions.len() {
+        if positions[at].key != key {
             return at;
         }
     }
-    stands.len()
+    positions.len()
 }
 
-/// The first operation of each key that does not fit, together with the earlier finding about the order, if there is one. Costs a sort by
-/// the keys, and O(operations of each key): for each the logarithm of the state.
-pub fn first_unfit(
+/// The mismatch with the least place: `found`, or the first one of some key. Costs a sort by keys, and O(log n) in the state for each
+/// operation.
+pub fn first_mismatch(
     alloc: Global,
     events: &[Event],
-    fates: &[Fate],
+    statuses: &[OperationStatus],
     kind: ModelKind,
-    stands: Vec<Stand>,
-    found: Option<Unfit>,
-) -> Result<Option<Unfit>, AllocError>
-    requires { AreThere events.now stands.items }
-    ensures { IfOk result (λ first. FindsAll kind events.now fates.now found stands.items first) }
+    positions: Vec<Position>,
+    found: Option<Mismatch>,
+) -> Result<Option<Mismatch>, AllocError>
+    requires { AreThere events.now positions.items }
+    ensures { IfOk result (λ first. FindsAll kind events.now statuses.now found positions.items first) }
 {
-    let mut sorted = stands;
+    let mut sorted = positions;
     sort_by_keys(&mut sorted)?;
     let mut first = found;
     let mut start = 0;
     'keys: while start < sorted.len() {
         let end = end_of_key(&sorted, start);
-        let unfit = key_unfit(alloc, events, fates, kind, &sorted[start..end])?;
-        first = earlier(first, unfit);
+        let mismatch = key_mismatch(alloc, events, statuses, kind, &sorted[start..end])?;
+        first = earlier(first, mismatch);
         start = end;
     }
     Ok(first)

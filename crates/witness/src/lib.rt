@@ -1,6 +1,6 @@
-//! Whether an order of the operations of a history shows that it is linearizable.
+//! Whether an order of the operations of a history shows that the history is linearizable.
 //!
-//! The fate of each operation is noted, the order's operations are placed and sorted by their keys, and those of each key take place one
+//! [`confirm`] notes the status of each operation, places the operations of the order, sorts them by key, and runs those of each key one
 //! after another. The result names the first operation that does not fit, with its place in the order.
 //!
 //! A call allocates only if its result can be `AllocError`, or a refusal because memory ran out.
@@ -9,15 +9,15 @@
 mod answers;
 mod calls;
 mod confirming;
-mod fates;
 mod keys;
-mod misfit;
-mod needs;
+mod mismatch;
 mod placing;
 mod queue;
+mod requirement;
 mod running;
+mod statuses;
 mod taking;
 
 pub use calls::Call;
 pub use confirming::{Confirmation, confirm};
-pub use misfit::{Misfit, Unfit};
+pub use mismatch::{Mismatch, MismatchReason};

@@ -1,18 +1,18 @@
-//! The operations that stand in an order.
+//! The positions of operations in an order.
 ghost use Rattle.std.specs.Prelude.{◌≡◌, ℕ, ◌<◌, false, true, length, slice_get, slice_index_or, IfOk, IsTrue, MatchOption, ◌↔◌};
-ghost use Rattle.witness.specs.declared.misfit.Misfit.{Misfit};
-ghost use Rattle.witness.specs.Fates.{fate_at};
-ghost use Rattle.witness.specs.Placing.{ArePlaced, IsBarred, MayStand, MustStand, key_at};
+ghost use Rattle.witness.specs.declared.mismatch.MismatchReason.{MismatchReason};
+ghost use Rattle.witness.specs.Statuses.{status_at};
+ghost use Rattle.witness.specs.Placing.{ArePlaced, IsBarred, MayBeInOrder, MustBeInOrder, key_at};
 
-use crate::fates::Fate;
-use crate::misfit::{Misfit, Unfit};
+use crate::mismatch::{Mismatch, MismatchReason};
+use crate::statuses::OperationStatus;
 use events::Event;
 use models::Key;
 use std::alloc::{AllocError, Global};
 
-/// An operation that stands in an order.
+/// The position of an operation in an order.
 #[derive(Clone, Copy)]
-pub struct Stand {
+pub struct Position {
     /// Its key.
     pub key: Key,
     /// Its place in the order.
@@ -21,14 +21,14 @@ pub struct Stand {
     pub id: usize,
 }
 
-/// The first operations of an order, and what does not fit behind them, if something does not.
+/// The first operations of an order, and the mismatch behind them, if there is one.
 #[derive(Drop)]
 pub struct Placed {
-    pub stands: Vec<Stand>,
-    pub stop: Option<Unfit>,
+    pub positions: Vec<Position>,
+    pub stop: Option<Mismatch>,
 }
 
-// The key of the event of this index, 0 if there is none.
+// The key of the event with index `id`, or 0 if there is none.
 fn key_at(events: &[Event], id: usize) -> Key
     ensures { result ≡ key_at (slice_get events.now id) }
 {
@@ -38,79 +38,85 @@ fn key_at(events: &[Event], id: usize) -> Key
     }
 }
 
-// Why the operation can't stand in an order, if it can't, where it is marked which ones stand before it.
-fn misfit_of(fates: &[Fate], taken: &[bool], id: usize) -> Option<Misfit>
-    requires { length taken.now ≡ length fates.now }
+// The reason for which operation `id` may not be next in the order, if there is one. `taken` marks the operations before it.
+fn reason_of(statuses: &[OperationStatus], taken: &[bool], id: usize) -> Option<MismatchReason>
+    requires { length taken.now ≡ length statuses.now }
     ensures { MatchOption result
-        ((id < length fates.now) × MayStand (fate_at fates.now id) × (slice_index_or taken.now id false ≡ false))
-        (IsBarred fates.now (λ k. slice_index_or taken.now k false ≡ true) id) }
+        ((id < length statuses.now) × MayBeInOrder (status_at statuses.now id) × (slice_index_or taken.now id false ≡ false))
+        (IsBarred statuses.now (λ k. slice_index_or taken.now k false ≡ true) id) }
 {
-    if id >= fates.len() {
-        return Some(Misfit::NoEvent);
+    if id >= statuses.len() {
+        return Some(MismatchReason::NoEvent);
     }
-    match fates[id] {
-        Fate::NoOperation => Some(Misfit::NoInvocation),
-        Fate::Failed => Some(Misfit::Failed),
-        Fate::Pending | Fate::Returned(_) => { if taken[id] { Some(Misfit::Twice) } else { None } }
+    match statuses[id] {
+        OperationStatus::NoOperation => Some(MismatchReason::NoInvocation),
+        OperationStatus::Failed => Some(MismatchReason::Failed),
+        OperationStatus::Pending | OperationStatus::Returned(_) => {
+            if taken[id] {
+                Some(MismatchReason::Twice)
+            } else {
+                None
+            }
+        }
     }
 }
 
-// Whether the operation must stand in an order.
-fn must_stand(fate: Fate) -> bool
-    ensures { IsTrue result ↔ MustStand fate }
+// Whether an operation with this status must be in each order.
+fn must_be_in_order(status: OperationStatus) -> bool
+    ensures { IsTrue result ↔ MustBeInOrder status }
 {
-    matches!(fate, Fate::Returned(_))
+    matches!(status, OperationStatus::Returned(_))
 }
 
-// The first operation that must stand in an order, which ends here, and is not marked, if there is one.
-fn left_out(fates: &[Fate], taken: &[bool], end: usize) -> Option<Unfit>
-    requires { length taken.now ≡ length fates.now }
+// The first operation that must be in the order and is not marked, if there is one. The order ends at place `end`.
+fn left_out(statuses: &[OperationStatus], taken: &[bool], end: usize) -> Option<Mismatch>
+    requires { length taken.now ≡ length statuses.now }
     ensures { MatchOption result
-        ((id : ℕ) → MustStand (fate_at fates.now id) → slice_index_or taken.now id false ≡ true)
-        (λ unfit. (unfit.place ≡ end) × (unfit.why ≡ Misfit.LeftOut) × MustStand (fate_at fates.now unfit.event)
-        × (slice_index_or taken.now unfit.event false ≡ false)
-        × ((id : ℕ) → id < unfit.event → MustStand (fate_at fates.now id)
+        ((id : ℕ) → MustBeInOrder (status_at statuses.now id) → slice_index_or taken.now id false ≡ true)
+        (λ mismatch. (mismatch.place ≡ end) × (mismatch.why ≡ MismatchReason.LeftOut) × MustBeInOrder (status_at statuses.now mismatch.event)
+        × (slice_index_or taken.now mismatch.event false ≡ false)
+        × ((id : ℕ) → id < mismatch.event → MustBeInOrder (status_at statuses.now id)
         → slice_index_or taken.now id false ≡ true)) }
 {
-    for (id, fate) in fates.iter().enumerate() {
-        if must_stand(*fate) && !taken[id] {
-            return Some(Unfit {
+    for (id, status) in statuses.iter().enumerate() {
+        if must_be_in_order(*status) && !taken[id] {
+            return Some(Mismatch {
                 place: end,
                 event: id,
-                why: Misfit::LeftOut,
+                why: MismatchReason::LeftOut,
             });
         }
     }
     None
 }
 
-/// The operations of an order up to the first that can't stand there, and that one; or, where all stand, one that is left out. Costs O(the
-/// order + events).
+/// The positions of the operations before the first mismatch, and that mismatch. If each operation may be where it is, the mismatch is the
+/// first operation that is left out. Costs O(order + events).
 pub fn place_all(
     alloc: Global,
     events: &[Event],
-    fates: &[Fate],
+    statuses: &[OperationStatus],
     order: &[u32],
 ) -> Result<Placed, AllocError>
     ensures { IfOk result (λ placed.
-        ArePlaced events.now fates.now order.now placed.stands.items placed.stop) }
+        ArePlaced events.now statuses.now order.now placed.positions.items placed.stop) }
 {
-    let mut stands = Vec::new(alloc);
-    let mut taken = vec![in alloc; false; fates.len()]?;
+    let mut positions = Vec::new(alloc);
+    let mut taken = vec![in alloc; false; statuses.len()]?;
     for (place, index) in order.iter().enumerate() {
         let id = *index as usize;
-        if let Some(why) = misfit_of(fates, &taken, id) {
-            let stop = Some(Unfit {
+        if let Some(why) = reason_of(statuses, &taken, id) {
+            let stop = Some(Mismatch {
                 place,
                 event: id,
                 why,
             });
-            return Ok(Placed { stands, stop });
+            return Ok(Placed { positions, stop });
         }
         taken[id] = true;
         let key = key_at(events, id);
-        stands.push(Stand { key, place, id })?;
+        positions.push(Position { key, place, id })?;
     }
-    let stop = left_out(fates, &taken, order.len());
-    Ok(Placed { stands, stop })
+    let stop = left_out(statuses, &taken, order.len());
+    Ok(Placed { positions, stop })
 }

@@ -1,41 +1,45 @@
-//! Whether calls of a queue without an order can take place one after another. They are gone through from the last to the first. The value
-//! of a dequeue without an answer is then left open, and the needs of the later ones are known.
+//! Whether calls of a queue without an order can take place one after another. The code goes through the calls from the last to the first,
+//! so that the values that later calls require are known, and a dequeue without an answer takes any other value.
 ghost use Rattle.std.specs.Prelude.{◌≡◌, ◌↔◌, ◌+◌, ◌<◌, ◌^◌, List, [], ◌∷◌, ◌++◌, length, take, IsTrue, IfOk, MatchOption};
 ghost use Rattle.models.specs.Objects.{unordered_queue};
 ghost use Rattle.witness.specs.declared.calls.Call.{Call};
-ghost use Rattle.witness.specs.Calls.{CanRun, IsHalt, unanswered};
-ghost use Rattle.witness.specs.Needs.{AreNeeds, AreBeforeAll};
+ghost use Rattle.witness.specs.Calls.{CanRun, IsRejection, unanswered};
+ghost use Rattle.witness.specs.Requirements.{IsRequirement, AreBeforeAll};
 
 use crate::calls::Call;
-use crate::misfit::{Halt, Misfit};
-use crate::needs::{Needs, needs_before, no_needs};
+use crate::mismatch::{MismatchReason, Rejection};
+use crate::requirement::{Requirement, no_requirement, requirement_before};
 use models::Op;
 use std::alloc::{AllocError, Global};
 
-// The needs before the calls, from the needs after them; none if they can't take place in any queue.
-fn needs_before_all(calls: &[Call], after: Needs) -> Result<Option<Needs>, AllocError>
+// The values that the calls and later calls require, from the values that later calls require. `None` if the calls can take place in no
+// queue.
+fn requirement_before_all(
+    calls: &[Call],
+    after: Requirement,
+) -> Result<Option<Requirement>, AllocError>
     requires { after.more + length calls.now < 2 ^ 64 }
     ensures { IfOk result (AreBeforeAll calls.now after) }
 {
-    let mut needs = after;
+    let mut requirement = after;
     for at in (0..calls.len()).rev() {
         let call = &calls[at];
-        match needs_before(needs, &call.op, &call.answer)? {
-            Some(before) => needs = before,
+        match requirement_before(requirement, &call.op, &call.answer)? {
+            Some(before) => requirement = before,
             None => return Ok(None),
         }
     }
-    Ok(Some(needs))
+    Ok(Some(requirement))
 }
 
-// Whether the calls can take place in the empty queue, and what is needed after them is left then.
-fn can_run_before(calls: &[Call], after: Needs) -> Result<bool, AllocError>
+// Whether the calls can take place in the empty queue and leave what is required after them.
+fn can_run_before(calls: &[Call], after: Requirement) -> Result<bool, AllocError>
     requires { after.more + length calls.now < 2 ^ 64 }
-    ensures { IfOk result (λ b. (later : List Call) → AreNeeds later after
+    ensures { IfOk result (λ b. (later : List Call) → IsRequirement later after
         → IsTrue b ↔ CanRun unordered_queue (calls.now ++ later) []) }
 {
-    match needs_before_all(calls, after)? {
-        Some(needs) => Ok(needs.values.len() == 0 && needs.more == 0),
+    match requirement_before_all(calls, after)? {
+        Some(requirement) => Ok(requirement.values.len() == 0 && requirement.more == 0),
         None => Ok(false),
     }
 }
@@ -44,27 +48,27 @@ fn can_run_before(calls: &[Call], after: Needs) -> Result<bool, AllocError>
 fn can_run(alloc: Global, calls: &[Call]) -> Result<bool, AllocError>
     ensures { IfOk result (λ b. IsTrue b ↔ CanRun unordered_queue calls.now []) }
 {
-    can_run_before(calls, no_needs(alloc))
+    can_run_before(calls, no_requirement(alloc))
 }
 
-// Whether a call of the operation could take place behind these calls, whatever it found.
-fn can_stand(alloc: Global, before: &[Call], op: &Op) -> Result<bool, AllocError>
+// Whether a call of the operation can take place behind these calls, with any answer.
+fn can_come_next(alloc: Global, before: &[Call], op: &Op) -> Result<bool, AllocError>
     requires { length before.now + 1 < 2 ^ 64 }
     ensures { IfOk result (λ b. (c : Call) → c.op ≡ op.now
         → IsTrue b ↔ CanRun unordered_queue (before.now ++ unanswered c ∷ []) []) }
 {
-    match needs_before(no_needs(alloc), op, &None)? {
-        Some(needs) => can_run_before(before, needs),
+    match requirement_before(no_requirement(alloc), op, &None)? {
+        Some(requirement) => can_run_before(before, requirement),
         None => Ok(false),
     }
 }
 
-// The place at which the fewest of the calls end that can't take place. Each time half of those that are in question are tried.
-fn first_unfit(alloc: Global, calls: &[Call]) -> Result<usize, AllocError>
+// The place of the first call that cannot take place behind the ones before it, by bisection.
+fn first_mismatch(alloc: Global, calls: &[Call]) -> Result<usize, AllocError>
     requires { ¬ CanRun unordered_queue calls.now [] }
     ensures within { IfOk result (λ at. at < length calls.now) }
     ensures can_run { IfOk result (λ at. CanRun unordered_queue (take at calls.now) []) }
-    ensures halts { IfOk result (λ at. ¬ CanRun unordered_queue (take (at + 1) calls.now) []) }
+    ensures rejected { IfOk result (λ at. ¬ CanRun unordered_queue (take (at + 1) calls.now) []) }
 {
     let mut low = 0;
     let mut high = calls.len();
@@ -79,31 +83,31 @@ fn first_unfit(alloc: Global, calls: &[Call]) -> Result<usize, AllocError>
     Ok(high - 1)
 }
 
-// Why the call at this place can't take place behind the ones before it.
-fn why_unfit(alloc: Global, calls: &[Call], at: usize) -> Result<Misfit, AllocError>
+// The reason for which the call at place `at` cannot take place behind the ones before it.
+fn why_mismatch(alloc: Global, calls: &[Call], at: usize) -> Result<MismatchReason, AllocError>
     requires within { at < length calls.now }
     requires can_run { CanRun unordered_queue (take at calls.now) [] }
-    requires halts { ¬ CanRun unordered_queue (take (at + 1) calls.now) [] }
-    ensures { IfOk result (IsHalt unordered_queue calls.now at) }
+    requires rejected { ¬ CanRun unordered_queue (take (at + 1) calls.now) [] }
+    ensures { IfOk result (IsRejection unordered_queue calls.now at) }
 {
     let call = &calls[at];
-    if can_stand(alloc, &calls[..at], &call.op)? {
-        Ok(Misfit::AnotherAnswer)
+    if can_come_next(alloc, &calls[..at], &call.op)? {
+        Ok(MismatchReason::AnotherAnswer)
     } else {
-        Ok(Misfit::CannotTakePlace)
+        Ok(MismatchReason::CannotTakePlace)
     }
 }
 
-/// Where the calls of a queue without an order halt first, if they do. Costs O(calls), each with O(log² n) in the needs; if they halt, the
-/// logarithm of the calls as often.
-pub fn queue_halt(alloc: Global, calls: &[Call]) -> Result<Option<Halt>, AllocError>
+/// The first call of a queue without an order that cannot take place behind the ones before it, if there is one. Costs O(n log² n) in the
+/// calls, and O(n log³ n) if there is such a call.
+pub fn queue_rejection(alloc: Global, calls: &[Call]) -> Result<Option<Rejection>, AllocError>
     ensures { IfOk result (λ first. MatchOption first (CanRun unordered_queue calls.now [])
-        (λ halt. IsHalt unordered_queue calls.now halt.at halt.why)) }
+        (λ rejection. IsRejection unordered_queue calls.now rejection.at rejection.why)) }
 {
     if can_run(alloc, calls)? {
         return Ok(None);
     }
-    let at = first_unfit(alloc, calls)?;
-    let why = why_unfit(alloc, calls, at)?;
-    Ok(Some(Halt { at, why }))
+    let at = first_mismatch(alloc, calls)?;
+    let why = why_mismatch(alloc, calls, at)?;
+    Ok(Some(Rejection { at, why }))
 }

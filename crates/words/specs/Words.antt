@@ -21,7 +21,7 @@ abbrev pub rows_in : Bool → ℕ → ℕ → List ℕ → List (List ℕ) → L
 rows_in true bits long words lists = lists
 rows_in false bits long words lists = map (digits (2 ^ bits) long) words
 
--- a row has room in a word, and no word has more than its row
+-- the row fits a word, and only this row has the word
 pub record ArePacked (bits long : ℕ) (words : List ℕ) : Type 0 where
   pub few : bits ≤ 32
   pub room : bits * long ≤ 128

@@ -1,8 +1,8 @@
-//! Rows of numbers that are words, and words, none twice.
+//! Rows of numbers as words, and sets of words.
 //!
-//! A word of 128 bits has the numbers of a row, each of the same number of bits, the first in the lowest bits. Words stand in a list, are
-//! put behind it and taken from its end, and are found by an index of `buckets` if there are more than a few. A copied set leaves its index
-//! behind, and makes it at the next put.
+//! A word of 128 bits has the numbers of a row, each with the same number of bits, the first in the lowest bits. The words of a set are in
+//! a list. They are appended, removed from its end, and found by an index of `buckets` if there are more than a few. A copy of a set has no
+//! index, and makes one at the next put.
 //!
 //! A call allocates only if its result can be `AllocError`.
 #![tactic(auto)]

@@ -14,8 +14,8 @@ const FEW: usize = 12;
 // So many are looked through one by one too: an index has places of 32 bits, and room for no more.
 const MANY: usize = 2147483584;
 
-/// Words, none twice, in the order in which they were put. If there are more than a few, an index finds them; it is made
-/// when a word is put.
+/// Words, none twice, in the order in which they were put. If there are more than a few, an index finds them. It is made when a word is
+/// put.
 #[derive(Drop)]
 pub struct WordSet {
     words: Vec<u128>,
@@ -54,12 +54,12 @@ impl WordSet {
         self.words.len()
     }
 
-    /// For how many words there is room.
+    /// The number of words for which there is room.
     pub fn capacity(&self) -> usize {
         self.words.capacity()
     }
 
-    /// The word that stands here, if one does. Takes constant time.
+    /// The word at place `at`, or `None` beyond the last word. Takes constant time.
     pub fn get(&self, at: usize) -> Option<u128>
         ensures { result ≡ slice_get self.now at }
     {
@@ -84,8 +84,8 @@ impl WordSet {
         self.words.truncate(len);
     }
 
-    /// Puts the word with the others, if it is not there. `AllocError` if memory was refused: then the words are as they
-    /// were. Looks it up by the index if there are more than a few; if not all are indexed, all are.
+    /// Adds the word if it is not there. `AllocError` if there is no memory: then the words are as they were. Looks the word up by the
+    /// index if there are more than a few words; if some words are not indexed, indexes all of them first.
     #[inline(always)]
     pub fn put(&mut self, word: u128) -> Result<(), AllocError>
         ensures put { OnOk result (IsPut word self.old self.new) }

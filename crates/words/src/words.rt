@@ -69,7 +69,7 @@ pub fn first_in_half(word: u64, largest: u64) -> usize
     (word & largest) as usize
 }
 
-/// Whether zero stands at this place of the word, which is of 64 bits, by the largest number. Takes constant time.
+/// Whether the number at this place of a word of 64 bits is zero. `largest` is the largest number of that many bits. Takes constant time.
 #[inline(always)]
 #[tactic(auto, using(crate::proofs::Digits::pow_of))]
 pub fn has_zero_in_half(word: u64, bits: u32, largest: u64, place: usize) -> bool
@@ -82,7 +82,7 @@ pub fn has_zero_in_half(word: u64, bits: u32, largest: u64, place: usize) -> boo
     first_in_half(word >> (bits * place as u32), largest) == 0
 }
 
-/// Whether zero stands at this place of the word. Takes constant time.
+/// Whether the number at this place of the word is zero. Takes constant time.
 #[inline(always)]
 pub fn has_zero_in_whole(word: u128, bits: u32, place: usize) -> bool
     requires bits { bits ≤ 32 }
@@ -202,7 +202,7 @@ pub fn packed(row: &[usize], bits: u32) -> Option<u128>
     Some(word)
 }
 
-/// The word with `to` as its first number, and `slot` at this place, where zero stands. Takes constant time.
+/// The word with `to` as its first number, and `slot` instead of the zero at this place. Takes constant time.
 pub fn changed(word: u128, bits: u32, long: usize, to: usize, place: usize, slot: usize) -> u128
     requires bits { bits ≤ 32 }
     requires some { 0 < bits }

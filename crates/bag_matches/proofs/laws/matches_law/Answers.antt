@@ -1,6 +1,6 @@
 use Rattle.events.specs.Events.{marks, of_key}
 use Rattle.bag_matches.proofs.Matching.{matched_is}
-use Rattle.bag_matches.proofs.BadFronts.{matched_if_linearizable, linearizable_if_matched}
+use Rattle.bag_matches.proofs.BadPrefixes.{matched_if_linearizable, linearizable_if_matched}
 use Rattle.bag_matches.proofs.laws.matches_law.Goals as goal
 
 pub returns-clause-linearizable : goal.returns-clause-linearizable

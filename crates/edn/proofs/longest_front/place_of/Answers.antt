@@ -1,7 +1,7 @@
 use Rattle.std.proofs.Common.{◌≡◌, ℕ, ◌+◌, ◌-◌, ◌<◌, ◌≤◌, ◌⊎◌, inl, inr, List, [], ◌∷◌, length, refl, sym, ap, subst, arith, add-one, Err, length-append, ◌∙◌, ◌+◌}
-use Rattle.edn.specs.Text.{IsLongestFront}
+use Rattle.edn.specs.Text.{IsLongestTextPrefix}
 use Rattle.edn.proofs.Beginnings.{no_piece, line_shorter, reads_shorter}
-use Rattle.edn.proofs.Fronts.{AtHead, head_start, set_best, head_white, head_comment, head_discard, head_read, head_end, head_atom, atom_on, only_atoms, two_owed, nothing_left}
+use Rattle.edn.proofs.Prefixes.{AtHead, head_start, set_best, head_white, head_comment, head_discard, head_read, head_end, head_atom, atom_on, only_atoms, two_owed, nothing_left}
 use Rattle.edn.proofs.longest_front.place_of.Goals as goal
 use Rattle.edn.proofs.longest_front.place_of.Goals.{then-owed-eq0, else-owed-eq0}
 
@@ -80,7 +80,7 @@ returns-in-Err-Unreadable-clause-ok c =
     let here = head_atom _ _ _ _ (length most.front) (atom_on _ _ _ left _ (omega arith) most.cut most.spells) (λ j p h. (none_longer j p h).1) now.0 in
     let n = ap length most.cut ∙ length-append most.front left in
     let place : length c.args.bytes.now - length left ≡ (length c.args.bytes.now - length c.elements.rest.now) + length most.front = omega arith in
-    subst (IsLongestFront c.args.bytes.now) (sym place) here
+    subst (IsLongestTextPrefix c.args.bytes.now) (sym place) here
 
 pub elements-smaller : goal.elements-smaller
 elements-smaller c = let m = reads_shorter c.in-Ok.ensures.ok in omega arith
@@ -100,12 +100,12 @@ length-zero : (t : List ℕ) → length t ≡ 0 → t ≡ []
 length-zero [] e = refl
 length-zero (x ∷ t) e = absurd (omega arith)
 
-at_the_end : (bytes rest : List ℕ) (owed best : ℕ) → length rest ≡ 0 → 0 < owed → AtHead bytes owed rest best → IsLongestFront bytes best
+at_the_end : (bytes rest : List ℕ) (owed best : ℕ) → length rest ≡ 0 → 0 < owed → AtHead bytes owed rest best → IsLongestTextPrefix bytes best
 at_the_end bytes rest owed best e p h =
     let done = length-zero rest e in
     head_end bytes owed [] best (λ z. absurd (omega arith)) (λ j q k. nothing_left owed j q k) (subst (λ r. AtHead bytes owed r best) done h)
 
-whole_text : (bytes rest : List ℕ) (owed best : ℕ) → length rest ≡ 0 → owed ≡ 0 → AtHead bytes owed rest best → IsLongestFront bytes (length bytes)
+whole_text : (bytes rest : List ℕ) (owed best : ℕ) → length rest ≡ 0 → owed ≡ 0 → AtHead bytes owed rest best → IsLongestTextPrefix bytes (length bytes)
 whole_text bytes rest owed best e p h =
     let done = length-zero rest e in
     let now = set_best bytes owed [] best (length bytes) (inl (p, omega arith)) (subst (λ r. AtHead bytes owed r best) done h) in

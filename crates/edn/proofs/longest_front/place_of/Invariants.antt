@@ -1,5 +1,5 @@
 use Rattle.std.proofs.Common.{◌+◌, ◌≤◌, length}
-use Rattle.edn.proofs.Fronts.{AtHead}
+use Rattle.edn.proofs.Prefixes.{AtHead}
 use Rattle.edn.proofs.longest_front.place_of.Given as goal
 
 abbrev pub invariant-elements : goal.invariant-elements

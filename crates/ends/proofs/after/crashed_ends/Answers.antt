@@ -3,7 +3,7 @@ use Rattle.std.proofs.lemmas.List.{length-map, map_push, take_all}
 use Rattle.linspec.specs.Ends.{End}
 use Rattle.moves.specs.KeptEnds.{end_kept}
 use Rattle.moves.specs.EndSteps.{after_crash}
-use Rattle.interned.proofs.Lists.{mapped_at, taken_more}
+use Rattle.interner.proofs.Lists.{mapped_at, taken_more}
 use Rattle.ends.proofs.after.crashed_ends.Goals as goal
 
 pub loop-kept-preserved : goal.loop-kept-preserved

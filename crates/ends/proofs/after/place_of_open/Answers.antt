@@ -2,7 +2,7 @@ use Rattle.std.proofs.Common.{◌≡◌, Some, length, slice_get, ⊎_elim, refl
 use Rattle.std.proofs.lemmas.Bool.{cases_eq, true≢false}
 use Rattle.std.proofs.lemmas.Option.{slice_get_read, slice_get_within}
 use Rattle.moves.specs.declared.pending_op.PendingOp.{PendingOp}
-use Rattle.interned.proofs.Lists.{one_of}
+use Rattle.interner.proofs.Lists.{one_of}
 use Rattle.ends.proofs.after.place_of_open.Goals as goal
 
 pub returns-then-is_open-clause-there : goal.returns-then-is_open-clause-there

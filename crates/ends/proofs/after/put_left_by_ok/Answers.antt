@@ -3,7 +3,7 @@ use Rattle.std.specs.List.{filter}
 use Rattle.std.proofs.lemmas.Result.{on_ok_weaker}
 use Rattle.rows.specs.RowSets.{PutsMarked}
 use Rattle.moves.specs.EndSteps.{is_other}
-use Rattle.moves.proofs.Adding.{IsFront-itself}
+use Rattle.moves.proofs.Adding.{IsPrefixOf-itself}
 use Rattle.ends.proofs.Marking.{left_settled}
 use Rattle.ends.proofs.Settling.{none_settles}
 use Rattle.moves.proofs.Showing.{shown_no_rows}
@@ -23,6 +23,6 @@ pub returns-in-None : goal.returns-in-None
 returns-in-None g c once ends shown = record {
   more = [];
   shown = shown_no_rows c.args.returning.now.calls.now (filter (is_other c.args.returning.now.id) c.args.returning.now.calls.now) c.args.table.now ends shown c.restart.new.self c.restart.ensures;
-  front = IsFront-itself [];
+  front = IsPrefixOf-itself [];
   adds = none_settles c.args.returning.now.calls.now c.args.table.now ends shown c.args.returning.now.id c.args.returning.now.answer.now (c.place_of_open.ensures.none c.in-None.is);
 }

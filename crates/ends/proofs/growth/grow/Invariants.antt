@@ -1,6 +1,6 @@
 use Rattle.std.proofs.Common.{◌≤◌, ◌+◌, ◌*◌, List, length, take}
 use Rattle.models.specs.Objects.{of_table}
-use Rattle.events.specs.Events.{IsFront}
+use Rattle.events.specs.Events.{IsPrefixOf}
 use Rattle.linspec.specs.Ends.{End}
 use Rattle.moves.specs.EndSteps.{AreClosed, Grows}
 use Rattle.moves.specs.Moves.{AreAlike, AreMoves}
@@ -17,6 +17,6 @@ invariant-loop-from g l =
       grown : HasEachOnce l.returning.calls.now → (ends : List (End g.row.M-State.Denot)) → AreShown l.initial.table l.returning.calls.now ends → AreClosed (of_table g.row.M-State.Denot g.M.SeqObject.start_state g.M.SeqObject.apply_to) (take l.returning.tried l.returning.calls.now) ends
           → (more : List (End g.row.M-State.Denot)) × AreShown l.table l.returning.calls.now more × Grows (of_table g.row.M-State.Denot g.M.SeqObject.start_state g.M.SeqObject.apply_to) l.returning.calls.now ends more
           × AreDone (of_table g.row.M-State.Denot g.M.SeqObject.start_state g.M.SeqObject.apply_to) l.returning.calls.now more l.from
-          × IsFront ends more;
+          × IsPrefixOf ends more;
       cost : l.applied ≤ l.initial.applied + l.from * length l.returning.calls.now;
     }

@@ -2,9 +2,9 @@ use Rattle.std.proofs.Common.{◌≡◌, ◌+◌, [], get_or, sym, ap, ◌∙◌
 use Rattle.std.proofs.lemmas.Result.{on_ok_weaker}
 use Rattle.models.specs.Objects.{of_table}
 use Rattle.moves.specs.Moves.{targets_of}
-use Rattle.events.specs.Events.{IsFront}
+use Rattle.events.specs.Events.{IsPrefixOf}
 use Rattle.moves.specs.Tables.{AreLed, Shows, row_led, rows_of}
-use Rattle.moves.proofs.Adding.{IsFront-itself}
+use Rattle.moves.proofs.Adding.{IsPrefixOf-itself}
 use Rattle.moves.proofs.Moving.{moves_wider, on_ok}
 use Rattle.moves.proofs.Showing.{all_led, led_none, shown_more, widens_on, widens_rows}
 use Rattle.ends.proofs.growth.grow_at.Goals as goal
@@ -34,7 +34,7 @@ returns-clause-adds g c known alike once call e ends here shows shown =
 pub returns-clause-only_adds : goal.returns-clause-only_adds
 returns-clause-only_adds g c = record {
   widens = widens_on c.args.table.now c.led_to.new.table c.put_led.new.table c.in_ok-to.ensures.tries.widens (widens_rows c.led_to.new.table c.put_led.new.table c.put_led.ensures.only_rows.states c.put_led.ensures.only_rows.founds);
-  front = subst (λ l. IsFront l (rows_of c.put_led.new.table)) c.in_ok-to.ensures.tries.rows c.put_led.ensures.only_rows.front;
+  front = subst (λ l. IsPrefixOf l (rows_of c.put_led.new.table)) c.in_ok-to.ensures.tries.rows c.put_led.ensures.only_rows.front;
   never_falls = c.in_ok-to.ensures.tries.never_falls;
 }
 
@@ -52,4 +52,4 @@ returns-in-Nowhere-clause-adds g c known alike once call e ends here shows shown
 pub returns-in-Nowhere-clause-only_adds : goal.returns-in-Nowhere-clause-only_adds
 returns-in-Nowhere-clause-only_adds g c =
     let tries = c.in_ok-to.ensures.tries in
-    record { widens = tries.widens; front = subst (IsFront (rows_of c.args.table.now)) (sym tries.rows) (IsFront-itself (rows_of c.args.table.now)); never_falls = tries.never_falls }
+    record { widens = tries.widens; front = subst (IsPrefixOf (rows_of c.args.table.now)) (sym tries.rows) (IsPrefixOf-itself (rows_of c.args.table.now)); never_falls = tries.never_falls }

@@ -6,9 +6,9 @@ use Rattle.moves.specs.declared.moves.Like.{Like}
 use Rattle.moves.specs.EndSteps.{Next}
 use Rattle.moves.specs.Moves.{AreAlike}
 use Rattle.moves.specs.Tables.{ShownWith, rows_of}
-use Rattle.interned.proofs.Lists.{some_at}
+use Rattle.interner.proofs.Lists.{some_at}
 use Rattle.moves.proofs.Showing.{adds_itself, adds_on, front_stays, front_within, next_there, none_yet, shows_more}
-use Rattle.moves.proofs.Adding.{IsFront-itself}
+use Rattle.moves.proofs.Adding.{IsPrefixOf-itself}
 use Rattle.ends.proofs.Passing.{in_already, pass, stuck_there}
 use Rattle.ends.proofs.growth.grow_from.Goals as goal
 
@@ -18,7 +18,7 @@ calls-init g c = record {
   here = refl;
   within = c.requires.here;
   moves = record { known = λ known. known; likes = refl };
-  grown = λ known alike once e ends shows shown. record { more = ends; shown = shown; front = IsFront-itself ends; adds = none_yet (of_table g.row.M-State.Denot g.M.SeqObject.start_state g.M.SeqObject.apply_to) c.args.calls.now c.args.first e ends };
+  grown = λ known alike once e ends shows shown. record { more = ends; shown = shown; front = IsPrefixOf-itself ends; adds = none_yet (of_table g.row.M-State.Denot g.M.SeqObject.start_state g.M.SeqObject.apply_to) c.args.calls.now c.args.first e ends };
   from = omega arith;
   upto = omega arith;
   cost = omega arith;

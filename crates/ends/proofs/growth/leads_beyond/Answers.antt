@@ -5,7 +5,7 @@ use Rattle.models.specs.Objects.{AreApart}
 use Rattle.moves.specs.declared.pending_op.PendingOp.{PendingOp}
 use Rattle.ends.proofs.Beyond.{beyond_by, few_by, not_in_row}
 use Rattle.moves.proofs.Rows.{in_unless}
-use Rattle.interned.proofs.Lists.{has_place, one_of}
+use Rattle.interner.proofs.Lists.{has_place, one_of}
 use Rattle.ends.proofs.growth.leads_beyond.Goals as goal
 use Rattle.ends.proofs.growth.leads_beyond.Goals.{else-has_more_outcomes-via-then-has_more_outcomes+else-has_zero, else-has_more_outcomes-via-else-has_more_outcomes}
 

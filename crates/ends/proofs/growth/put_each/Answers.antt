@@ -5,7 +5,7 @@ use Rattle.std.proofs.lemmas.Option.{get_or_from_slice_get, slice_get-get_or, sl
 use Rattle.words.specs.Puts.{IsPut}
 use Rattle.moves.specs.EndSteps.{Along}
 use Rattle.moves.specs.Tables.{Shows, ShownWith, row_led, rows_of, with_rows}
-use Rattle.moves.proofs.Adding.{IsFront-trans}
+use Rattle.moves.proofs.Adding.{IsPrefixOf-trans}
 use Rattle.moves.proofs.Showing.{front_by, front_stays, front_within, led_more}
 use Rattle.ends.proofs.growth.put_each.Goals as goal
 
@@ -31,7 +31,7 @@ loop-at-preserved g c =
     record {
       states = i.states;
       founds = i.founds;
-      front = IsFront-trans (rows_of c.args.table.now) c.loop-at.table.rows c.put_next.new.self i.front front;
+      front = IsPrefixOf-trans (rows_of c.args.table.now) c.loop-at.table.rows c.put_next.new.self i.front front;
       here = front_stays c.loop-at.table.rows c.put_next.new.self c.args.from i.within front ∙ i.here;
       within = front_within c.loop-at.table.rows c.put_next.new.self c.args.from i.within front;
       puts = λ calls ends shown each.

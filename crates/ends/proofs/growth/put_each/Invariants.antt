@@ -1,6 +1,6 @@
 use Rattle.std.proofs.Common.{◌≡◌, ◌<◌, ℕ, List, [], length, get_or, take}
 use Rattle.std.specs.List.{Contains}
-use Rattle.events.specs.Events.{IsFront}
+use Rattle.events.specs.Events.{IsPrefixOf}
 use Rattle.linspec.specs.Ends.{End}
 use Rattle.moves.specs.declared.pending_op.PendingOp.{PendingOp}
 use Rattle.moves.specs.EndSteps.{Along}
@@ -12,7 +12,7 @@ invariant-loop-at g l =
     record {
       states : l.table.states ≡ l.initial.table.states;
       founds : l.table.founds ≡ l.initial.table.founds;
-      front : IsFront (rows_of l.initial.table) (rows_of l.table);
+      front : IsPrefixOf (rows_of l.initial.table) (rows_of l.table);
       here : get_or (rows_of l.table) l.from [] ≡ get_or (rows_of l.initial.table) l.from [];
       within : l.from < length (rows_of l.table);
       puts : (calls : List PendingOp) (ends : List (End g.row.S.Denot)) → AreShown l.initial.table calls ends

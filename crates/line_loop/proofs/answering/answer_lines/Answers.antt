@@ -22,7 +22,7 @@ loop-init g c =
     let first : Stands m.may_reply (m.state session.machine) before [] (between m.state session after) = stands_flushed m.may_reply m.state (m.state session.machine) before [] session before after c.flush_all.ensures.bytes
     (stands_first m.may_reply m.state session before c.new-session.ensures.held c.new-session.ensures.replies) in
     record {
-      live = lives_first m.may_reply m.is_closed (m.state c.args.machine) before (g.R.Read.remaining c.args.reader.now) (g.R.ReadsBeside.log c.args.reader.now);
+      live = lives_first m.may_reply m.is_closed (m.state c.args.machine) before (g.R.Read.remaining c.args.reader.now) (g.R.ReadsWithWriter.log c.args.reader.now);
       stands = subst (λ s. Stands m.may_reply s before [] (between m.state session after)) state first;
       none = c.new-session.ensures.replies;
       reads = c.requires.reads;
@@ -51,8 +51,8 @@ take_piece-requires g c = c.loop.invariant.none
 pub finish-requires : goal.finish-requires
 finish-requires g c = c.loop.invariant.none
 
-pub read_beside-requires-clause-unfailed : goal.read_beside-requires-clause-unfailed
-read_beside-requires-clause-unfailed g c = c.loop.invariant.reads
+pub read_with_writer-requires-clause-unfailed : goal.read_with_writer-requires-clause-unfailed
+read_with_writer-requires-clause-unfailed g c = c.loop.invariant.reads
 
 pub slice_bounds-piece-end : goal.slice_bounds-piece-end
 slice_bounds-piece-end g c = c.in_ok-n.ensures.bound c.in-Piece.n (ap Ok c.in-Piece.is)
@@ -62,7 +62,7 @@ loop-preserved g c =
     let so = c.loop.invariant in
     let m = g.M.LineMachine in
     let w = g.W.Write in
-    let more = take c.in-Piece.n c.read_beside.new.piece in
+    let more = take c.in-Piece.n c.read_with_writer.new.piece in
     let is = ap Ok c.in-Piece.is in
     record {
       live = lives_more m.may_reply m.is_closed m.state _ _ _ _ _ _ _ _ c.loop.session _ _ more so.live so.stands so.none so.flushed (sym c.closed.ensures ∙ c.if-closed.false)
@@ -111,7 +111,7 @@ returns-in_err-n-clause-stopped g c =
     let so = c.loop.invariant in
     let m = g.M.LineMachine in
     let w = g.W.Write in
-    let all : Consumes (g.R.Read.remaining c.args.reader.now) (g.R.Read.remaining c.read_beside.new.reader) so.live.seen = consumed_nothing _ _ _ so.live.seen so.live.read c.in_err-n.ensures.err.0 in
+    let all : Consumes (g.R.Read.remaining c.args.reader.now) (g.R.Read.remaining c.read_with_writer.new.reader) so.live.seen = consumed_nothing _ _ _ so.live.seen so.live.read c.in_err-n.ensures.err.0 in
     if_err _ (halts_within m.may_reply (m.state c.args.machine) _ _ _ _ so.live.seen all
     (stopped_reading m.may_reply m.state (m.state c.args.machine) (w.contents c.args.writer.now) so.live.seen c.loop.session (w.contents c.loop.writer) so.none so.stands))
 
@@ -120,7 +120,7 @@ returns-in_err-n-clause-kept_up g c =
     let so = c.loop.invariant in
     let m = g.M.LineMachine in
     let w = g.W.Write in
-    let all : Consumes (g.R.Read.remaining c.args.reader.now) (g.R.Read.remaining c.read_beside.new.reader) so.live.seen = consumed_nothing _ _ _ so.live.seen so.live.read c.in_err-n.ensures.err.0 in
+    let all : Consumes (g.R.Read.remaining c.args.reader.now) (g.R.Read.remaining c.read_with_writer.new.reader) so.live.seen = consumed_nothing _ _ _ so.live.seen so.live.read c.in_err-n.ensures.err.0 in
     λ _. (m.state c.loop.session.machine, keeps_up m.may_reply m.state (m.state c.args.machine) _ _ (w.contents c.args.writer.now) so.live.seen c.loop.session (w.contents c.loop.writer) so.none all so.stands)
 
 pub returns-in_err-take_piece-in-Piece-clause-live :
@@ -129,7 +129,7 @@ returns-in_err-take_piece-in-Piece-clause-live g c =
     let so = c.loop.invariant in
     let m = g.M.LineMachine in
     let is = ap Ok c.in-Piece.is in
-    lives_more m.may_reply m.is_closed m.state _ _ _ _ _ _ _ _ c.loop.session _ _ (take c.in-Piece.n c.read_beside.new.piece) so.live so.stands so.none so.flushed (sym c.closed.ensures ∙ c.if-closed.false)
+    lives_more m.may_reply m.is_closed m.state _ _ _ _ _ _ _ _ c.loop.session _ _ (take c.in-Piece.n c.read_with_writer.new.piece) so.live so.stands so.none so.flushed (sym c.closed.ensures ∙ c.if-closed.false)
     (c.in_ok-n.ensures.piece c.in-Piece.n is) (c.in_ok-n.ensures.kept c.in-Piece.n is)
 
 pub returns-in_err-take_piece-in-Piece-clause-stopped :
@@ -138,9 +138,9 @@ returns-in_err-take_piece-in-Piece-clause-stopped g c =
     let so = c.loop.invariant in
     let m = g.M.LineMachine in
     let w = g.W.Write in
-    let more = take c.in-Piece.n c.read_beside.new.piece in
+    let more = take c.in-Piece.n c.read_with_writer.new.piece in
     let took = c.in_ok-n.ensures.piece c.in-Piece.n (ap Ok c.in-Piece.is) in
-    let all : Consumes (g.R.Read.remaining c.args.reader.now) (g.R.Read.remaining c.read_beside.new.reader) (so.live.seen ++ more) = Consumes-trans _ _ _ so.live.seen more so.live.read took in
+    let all : Consumes (g.R.Read.remaining c.args.reader.now) (g.R.Read.remaining c.read_with_writer.new.reader) (so.live.seen ++ more) = Consumes-trans _ _ _ so.live.seen more so.live.read took in
     if_err _ (halts_within m.may_reply (m.state c.args.machine) _ _ _ _ (so.live.seen ++ more) all (c.in_err-take_piece-in-Piece.ensures.err (m.state c.args.machine) (w.contents c.args.writer.now) so.live.seen so.stands))
 
 pub returns-in_err-finish-in-End-clause-live : goal.returns-in_err-finish-in-End-clause-live
@@ -157,13 +157,13 @@ returns-in_err-finish-in-End-clause-stopped g c =
     let w = g.W.Write in
     let seen = so.live.seen in
     let (end, took, _) = c.in_ok-n.ensures.end (ap Ok c.in-End.is) in
-    let all : Consumes (g.R.Read.remaining c.args.reader.now) (g.R.Read.remaining c.read_beside.new.reader) seen = consumed_nothing _ _ _ seen so.live.read took in
+    let all : Consumes (g.R.Read.remaining c.args.reader.now) (g.R.Read.remaining c.read_with_writer.new.reader) seen = consumed_nothing _ _ _ seen so.live.read took in
     let why = c.in_err-finish-in-End.ensures.cause in
     let r = c.from_residual-in_err-finish-in-End.result in
     let (e, same, from) = err_from_is_err_and r c.from_residual-in_err-finish-in-End.ensures.1 in
     let stopped : IsPartlyAnswered m.may_reply (m.state c.args.machine) (w.contents c.args.writer.now) seen true (w.contents c.finish.new.writer) = c.in_err-finish-in-End.ensures.err (m.state c.args.machine) (w.contents c.args.writer.now) seen so.stands in
     let other : e ≢ ReadFailed = λ t. ⊎_elim (λ memory. absurd (cc (memory.0, sym from ∙ t))) (λ wrote. absurd (cc (wrote.0, sym from ∙ t))) why in
-    if_err_at (Stops m.may_reply (m.state c.args.machine) (g.R.Read.remaining c.args.reader.now) (g.R.Read.remaining c.read_beside.new.reader) (w.contents c.args.writer.now) (w.contents c.finish.new.writer)) r e same
+    if_err_at (Stops m.may_reply (m.state c.args.machine) (g.R.Read.remaining c.args.reader.now) (g.R.Read.remaining c.read_with_writer.new.reader) (w.contents c.args.writer.now) (w.contents c.finish.new.writer)) r e same
     (halts_ending m.may_reply (m.state c.args.machine) _ _ _ _ seen all end stopped e other)
 
 pub returns-in-End-clause-live : goal.returns-in-End-clause-live
@@ -180,8 +180,8 @@ returns-in-End-clause-done g c =
     let w = g.W.Write in
     let seen = so.live.seen in
     let (end, took, _) = c.in_ok-n.ensures.end (ap Ok c.in-End.is) in
-    let all : Consumes (g.R.Read.remaining c.args.reader.now) (g.R.Read.remaining c.read_beside.new.reader) seen = consumed_nothing _ _ _ seen so.live.read took in
-    let finishes : Finishes m.may_reply (m.state c.args.machine) (m.state c.finish.new.self.machine) (g.R.Read.remaining c.args.reader.now) (g.R.Read.remaining c.read_beside.new.reader) (w.contents c.args.writer.now) (w.contents c.finish.new.writer) = record {
+    let all : Consumes (g.R.Read.remaining c.args.reader.now) (g.R.Read.remaining c.read_with_writer.new.reader) seen = consumed_nothing _ _ _ seen so.live.read took in
+    let finishes : Finishes m.may_reply (m.state c.args.machine) (m.state c.finish.new.self.machine) (g.R.Read.remaining c.args.reader.now) (g.R.Read.remaining c.read_with_writer.new.reader) (w.contents c.args.writer.now) (w.contents c.finish.new.writer) = record {
       input = seen;
       read = all;
       at_end = end;
@@ -214,7 +214,7 @@ pub returns-in_err-flush_all-clause-reads_well : goal.returns-in_err-flush_all-c
 returns-in_err-flush_all-clause-reads_well g c = λ _. c.requires.reads
 
 pub returns-in_err-flush_all-clause-live : goal.returns-in_err-flush_all-clause-live
-returns-in_err-flush_all-clause-live g c = lives_first g.M.LineMachine.may_reply g.M.LineMachine.is_closed (g.M.LineMachine.state c.args.machine) (g.W.Write.contents c.args.writer.now) (g.R.Read.remaining c.args.reader.now) (g.R.ReadsBeside.log c.args.reader.now)
+returns-in_err-flush_all-clause-live g c = lives_first g.M.LineMachine.may_reply g.M.LineMachine.is_closed (g.M.LineMachine.state c.args.machine) (g.W.Write.contents c.args.writer.now) (g.R.Read.remaining c.args.reader.now) (g.R.ReadsWithWriter.log c.args.reader.now)
 
 pub returns-in_err-n-clause-done : goal.returns-in_err-n-clause-done
 returns-in_err-n-clause-done g c = no_value _ _ (given_on _ _ c.from_residual-in_err-n.ensures.1) _

@@ -11,7 +11,7 @@ invariant-loop g l =
     let r = g.R in
     let w = g.W in
     record {
-      live : IsLive m.may_reply m.is_closed (m.state l.fn.machine) (w.Write.contents l.fn.writer) (r.Read.remaining l.fn.reader) (r.Read.remaining l.reader) (r.ReadsBeside.log l.fn.reader) (r.ReadsBeside.log l.reader);
+      live : IsLive m.may_reply m.is_closed (m.state l.fn.machine) (w.Write.contents l.fn.writer) (r.Read.remaining l.fn.reader) (r.Read.remaining l.reader) (r.ReadsWithWriter.log l.fn.reader) (r.ReadsWithWriter.log l.reader);
       stands : Stands m.may_reply (m.state l.fn.machine) (w.Write.contents l.fn.writer) live.seen (between m.state l.session (w.Write.contents l.writer));
       none : l.session.replies ≡ [];
       reads : r.Failed.has_failed l.reader ≡ false;

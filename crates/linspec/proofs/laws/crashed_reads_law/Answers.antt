@@ -1,4 +1,4 @@
-use Rattle.models.specs.Objects.{object_of}
+use Rattle.kinds.specs.Kinds.{object_of}
 use Rattle.linspec.proofs.CrashedReads.{less_with_reads, blown_by, blown_at_by, no_later_by, verdicts_by}
 use Rattle.linspec.proofs.ByKind.{counted_with_reads}
 use Rattle.linspec.proofs.laws.crashed_reads_law.Goals as goal

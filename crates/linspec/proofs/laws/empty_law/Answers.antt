@@ -1,4 +1,4 @@
-use Rattle.models.specs.Objects.{object_of}
+use Rattle.kinds.specs.Kinds.{object_of}
 use Rattle.linspec.specs.Orders.{product}
 use Rattle.linspec.proofs.Linearizable.{IsLinearizable-empty}
 use Rattle.linspec.proofs.laws.empty_law.Goals as goal

@@ -1,6 +1,6 @@
-use Rattle.models.specs.Objects.{object_of}
+use Rattle.kinds.specs.Kinds.{object_of}
 use Rattle.linspec.specs.Orders.{product}
-use Rattle.linspec.proofs.Fronts.{IsLinearizable-front}
+use Rattle.linspec.proofs.Prefixes.{IsLinearizable-front}
 use Rattle.linspec.proofs.laws.fronts_law.Goals as goal
 
 pub returns-clause-one : goal.returns-clause-one

@@ -1,4 +1,4 @@
-use Rattle.models.specs.Objects.{object_of}
+use Rattle.kinds.specs.Kinds.{object_of}
 use Rattle.linspec.specs.Counts.{CountsMoreThanBy}
 use Rattle.linspec.proofs.OneAnswer.{one_status, one_verdict_by}
 use Rattle.linspec.proofs.laws.one_answer_law.Goals as goal

@@ -1,7 +1,7 @@
 use Rattle.std.proofs.Common.{◌≡◌, ◌+◌, ◌-◌, ◌∷◌, [], Some, slice_get, length, refl, sym, ap, ◌∙◌, subst, ⊎_elim, arith, length-append}
 use Rattle.moves.specs.Moves.{AreAll}
 use Rattle.moves.proofs.Showing.{no_get}
-use Rattle.interned.proofs.Lists.{get_push}
+use Rattle.interner.proofs.Lists.{get_push}
 use Rattle.moves.proofs.moves.note_likes.Goals as goal
 
 pub loop-behind-init : goal.loop-behind-init

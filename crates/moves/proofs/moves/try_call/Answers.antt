@@ -3,7 +3,7 @@ use Rattle.std.proofs.lemmas.Option.{slice_get_read}
 use Rattle.moves.specs.declared.pending_op.PendingOp.{PendingOp}
 use Rattle.moves.specs.Moves.{AreMoves, AreTo, LeadsTo, targets_of}
 use Rattle.moves.proofs.Moving.{moves_more, moves_none, moves_with}
-use Rattle.interned.proofs.Lists.{get_front, one_of}
+use Rattle.interner.proofs.Lists.{get_front, one_of}
 use Rattle.moves.proofs.moves.try_call.Goals as goal
 
 pub returns-clause-moves : goal.returns-clause-moves

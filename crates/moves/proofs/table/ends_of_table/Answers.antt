@@ -2,7 +2,7 @@ use Rattle.std.proofs.Common.{IsSomeAnd, ◌≡◌, ◌∷◌, ◌++◌, [], map
 use Rattle.std.proofs.lemmas.List.{map_push, take_all}
 use Rattle.std.proofs.lemmas.Option.{slice_get-get_or}
 use Rattle.moves.proofs.Showing.{end_at}
-use Rattle.interned.proofs.Lists.{taken_more}
+use Rattle.interner.proofs.Lists.{taken_more}
 use Rattle.moves.specs.KeptEnds.{end_kept}
 use Rattle.moves.specs.Tables.{rows_of}
 use Rattle.moves.proofs.table.ends_of_table.Goals as goal

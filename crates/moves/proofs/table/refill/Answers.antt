@@ -4,7 +4,7 @@ use Rattle.moves.specs.KeptEnds.{end_kept}
 use Rattle.moves.specs.EndSteps.{Along}
 use Rattle.moves.specs.Tables.{IsThat, ShownWith, rows_of, with_rows}
 use Rattle.words.specs.Puts.{IsPut}
-use Rattle.interned.proofs.Lists.{has_place, mapped_at}
+use Rattle.interner.proofs.Lists.{has_place, mapped_at}
 use Rattle.moves.proofs.Showing.{shown_after, shown_first, shown_none, widens_rows}
 use Rattle.moves.proofs.table.refill.Goals as goal
 

@@ -2,7 +2,7 @@ use Rattle.std.proofs.Common.{◌≡◌, ◌+◌, ◌∷◌, ◌++◌, [], Some,
 use Rattle.std.proofs.lemmas.List.{get_or_append_left}
 use Rattle.std.proofs.lemmas.Option.{slice_get_read, slice_get_within}
 use Rattle.moves.specs.KeptEnds.{end_kept}
-use Rattle.interned.specs.Numbers.{IsSlot}
+use Rattle.interner.specs.Numbers.{IsSlot}
 use Rattle.moves.proofs.Rows.{slots_more}
 use Rattle.moves.proofs.Showing.{widens_founds, widens_itself, widens_states}
 use Rattle.moves.proofs.table.row_of.Goals as goal

@@ -2,7 +2,7 @@ use Rattle.std.proofs.Common.{◌≡◌, ◌<◌, ◌+◌, ℕ, Some, slice_get,
 use Rattle.moves.specs.declared.pending_op.PendingOp.{PendingOp}
 use Rattle.moves.specs.KeptEnds.{end_kept}
 use Rattle.moves.specs.Tables.{KeepsRows, found_by}
-use Rattle.interned.specs.Numbers.{IsSlot}
+use Rattle.interner.specs.Numbers.{IsSlot}
 use Rattle.moves.proofs.table.row_of.Given as goal
 
 abbrev pub invariant-loop-call : goal.invariant-loop-call

@@ -1,7 +1,7 @@
 use Rattle.std.proofs.Common.{◌≡◌, ◌∷◌, IsTrue, List, ℕ, sym, subst, arith}
 use Rattle.edn.specs.Bytes.{is_letter, IsKeywordText}
 use Rattle.plain_events.specs.Keys.{AreNameBytes}
-use Rattle.plain_events.specs.Fronts.{IsWordAt}
+use Rattle.plain_events.specs.Prefixes.{IsWordAt}
 use Rattle.plain_events.proofs.Elements.{keyword_at}
 use Rattle.plain_events.proofs.keys.keyword_at.Goals as goal
 

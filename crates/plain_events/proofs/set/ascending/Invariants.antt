@@ -1,6 +1,6 @@
 -- The integers so far ascend up to the last one.
 use Rattle.std.proofs.Common.{length}
-use Rattle.plain_events.specs.Fronts.{AreIntegersAt}
+use Rattle.plain_events.specs.Prefixes.{AreIntegersAt}
 use Rattle.plain_events.proofs.Sets.{AscendTo}
 use Rattle.plain_events.proofs.set.ascending.Given as goal
 

@@ -4,8 +4,8 @@ use Rattle.std.specs.Global.{Global}
 use Rattle.std.proofs.lemmas.Bool.{true≢false}
 use Rattle.std.proofs.lemmas.Result.{on_ok_weaker}
 use Rattle.words.specs.Puts.{IsPut}
-use Rattle.interned.specs.Numbers.{IsOnceIn}
-use Rattle.interned.proofs.Lists.{once_push}
+use Rattle.interner.specs.Numbers.{IsOnceIn}
+use Rattle.interner.proofs.Lists.{once_push}
 use Rattle.product_ends.specs.Conversion.{GoesOn, HasMore}
 use Rattle.product_ends.proofs.Unfolding.{GoesBelow, GoesBy, alone_high, below_all, below_more, below_skip, few_bits, goes_alone, goes_nowhere, more_same, put_more}
 use Rattle.product_ends.proofs.conversion.+unfolding.Goals as goal

@@ -1,6 +1,6 @@
 -- So far there are the rows that go on by a number below this one.
 use Rattle.std.proofs.Common.{◌≡◌, ◌-◌, ◌*◌, length}
-use Rattle.interned.specs.Numbers.{IsOnceIn}
+use Rattle.interner.specs.Numbers.{IsOnceIn}
 use Rattle.product_ends.specs.Conversion.{HasMore}
 use Rattle.product_ends.proofs.Unfolding.{GoesBelow}
 use Rattle.product_ends.proofs.conversion.+unfolding.Given as goal

@@ -1,5 +1,5 @@
 use Rattle.std.proofs.Common.{◌≡◌, ◌∷◌, ◌++◌, [], ℕ, List, length, refl, subst, sym, arith}
-use Rattle.interned.specs.Numbers.{IsOnceIn}
+use Rattle.interner.specs.Numbers.{IsOnceIn}
 use Rattle.moves.proofs.Showing.{no_get}
 use Rattle.product_ends.proofs.Saying.{places_once}
 use Rattle.products.proofs.Leaving.{product_there}

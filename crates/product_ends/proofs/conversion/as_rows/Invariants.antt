@@ -1,5 +1,5 @@
 -- So far there are the rows of the products before this place.
-use Rattle.interned.specs.Numbers.{IsOnceIn}
+use Rattle.interner.specs.Numbers.{IsOnceIn}
 use Rattle.product_ends.proofs.Unfolding.{AreUnfolded}
 use Rattle.product_ends.proofs.conversion.as_rows.Given as goal
 

@@ -1,5 +1,5 @@
 use Rattle.std.proofs.Common.{◌≡◌, ◌+◌, ◌-◌, Some, option_copied, ap, sym, ◌∙◌, subst, arith}
-use Rattle.interned.specs.Numbers.{IsSlot}
+use Rattle.interner.specs.Numbers.{IsSlot}
 use Rattle.product_ends.proofs.Renumbering.{same_some}
 use Rattle.product_ends.proofs.conversion.renumbered_one.Goals as goal
 

@@ -3,11 +3,11 @@ use Rattle.std.proofs.lemmas.Bool.{true≢false}
 use Rattle.std.proofs.lemmas.Result.{IfOk-weaker}
 use Rattle.std.specs.Option.{IfSome}
 use Rattle.std.proofs.lemmas.Option.{IfSome_then}
-use Rattle.interned.specs.Numbers.{IsOnceIn}
-use Rattle.events.specs.Events.{IsFront}
-use Rattle.moves.proofs.Adding.{IsFront-itself, IsFront-trans}
+use Rattle.interner.specs.Numbers.{IsOnceIn}
+use Rattle.events.specs.Events.{IsPrefixOf}
+use Rattle.moves.proofs.Adding.{IsPrefixOf-itself, IsPrefixOf-trans}
 use Rattle.product_ends.specs.Conversion.{IsSameFound}
-use Rattle.product_ends.specs.Deeds.{IsAlone}
+use Rattle.product_ends.specs.Transitions.{IsAlone}
 use Rattle.product_ends.proofs.Renumbering.{IsRenumberedTo, renumbered_alone, renumbered_bits, renumbered_more, renumbered_none, renumbered_skip}
 use Rattle.product_ends.proofs.conversion.renumbered_set.Goals as goal
 use Rattle.product_ends.proofs.conversion.renumbered_set.Goals.{then-has+in_ok-one+in-Some+in-Some-union, else-has}
@@ -20,7 +20,7 @@ returns-then-set-ge-HIGH-clause-set c =
 
 pub loop-number-init : goal.loop-number-init
 loop-number-init c = record {
-  front = IsFront-itself c.args.new.now;
+  front = IsPrefixOf-itself c.args.new.now;
   once = λ once. once;
   numbers = renumbered_none c.args.old.now c.args.new.now c.args.set 0 refl;
 }
@@ -38,17 +38,17 @@ loop-number-preserved c =
           let one : (to : ℕ) × IsAlone w.in-Some.one to × IsSameFound old new n to =
           subst (λ found. IfSome found (λ set. (to : ℕ) × IsAlone set to × IsSameFound old new n to)) w.in-Some.is w.in_ok-one.ensures.set in
           record {
-            front = subst (IsFront c.args.new.now) (sym w.new-is) (IsFront-trans c.args.new.now mid new c.loop-number.invariant.front front);
+            front = subst (IsPrefixOf c.args.new.now) (sym w.new-is) (IsPrefixOf-trans c.args.new.now mid new c.loop-number.invariant.front front);
             once = λ once. subst IsOnceIn (sym w.new-is) (w.in_ok-one.ensures.once (c.loop-number.invariant.once once));
             numbers = subst (λ o. IsRenumberedTo old c.if-has.new set o (n + 1)) (sym w.other-is) (subst (λ l. IsRenumberedTo old l set w.in-Some-union.both (n + 1)) (sym w.new-is)
                 (renumbered_more old mid set c.loop-number.other new n front c.loop-number.invariant.numbers w.in-Some.one w.in-Some-union.both (c.has.ensures.0 w.if-has.true) one w.in-Some-union.ensures));
           })
       | else-has w ↦
           record {
-            front = subst (IsFront c.args.new.now) (sym w.new-is) c.loop-number.invariant.front;
+            front = subst (IsPrefixOf c.args.new.now) (sym w.new-is) c.loop-number.invariant.front;
             once = λ once. subst IsOnceIn (sym w.new-is) (c.loop-number.invariant.once once);
             numbers = subst (λ o. IsRenumberedTo old c.if-has.new set o (n + 1)) (sym w.other-is) (subst (λ l. IsRenumberedTo old l set c.loop-number.other (n + 1)) (sym w.new-is)
-                (renumbered_skip old mid set c.loop-number.other mid n (IsFront-itself mid) c.loop-number.invariant.numbers (λ h. true≢false (sym (c.has.ensures.1 h) ∙ w.if-has.false))));
+                (renumbered_skip old mid set c.loop-number.other mid n (IsPrefixOf-itself mid) c.loop-number.invariant.numbers (λ h. true≢false (sym (c.has.ensures.1 h) ∙ w.if-has.false))));
           }
     ]
 

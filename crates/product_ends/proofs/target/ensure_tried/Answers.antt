@@ -7,7 +7,7 @@ pub returns-in_err-try_each-clause-fresh : goal.returns-in_err-try_each-clause-f
 returns-in_err-try_each-clause-fresh g c =
     let row = c.has_row.ensures.some c.if-not-has_row.false in
     inr ((
-      λ was. true≢false (sym (c.deeds_in.ensures.tried c.requires.sound.within was) ∙ sym c.is_some.ensures ∙ c.if-is_some.false),
+      λ was. true≢false (sym (c.transitions_in.ensures.tried c.requires.sound.within was) ∙ sym c.is_some.ensures ∙ c.if-is_some.false),
       (c.args.to.number ∷ row.0, (refl, subst (λ l. AreIn (set l c.args.to.place c.args.to.set) row.0) c.deref.ensures.value row.1)),
     )
     )
@@ -24,7 +24,7 @@ pub returns-clause-fresh : goal.returns-clause-fresh
 returns-clause-fresh g c =
     let row = c.has_row.ensures.some c.if-not-has_row.false in
     inr ((
-      λ was. true≢false (sym (c.deeds_in.ensures.tried c.requires.sound.within was) ∙ sym c.is_some.ensures ∙ c.if-is_some.false),
+      λ was. true≢false (sym (c.transitions_in.ensures.tried c.requires.sound.within was) ∙ sym c.is_some.ensures ∙ c.if-is_some.false),
       (c.args.to.number ∷ row.0, (refl, subst (λ l. AreIn (set l c.args.to.place c.args.to.set) row.0) c.deref.ensures.value row.1)),
     )
     )

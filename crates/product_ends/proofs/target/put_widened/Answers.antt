@@ -1,6 +1,6 @@
 use Rattle.std.proofs.Common.{rules, ⊎_elim, set, refl, sym, subst, arith}
 use Rattle.models.specs.Objects.{of_table}
-use Rattle.product_ends.specs.Deeds.{IsTried}
+use Rattle.product_ends.specs.Transitions.{IsTried}
 use Rattle.product_ends.specs.Widening.{AreWidened, product_to}
 use Rattle.product_ends.proofs.Growing.{grown_tried}
 use Rattle.product_ends.proofs.Counting.{paid_none, paid_one}
@@ -46,7 +46,7 @@ returns-clause-reached g c once start hold =
     (subst (AreWidened c.in-Some.stays.now (set c.deref.result.now c.args.to.place c.args.to.set)) (sym c.deref-2.ensures.value) c.in_ok-widen.ensures) in
     put_reached c.args.to.number c.args.growable_from c.deref-2.result.now old c.put.new.self.1 c.in_ok-put.ensures.puts o u calls start
     (hold_still o t u calls start c.in_ok-ensure_tried.ensures.steps.tries.widens old (hold_rest o t calls start product old hold))
-    (widened_reached g.row.M-State.Denot g.M.SeqObject.start_state g.M.SeqObject.apply_to u calls once c.ensure_tried.new.deeds c.in_ok-ensure_tried.ensures.sound.deeds c.in_ok-ensure_tried.ensures.sound.stays c.args.to.number c.in-Some.stays.now c.in-Some.ensures.some start base c.deref-2.result.now wide
+    (widened_reached g.row.M-State.Denot g.M.SeqObject.start_state g.M.SeqObject.apply_to u calls once c.ensure_tried.new.transitions c.in_ok-ensure_tried.ensures.sound.transitions c.in_ok-ensure_tried.ensures.sound.stays c.args.to.number c.in-Some.stays.now c.in-Some.ensures.some start base c.deref-2.result.now wide
     (λ row is. says_still o t u calls start c.in_ok-ensure_tried.ensures.steps.tries.widens row (say_first o t calls start product old hold row is)))
 
 pub returns-clause-grown : goal.returns-clause-grown
@@ -59,7 +59,7 @@ returns-clause-grown g c =
     record {
       known = record {
         sound = c.in_ok-ensure_tried.ensures.sound;
-        tried = put_tried c.args.to.number c.args.growable_from next old new c.in_ok-put.ensures.puts c.ensure_tried.new.deeds
+        tried = put_tried c.args.to.number c.args.growable_from next old new c.in_ok-put.ensures.puts c.ensure_tried.new.transitions
             (λ row is. c.in_ok-ensure_tried.ensures.tried.kept _ (known.tried row is)) (let told = c.in-Some.ensures.some.1 in omega (arith, told));
         apart = c.rows.ensures.apart;
       };
@@ -69,7 +69,7 @@ returns-clause-grown g c =
           (λ fresh.
           paid_one old new known.apart gains.kept _ c.args.applied.now c.ensure_tried.new.applied fresh.1.0
           (returns-clause-puts g c fresh.1.0 fresh.1.1)
-          (λ was. fresh.0 (subst (IsTried c.args.work.now.deeds) (sym (first_of (product_to c.args.work.now.source c.args.to) fresh.1.0 fresh.1.1)) (known.tried fresh.1.0 was)))
+          (λ was. fresh.0 (subst (IsTried c.args.work.now.transitions) (sym (first_of (product_to c.args.work.now.source c.args.to) fresh.1.0 fresh.1.1)) (known.tried fresh.1.0 was)))
           c.in_ok-ensure_tried.ensures.steps.cost)
           c.in_ok-ensure_tried.ensures.fresh;
       within = search rules;

@@ -1,6 +1,7 @@
-use Rattle.std.proofs.Common.{◌≡◌, ◌+◌, ◌^◌, ◌<◌, true, false, map, length, refl, sym, ◌∙◌, subst, arith}
+use Rattle.std.proofs.Common.{◌≡◌, ◌+◌, ◌^◌, ◌<◌, true, false, map, length, get_or, refl, sym, ◌∙◌, subst, arith}
 use Rattle.std.specs.List.{remove}
 use Rattle.std.proofs.lemmas.List.Edits.{length-remove}
+use Rattle.std.proofs.lemmas.Option.{slice_get-get_or}
 use Rattle.rows.specs.RowSets.{PutsMarked}
 use Rattle.words.specs.Words.{ArePacked, digits}
 use Rattle.words.proofs.Digits.{length-digits}
@@ -8,6 +9,11 @@ use Rattle.rows.proofs.Marks.{marked_digit, puts_more}
 use Rattle.rows.proofs.Packing.{packed_still, put_word, row_there}
 use Rattle.rows.proofs.marked.put_marked_words.Goals as goal
 use Rattle.rows.proofs.marked.put_marked_words.Goals.{then-has_mark+in_ok-put, else-has_mark}
+
+pub unreachable-requires : goal.unreachable-requires
+unreachable-requires c =
+    let here : c.loop-at.at < length c.args.others.now = omega arith in
+    c.in_default.not-Some (get_or c.args.others.now c.loop-at.at 0) (c.get.ensures ∙ slice_get-get_or c.args.others.now c.loop-at.at 0 here)
 
 pub loop-at-preserved : goal.loop-at-preserved
 loop-at-preserved c =

@@ -1,9 +1,15 @@
-use Rattle.std.proofs.Common.{◌^◌, map, length, sym, ap, ◌∙◌, arith}
+use Rattle.std.proofs.Common.{◌^◌, ◌<◌, map, length, get_or, sym, ap, ◌∙◌, arith}
+use Rattle.std.proofs.lemmas.Option.{slice_get-get_or}
 use Rattle.words.specs.Words.{digits}
 use Rattle.words.proofs.Digits.{length-digits}
 use Rattle.rows.proofs.Packing.{listed_more, packed_still, put_word}
 use Rattle.std.proofs.lemmas.Grind.{common_steps}
 use Rattle.rows.proofs.row_set.repacked.Goals as goal
+
+pub unreachable-requires : goal.unreachable-requires
+unreachable-requires c =
+    let here : c.loop-at.at < length c.args.words.now = omega arith in
+    c.in_default.not-Some (get_or c.args.words.now c.loop-at.at 0) (c.get.ensures ∙ slice_get-get_or c.args.words.now c.loop-at.at 0 here)
 
 pub packed-requires-clause-room : goal.packed-requires-clause-room
 packed-requires-clause-room c = grind (arith, common_steps, length-digits)

@@ -2,7 +2,7 @@ use Rattle.std.proofs.Common.{◌≡◌, ◌∙◌, ℤ, inr, subst, sym, to_z, 
 use Rattle.std.specs.List.{Contains}
 use Rattle.std.proofs.lemmas.Bool.{true≢false}
 use Rattle.std.proofs.lemmas.Int.{to_z-of_z}
-use Rattle.wide_cas_register.specs.declared.next.Deed.TheVariants.{EndsWrite}
+use Rattle.wide_cas_register.specs.declared.next.Effect.TheVariants.{EndsWrite}
 use Rattle.wide_cas_register.specs.Facts.{IsPutBefore, IsWithoutId, OfRow}
 use Rattle.wide_cas_register.proofs.Makings.{each_alone, has_alone}
 use Rattle.wide_cas_register.proofs.next.end_write.Goals as goal

@@ -1,7 +1,7 @@
 use Rattle.std.proofs.Common.{◌≡◌, FitsSigned, Some, refl, rules, subst, sym, to_z, of_z, w64}
 use Rattle.std.specs.Prelude.{IfSome}
 use Rattle.std.proofs.lemmas.Int.{to_z-of_z}
-use Rattle.wide_cas_register.specs.declared.next.Deed.TheVariants.{EndsRead}
+use Rattle.wide_cas_register.specs.declared.next.Effect.TheVariants.{EndsRead}
 use Rattle.wide_cas_register.specs.Facts.{AllOfFront, OfFront}
 use Rattle.wide_cas_register.proofs.next.row_of_front.Goals as goal
 

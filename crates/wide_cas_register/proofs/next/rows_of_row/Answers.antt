@@ -2,7 +2,7 @@ use Rattle.std.proofs.Common.{◌≡◌, FitsSigned, rules, subst, sym, to_z, of
 use Rattle.std.specs.Prelude.{IfOk}
 use Rattle.std.specs.List.{Contains}
 use Rattle.std.proofs.lemmas.Int.{to_z-of_z}
-use Rattle.wide_cas_register.specs.declared.next.Deed.TheVariants.{EndsRead, EndsWrite}
+use Rattle.wide_cas_register.specs.declared.next.Effect.TheVariants.{EndsRead, EndsWrite}
 use Rattle.wide_cas_register.specs.declared.row.Row.{Row}
 use Rattle.wide_cas_register.specs.Facts.{AllOfRow, IsBegun, IsSame, IsWithoutId, OfRow}
 use Rattle.wide_cas_register.proofs.Makings.{has_alone}

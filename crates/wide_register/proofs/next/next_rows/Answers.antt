@@ -1,7 +1,7 @@
 use Rattle.std.proofs.Common.{◌≡◌, FitsSigned, rules, subst, sym, to_z, of_z, w64}
 use Rattle.std.specs.List.{Contains}
 use Rattle.std.proofs.lemmas.Int.{to_z-of_z}
-use Rattle.wide_register.specs.declared.next.Deed.TheVariants.{EndsRead, EndsWrite}
+use Rattle.wide_register.specs.declared.next.Effect.TheVariants.{EndsRead, EndsWrite}
 use Rattle.wide_register.specs.declared.row.Row.{Row}
 use Rattle.wide_register.specs.Facts.{HasNextBy, IsNextBy, IsSame, IsWithoutId}
 use Rattle.wide_register.proofs.Making.{has_alone}

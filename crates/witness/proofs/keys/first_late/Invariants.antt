@@ -5,7 +5,7 @@ use Rattle.witness.proofs.keys.first_late.Given as goal
 
 abbrev pub invariant-loop-at : goal.invariant-loop-at
 invariant-loop-at l = record {
-  in_time : AreInTime l.fates (ids_of (take l.at l.stands));
-  most : (id : ℕ) → Contains (ids_of (take l.at l.stands)) id → id ≤ l.latest;
-  one : (l.latest ≡ 0) ⊎ Contains (ids_of (take l.at l.stands)) l.latest;
+  in_time : AreInTime l.statuses (ids_of (take l.at l.positions));
+  most : (id : ℕ) → Contains (ids_of (take l.at l.positions)) id → id ≤ l.latest;
+  one : (l.latest ≡ 0) ⊎ Contains (ids_of (take l.at l.positions)) l.latest;
 }

@@ -1,6 +1,6 @@
 -- the outcome of a call, if there is one
 use Rattle.std.proofs.Common.{◌≡◌, ◌+◌, ◌∷◌, ◌++◌, [], ℕ, List, Option, Some, None, MatchOption, vec_len, length, option_to_list, sym, ◌∙◌, arith}
-use Rattle.models.specs.AnyState.{outcomes_of}
+use Rattle.kinds.specs.AnyState.{outcomes_of}
 use Rattle.witness.proofs.Outcomes.{taken}
 use Rattle.witness.proofs.taking.take_call.Goals as goal
 

@@ -1,5 +1,5 @@
 use Rattle.std.proofs.Common.{[]}
 use Rattle.checkpoints.proofs.key_line.KeyLine.new.Given as goal
 
-abbrev pub ghost-tell : goal.ghost-tell
-ghost-tell a = []
+abbrev pub ghost-picked_events : goal.ghost-picked_events
+ghost-picked_events a = []

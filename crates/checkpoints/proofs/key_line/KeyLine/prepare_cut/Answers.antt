@@ -7,7 +7,7 @@ use Rattle.checkpoints.specs.Saves.{saved_by}
 use Rattle.checkpoints.specs.SoundLine.{IsBrought}
 use Rattle.checkpoints.specs.declared.key_line.Change.{Change}
 use Rattle.checkpoints.specs.declared.saving.Saves.TheVariants.{Kept}
-use Rattle.checkpoints.proofs.Soundness.{cut_brought, all_stand, lent_seen, cut_seen, next_right, IsSoundLine-prepared}
+use Rattle.checkpoints.proofs.Soundness.{cut_brought, all_stand, borrowed_seen, cut_seen, next_right, IsSoundLine-prepared}
 use Rattle.checkpoints.proofs.key_line.KeyLine.prepare_cut.Goals as goal
 use Rattle.checkpoints.proofs.key_line.KeyLine.prepare_cut.Goals.{then-kept-len+in_ok-state+in_ok-new, else-kept-len}
 
@@ -16,7 +16,7 @@ gone_back-requires-clause-are c = (
   c.self.inside.told.events,
   record {
     places_are = c.deref-then-kept-len.ensures.value ∙ c.self.invariant.now.places_are;
-    are_lent = lent_seen _ _ _ _ _ _ c.self.view_is c.args.lent.now c.requires;
+    are_borrowed = borrowed_seen _ _ _ _ _ _ c.self.view_is c.args.borrowed.now c.requires;
   },
 )
 
@@ -35,7 +35,7 @@ stands c =
     elim c.if-kept-len.branch [
       | then-kept-len+in_ok-state+in_ok-new w ↦ rw w.next-is
           (subst (IsKeyState kind budget (take c.count_below-kept.result events)) (sym w.in_ok-new.ensures.ok) (w.in_ok-state.ensures.stands events now.history
-          (record { places_are = w.deref-then-kept-len.ensures.value ∙ now.places_are; are_lent = lent_seen _ _ _ _ _ _ c.self.view_is c.args.lent.now c.requires })
+          (record { places_are = w.deref-then-kept-len.ensures.value ∙ now.places_are; are_borrowed = borrowed_seen _ _ _ _ _ _ c.self.view_is c.args.borrowed.now c.requires })
           (subst (AreSaved kind budget events) (sym w.deref-then-kept-len-2.ensures.value) now.saved_are)))
       | else-kept-len w ↦ rw w.next-is
           (all_stand kind budget events c.self.inside.places.items c.self.inside.state c.self.inside.saved.items now c.count_below-kept.result (omega arith))

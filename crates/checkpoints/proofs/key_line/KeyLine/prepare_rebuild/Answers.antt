@@ -1,9 +1,9 @@
 use Rattle.std.proofs.Common.{◌≡◌, ◌∙◌, length, refl, sym, subst, take, arith}
 use Rattle.checkpoints.specs.KeyState.{IsKeyState}
-use Rattle.checkpoints.specs.Lent.{AreAt}
+use Rattle.checkpoints.specs.Borrowed.{AreAt}
 use Rattle.checkpoints.specs.Saved.{AreSaved}
 use Rattle.checkpoints.specs.SoundLine.{IsBrought}
-use Rattle.checkpoints.proofs.Soundness.{lent_seen, rebuilt_brought, rebuilt_seen, status_right, IsSoundLine-prepared}
+use Rattle.checkpoints.proofs.Soundness.{borrowed_seen, rebuilt_brought, rebuilt_seen, status_right, IsSoundLine-prepared}
 use Rattle.checkpoints.specs.declared.key_line.Change.{Change}
 use Rattle.checkpoints.specs.Saves.{saved_by}
 use Rattle.checkpoints.specs.declared.next.Next.TheVariants.{Becomes}
@@ -14,14 +14,14 @@ judged_anew-requires c = (
   c.self.inside.told.events,
   record {
     places_are = c.deref.ensures.value ∙ c.self.invariant.now.places_are;
-    are_lent = lent_seen _ _ _ _ _ _ c.self.view_is c.args.lent.now c.requires;
+    are_borrowed = borrowed_seen _ _ _ _ _ _ c.self.view_is c.args.borrowed.now c.requires;
   },
 )
 
-at : (c : goal.After-keep) → AreAt c.args.lent.now c.deref.result.now c.self.inside.told.events
+at : (c : goal.After-keep) → AreAt c.args.borrowed.now c.deref.result.now c.self.inside.told.events
 at c = record {
   places_are = c.deref.ensures.value ∙ c.self.invariant.now.places_are;
-  are_lent = lent_seen _ _ _ _ _ _ c.self.view_is c.args.lent.now c.requires;
+  are_borrowed = borrowed_seen _ _ _ _ _ _ c.self.view_is c.args.borrowed.now c.requires;
 }
 
 stands : (c : goal.After-keep) → IsKeyState c.args.kind c.args.budget c.self.inside.told.events c.in_ok-state.state

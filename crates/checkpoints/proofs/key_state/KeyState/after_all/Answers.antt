@@ -15,15 +15,15 @@ loop-index-init c = record {
   counted = sym (count_on_none c.args.replayed.now (omega arith));
 }
 
-pub bounds-lent-index : goal.bounds-lent-index
-bounds-lent-index c = stands_within c.args.lent.now c.args.places.now c.requires.0 c.requires.1 c.loop-index.index-index _ 0 (omega arith) refl
+pub bounds-borrowed-index : goal.bounds-borrowed-index
+bounds-borrowed-index c = stands_within c.args.borrowed.now c.args.places.now c.requires.0 c.requires.1 c.loop-index.index-index _ 0 (omega arith) refl
 
 pub loop-index-preserved : goal.loop-index-preserved
 loop-index-preserved c =
     let i = c.loop-index.index-index in
     record {
       stands = λ kind budget before events first history at.
-          (let one = one_more_behind c.args.lent.now c.args.places.now events at i _ 0 (omega arith) refl before _ c.index-lent-index.is in
+          (let one = one_more_behind c.args.borrowed.now c.args.places.now events at i _ 0 (omega arith) refl before _ c.index-borrowed-index.is in
           c.commit.ensures kind budget (before ++ take (i + 1) events)
           (subst (λ l. IsNext kind budget l c.prepare.new.self c.in_ok-next.next) (sym one)
           (c.in_ok-next.ensures.next kind budget (before ++ take i events) (c.loop-index.invariant.stands kind budget before events first history at) (subst IsHistory one (IsHistory-front before events (i + 1) history)))));

@@ -1,6 +1,6 @@
 use Rattle.std.proofs.Common.{◌<◌, length, arith}
 use Rattle.history.proofs.Kept.{kept_at_first}
-use Rattle.history.proofs.Fronts.{next_at, sound_more}
+use Rattle.history.proofs.Prefixes.{next_at, sound_more}
 use Rattle.history.proofs.clients.Clients.after.Goals as goal
 
 pub loop-i-init : goal.loop-i-init

@@ -1,6 +1,6 @@
 use Rattle.std.proofs.Common.{◌+◌, sym, subst, refl, arith}
 use Rattle.history.specs.HistoryInvariant.{IsReady}
-use Rattle.history.proofs.Fronts.{next_at, sound_more}
+use Rattle.history.proofs.Prefixes.{next_at, sound_more}
 use Rattle.history.proofs.history.History.commit.Goals as goal
 
 pub move_on-requires-clause-next : goal.move_on-requires-clause-next

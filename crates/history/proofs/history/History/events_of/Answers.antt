@@ -1,6 +1,6 @@
 use Rattle.std.proofs.Common.{◌<◌, ◌++◌, ◌∷◌, [], ℕ, Vec, Global, length, ap, sym, ◌∙◌, arith}
 use Rattle.events.specs.declared.event.Event.{Event}
-use Rattle.history.proofs.KeyFronts.{key_has, key_lacks}
+use Rattle.history.proofs.KeyPrefixes.{key_has, key_lacks}
 use Rattle.history.proofs.history.History.events_of.Goals as goal
 use Rattle.history.proofs.history.History.events_of.Goals.{then-is_of_key+in_ok-copy+in_ok-push, else-is_of_key}
 

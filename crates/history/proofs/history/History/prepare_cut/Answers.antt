@@ -1,6 +1,6 @@
 use Rattle.std.proofs.Common.{◌≡◌, sym, ap, ◌∙◌, subst, take}
 use Rattle.history.specs.WellFormed.{HistoryView, IsHistoryOf}
-use Rattle.history.proofs.Fronts.{history-take}
+use Rattle.history.proofs.Prefixes.{history-take}
 use Rattle.history.proofs.history.History.prepare_cut.Goals as goal
 
 pub after-requires-clause-history : goal.after-requires-clause-history

@@ -4,7 +4,7 @@ use Rattle.edn.specs.View.{value_of}
 use Rattle.events.specs.Spelling.{Spells}
 use Rattle.events.specs.EventMap.{map_of, with_index}
 use Rattle.history.specs.WellFormed.{HistoryView, IsHistoryOf}
-use Rattle.history.proofs.KeyFronts.{event_in_tables, ok_told, some_told}
+use Rattle.history.proofs.KeyPrefixes.{event_in_tables, ok_told, some_told}
 use Rattle.history.proofs.history.History.to_edn.Goals as goal
 
 pub map_of_event-requires : goal.map_of_event-requires

@@ -1,7 +1,7 @@
 use Rattle.std.proofs.Common.{◌≤◌, length, sym, ap, subst, ◌∙◌, arith, rules}
 use Rattle.checkpoints.specs.KeyLineView.{KeyLineView, count_on}
 use Rattle.checkpoints.proofs.Counts.{count_on_none}
-use Rattle.monitor.specs.Rows.{LinesView, nows, each_line, with_cut, without_next, AreRowsLentBy}
+use Rattle.monitor.specs.Rows.{LinesView, nows, each_line, with_cut, without_next, AreRowsBorrowedBy}
 use Rattle.monitor.proofs.Changing.{changed-all, line_after, none_left, nows_left}
 use Rattle.monitor.proofs.Cutting.{AreCutSoFar-skip, AreCutSoFar-more, cut_next, same_nows, same_length, all_kept, all_joined, all_counted}
 use Rattle.monitor.proofs.lines.Lines.prepare_cut.Goals as goal
@@ -12,8 +12,8 @@ key_and_line-key-requires c =
     let long = same_length c.args.self.now.rows c.loop-place.self.rows (same_nows c.loop-place.invariant.so_far) in
     omega (arith, seen, long, c.len-place-end.ensures.len)
 
-pub prepare_line_cut-requires-clause-lent : goal.prepare_line_cut-requires-clause-lent
-prepare_line_cut-requires-clause-lent c = subst (AreRowsLentBy c.args.lent.now) (sym (same_nows c.loop-place.invariant.so_far)) c.requires
+pub prepare_line_cut-requires-clause-borrowed : goal.prepare_line_cut-requires-clause-borrowed
+prepare_line_cut-requires-clause-borrowed c = subst (AreRowsBorrowedBy c.args.borrowed.now) (sym (same_nows c.loop-place.invariant.so_far)) c.requires
 
 pub loop-place-init : goal.loop-place-init
 loop-place-init c = record {

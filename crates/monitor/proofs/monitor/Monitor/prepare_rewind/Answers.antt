@@ -8,12 +8,12 @@ use Rattle.monitor.specs.Rows.{nows, losing}
 use Rattle.monitor.proofs.Again.{few_in}
 use Rattle.monitor.proofs.Changes.{cut_judged}
 use Rattle.monitor.proofs.Cutting.{are_cut}
-use Rattle.monitor.proofs.Lent.{judged_lent}
+use Rattle.monitor.proofs.Borrowed.{judged_borrowed}
 use Rattle.monitor.proofs.Prepared.{rewind_ready}
 use Rattle.monitor.proofs.monitor.Monitor.prepare_rewind.Goals as goal
 
 pub prepare_cut-requires-2 : goal.prepare_cut-requires-2
-prepare_cut-requires-2 c = judged_lent c.self.invariant.now c.events.result.now (c.events.ensures ∙ ap (λ (x : HistoryView). x.events) c.in_ok-prepare_cut.ensures.prepared)
+prepare_cut-requires-2 c = judged_borrowed c.self.invariant.now c.events.result.now (c.events.ensures ∙ ap (λ (x : HistoryView). x.events) c.in_ok-prepare_cut.ensures.prepared)
 
 pub invariant_of-self-2 : goal.invariant_of-self-2
 invariant_of-self-2 c =

@@ -4,12 +4,12 @@ use Rattle.checkpoints.specs.KeyLineView.{count_on}
 use Rattle.monitor.specs.Monitors.{MonitorView}
 use Rattle.monitor.specs.Settings.{with_setting}
 use Rattle.monitor.proofs.Again.{events_seen, setting_seen}
-use Rattle.monitor.proofs.Lent.{judged_lent}
+use Rattle.monitor.proofs.Borrowed.{judged_borrowed}
 use Rattle.monitor.proofs.Prepared.{rebuilt_judged, set_ready}
 use Rattle.monitor.proofs.monitor.Monitor.prepare_set.Goals as goal
 
-pub prepare_rebuild-requires-clause-lent : goal.prepare_rebuild-requires-clause-lent
-prepare_rebuild-requires-clause-lent c = judged_lent c.self.invariant.now c.events-lent.result.now c.events-lent.ensures
+pub prepare_rebuild-requires-clause-borrowed : goal.prepare_rebuild-requires-clause-borrowed
+prepare_rebuild-requires-clause-borrowed c = judged_borrowed c.self.invariant.now c.events-borrowed.result.now c.events-borrowed.ensures
 
 pub invariant_of-self-2 : goal.invariant_of-self-2
 invariant_of-self-2 c =

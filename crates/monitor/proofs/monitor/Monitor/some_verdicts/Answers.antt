@@ -7,4 +7,4 @@ use Rattle.monitor.proofs.monitor.Monitor.some_verdicts.Goals as goal
 pub returns : goal.returns
 returns c n =
     subst (λ (s : MonitorView). (v : Verdict) × IsVerdictOn (rewound n s.now) v) c.self.view_is
-    (c.judged_fronts_law.ensures _ _ _ n c.self.invariant.now)
+    (c.judged_prefixes_law.ensures _ _ _ n c.self.invariant.now)

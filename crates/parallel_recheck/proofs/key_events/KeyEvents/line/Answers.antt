@@ -6,8 +6,8 @@ use Rattle.linspec.specs.KeyHistory.{with_pushed, without_events}
 use Rattle.checkpoints.specs.KeyLineView.{KeyLineView, at_rest, count_on}
 use Rattle.checkpoints.proofs.Counts.{count_on_none, count_on_more}
 use Rattle.checkpoints.proofs.Cutting.{IsHistory-take}
-use Rattle.parallel_recheck.specs.Pieces.{PieceView, lent}
-use Rattle.parallel_recheck.proofs.Lending.{lent_more, length-lent}
+use Rattle.parallel_recheck.specs.Pieces.{PieceView, borrowed}
+use Rattle.parallel_recheck.proofs.Lending.{borrowed_more, length-borrowed}
 use Rattle.parallel_recheck.proofs.key_events.KeyEvents.line.Goals as goal
 
 pub loop-index-init : goal.loop-index-init
@@ -21,8 +21,8 @@ push-requires c =
     let i = c.loop-index.index-index in
     let x = c.loop-index-item.result in
     let events = c.args.self.now.judged.events in
-    let same : lent c.deref-index-items.result.now ≡ events = ap lent c.deref-index-items.ensures.value ∙ ap (λ (p : PieceView). p.judged.events) c.self.view_is in
-    let one = lent_more c.deref-index-items.result.now events i x same c.loop-index-test.true c.loop-index-item.is in
+    let same : borrowed c.deref-index-items.result.now ≡ events = ap borrowed c.deref-index-items.ensures.value ∙ ap (λ (p : PieceView). p.judged.events) c.self.view_is in
+    let one = borrowed_more c.deref-index-items.result.now events i x same c.loop-index-test.true c.loop-index-item.is in
     let history : IsHistory events = subst (λ (p : PieceView). IsHistory p.judged.events) c.self.view_is c.self.invariant in
     let first = subst IsHistory one (IsHistory-take (i + 1) events history) in
     subst (λ (l : List (ℕ × Event)). IsHistory (l ++ (x.0, x.1.now) ∷ [])) (sym (ap (λ (v : KeyLineView). v.now.events) c.loop-index.invariant.stands)) first
@@ -32,8 +32,8 @@ loop-index-preserved c =
     let i = c.loop-index.index-index in
     let x = c.loop-index-item.result in
     let p = c.args.self.now.judged in
-    let same : lent c.deref-index-items.result.now ≡ p.events = ap lent c.deref-index-items.ensures.value ∙ ap (λ (p : PieceView). p.judged.events) c.self.view_is in
-    let one = lent_more c.deref-index-items.result.now p.events i x same c.loop-index-test.true c.loop-index-item.is in
+    let same : borrowed c.deref-index-items.result.now ≡ p.events = ap borrowed c.deref-index-items.ensures.value ∙ ap (λ (p : PieceView). p.judged.events) c.self.view_is in
+    let one = borrowed_more c.deref-index-items.result.now p.events i x same c.loop-index-test.true c.loop-index-item.is in
     record {
       stands = c.in_ok-push.ensures.ok
           ∙ ap (λ (v : KeyLineView). at_rest (with_pushed x.0 x.1.now v.now) (count_on v.replayed 1)) c.loop-index.invariant.stands
@@ -46,8 +46,8 @@ returns c =
     let i = c.loop-index.index-index in
     let p = c.args.self.now.judged in
     let items = c.deref-index-items.result.now in
-    let same : lent items ≡ p.events = ap lent c.deref-index-items.ensures.value ∙ ap (λ (p : PieceView). p.judged.events) c.self.view_is in
-    let many : length p.events ≡ length items = sym (ap length same) ∙ length-lent items in
+    let same : borrowed items ≡ p.events = ap borrowed c.deref-index-items.ensures.value ∙ ap (λ (p : PieceView). p.judged.events) c.self.view_is in
+    let many : length p.events ≡ length items = sym (ap length same) ∙ length-borrowed items in
     let all : i ≡ length p.events = omega (arith, many, c.loop-index-test.false, c.loop-index.auto.index-index-end) in
     c.loop-index.invariant.stands
     ∙ ap (λ (l : List (ℕ × Event)). at_rest (record { kind = p.kind; budget = p.budget; events = l }) (count_on 0 i)) (take_all i p.events (omega (arith, all)))

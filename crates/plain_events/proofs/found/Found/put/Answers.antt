@@ -3,7 +3,7 @@ use Rattle.edn.specs.Value.{keyword}
 use Rattle.models.specs.Names.{text_of}
 use Rattle.events.specs.EventMap.{number}
 use Rattle.events.specs.Spelling.{text_of_kind}
-use Rattle.plain_events.specs.Fronts.{IsIndexAt}
+use Rattle.plain_events.specs.Prefixes.{IsIndexAt}
 use Rattle.plain_events.proofs.found.Found.put.Goals as goal
 
 pub returns-in-Some : goal.returns-in-Some

@@ -1,0 +1,71 @@
+//! Calls in turn, each once more if it ran out of memory.
+
+use crate::answers::{Answer, Seen};
+use edn::Refusal;
+use std::io;
+
+/// What is called.
+pub trait Subject {
+    /// Makes the call of this number, from 0 on: its answer, or none if there is no such call.
+    fn call(&mut self, number: u32) -> Option<Result<Answer, Refusal>>;
+
+    /// Its visible state.
+    fn seen(&mut self) -> Seen;
+}
+
+// Calls at most.
+const CALLS: u32 = 64;
+
+/// Makes the calls of a subject that was opened, in turn.
+pub fn print_opened<S: Subject + Drop, R: Print>(
+    rt: &R,
+    opened: Result<S, Refusal>,
+) -> io::Result<()> {
+    match opened {
+        Ok(mut subject) => print_each(rt, &mut subject),
+        Err(why) => println!(rt; "refused {} {}", why.number(), why.name()),
+    }
+}
+
+/// Makes the calls of a subject in turn.
+pub fn print_each<S: Subject, R: Print>(rt: &R, subject: &mut S) -> io::Result<()> {
+    for number in 0..CALLS {
+        let Some(answer) = answer_of(rt, subject, number)? else {
+            return Ok(());
+        };
+        let seen = subject.seen();
+        match answer {
+            Ok(said) => println!(rt; "{said}: {seen}")?,
+            Err(why) => println!(rt; "refused {} {}: {seen}", why.number(), why.name())?,
+        }
+    }
+    Ok(())
+}
+
+// The answer of the call of this number, at the second try if the first ran out of memory.
+fn answer_of<S: Subject, R: Print>(
+    rt: &R,
+    subject: &mut S,
+    number: u32,
+) -> io::Result<Option<Result<Answer, Refusal>>> {
+    let before = subject.seen();
+    match subject.call(number) {
+        Some(Err(Refusal::NoMemory)) => {
+            if subject.seen() == before {
+                println!(rt; "no memory")?;
+            } else {
+                println!(rt; "changed")?;
+            }
+            Ok(subject.call(number))
+        }
+        answer => Ok(answer),
+    }
+}
+
+/// Tells what one call answered.
+pub fn print_answer<R: Print>(rt: &R, answer: Result<Answer, Refusal>) -> io::Result<()> {
+    match answer {
+        Ok(said) => println!(rt; "{said}"),
+        Err(why) => println!(rt; "refused {} {}", why.number(), why.name()),
+    }
+}

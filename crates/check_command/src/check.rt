@@ -1,0 +1,150 @@
+//! A recorded history, from its bytes to the text of its report or of its refusal.
+ghost use Rattle.std.specs.Prelude.{◌≡◌, ◌≤◌, false};
+ghost use Rattle.check_command.specs.declared.recorded.Findings.{Findings};
+ghost use Rattle.harness.specs.Setups.{setup_of};
+ghost use Rattle.check_command.specs.Checks.{Checks, ChecksFile, IsTold, StandsFor};
+
+use crate::opening::Opens;
+use crate::recorded::{Findings, event_text, judge_text};
+use crate::telling::{put_refusal, put_refused, put_text, status_of_verdict};
+use edn::Refusal;
+use harness::Config;
+use line_loop::{Failed, Flushes, Watched, read_whole};
+use observers::Observer;
+use std::alloc::Global;
+use std::io;
+use std::io::{Read, Write};
+use std::sync::Wait;
+use std::thread::Threads;
+
+/// Reads a recorded history to its end, judges it, writes and flushes the result, and returns the exit status.
+///
+/// The text is the report, whose last line is the line of the verdict, or it is one line. `refused NUMBER NAME event I` says that I
+/// elements were taken and the next one was refused. `refused NUMBER NAME` is for other refusals: `ReadFailed` if the reader has failed,
+/// else those of [`Config::check`], `Unreadable` with its place, `NoMemory`. The status is the verdict's if there is a report and the
+/// writer has not failed, else 3.
+///
+/// The bytes are held once, and one element at a time. So many workers, 1 to 64, judge the keys, and what is written is the same by any
+/// number of them. It waits for the reader, the workers and the writer. The observer gets the number of accepted events on the way, and the
+/// moment when they are judged.
+pub fn check_text<
+    X: Wait + Threads + Sync,
+    R: Read + Failed,
+    W: Write + Failed + Flushes,
+    L: Observer,
+>(
+    rt: &X,
+    alloc: Global,
+    config: Config,
+    workers: u32,
+    reader: &mut R,
+    writer: &mut W,
+    observer: &L,
+) -> u8
+    requires reads { R.has_failed reader.old ≡ false }
+    requires writes { W.has_failed writer.old ≡ false }
+    requires workers { (1 ≤ workers) × (workers ≤ 64) }
+    ensures { Checks (setup_of config)
+        (R.remaining reader.old) (R.remaining reader.new) (R.has_failed reader.new)
+        (W.contents writer.old) (W.contents writer.new)
+        (W.has_failed writer.new) (W.is_flushed writer.new) result }
+{
+    let findings = match read_whole(rt, alloc, reader) {
+        Ok(bytes) => judge_text(rt, alloc, config, workers, bytes.as_slice(), observer),
+        Err(refusal) => {
+            observer.refused(&refusal);
+            Findings::Refused(refusal)
+        }
+    };
+    tell(rt, alloc, &findings, writer)
+}
+
+/// Judges the recorded history in a file: [`check_text`] of the file's bytes, with the same status, cost and waiting. A file that can't be
+/// opened is reported as `ReadFailed`, with status 3. The observer gets each read, and a failed one with the path.
+pub fn check_file<X: Wait + Threads + Opens + Sync, W: Write + Failed + Flushes, L: Observer>(
+    rt: &X,
+    alloc: Global,
+    path: &str,
+    config: Config,
+    workers: u32,
+    writer: &mut W,
+    observer: &L,
+) -> u8
+    requires writes { W.has_failed writer.old ≡ false }
+    requires workers { (1 ≤ workers) × (workers ≤ 64) }
+    ensures { ChecksFile (setup_of config) (X.holds rt.now path.now)
+        (W.contents writer.old) (W.contents writer.new)
+        (W.has_failed writer.new) (W.is_flushed writer.new) result }
+{
+    match rt.opened(path) {
+        Ok(file) => {
+            let mut reader = SeenFile {
+                file: Watched::new(file),
+                path,
+                observer,
+            };
+            check_text(rt, alloc, config, workers, &mut reader, writer, observer)
+        }
+        Err(reason) => {
+            observer.unread(path, &reason);
+            observer.refused(&Refusal::ReadFailed);
+            tell(rt, alloc, &Findings::Refused(Refusal::ReadFailed), writer)
+        }
+    }
+}
+
+/// A reader with an observer, who gets each failed read with this name of the input.
+#[derive(Drop)]
+pub struct SeenFile<'a, R, L> {
+    pub file: R,
+    pub path: &'a str,
+    pub observer: &'a L,
+}
+
+impl<'a, R: Failed, L> Failed for SeenFile<'a, R, L> {
+    ghost has_failed = { λ seen. R.has_failed seen.file };
+
+    fn failed(&self) -> bool {
+        self.file.failed()
+    }
+}
+
+impl<'a, R: Read, L: Observer> Read for SeenFile<'a, R, L> {
+    ghost remaining = { λ seen. R.remaining seen.file };
+
+    fn read(&mut self, buf: &mut [u8]) -> io::Result<usize> {
+        match self.file.read(buf) {
+            Ok(n) => {
+                self.observer.read(n);
+                Ok(n)
+            }
+            Err(reason) => {
+                self.observer.unread(self.path, &reason);
+                Err(reason)
+            }
+        }
+    }
+}
+
+// Writes the findings, or the line of out of memory if there is none for it, flushes, and gives the exit status: 3 if the writer has
+// failed.
+fn tell<X: Wait, W: Write + Failed + Flushes>(
+    rt: &X,
+    alloc: Global,
+    findings: &Findings,
+    writer: &mut W,
+) -> u8
+    ensures { (told : Findings) × StandsFor told findings.now
+        × IsTold told (W.contents writer.old) (W.contents writer.new)
+        (W.has_failed writer.new) (W.is_flushed writer.new) result }
+{
+    match findings {
+        Findings::Judged(verdict, text) => {
+            put_text(rt, text.as_slice(), status_of_verdict(verdict), writer)
+        }
+        Findings::RefusedEvent(taken, refusal) => {
+            put_refused(rt, event_text(alloc, *taken, refusal), writer)
+        }
+        Findings::Refused(refusal) => put_refusal(rt, alloc, refusal, writer),
+    }
+}

@@ -1,0 +1,136 @@
+//! The events of a recorded history, as they are read.
+ghost use Rattle.std.specs.Prelude.{◌≡◌, ◌≢◌, ◌<◌, Some, IfOk, IfErr, IfSome, IfNone, OnOk, OnErr};
+ghost use Rattle.edn.specs.Value.{Value, Values};
+ghost use Rattle.edn.specs.Text.{IsText};
+ghost use Rattle.edn.specs.Elements.{IsLeftBehind};
+ghost use Rattle.edn.specs.Refusals.{IsWhy};
+ghost use Rattle.edn.specs.View.{value_of};
+ghost use Rattle.check_command.specs.Reading.{IsSpelled, PassesOver, PushesElement, RefusesNext, IsRead};
+
+use edn::{Edn, Elements, Refusal};
+use events::{Event, from_edn};
+use history::History;
+use observers::Observer;
+use plain_events::plain_event;
+use std::alloc::Global;
+
+/// Pushes the events that the elements of a text spell, in turn, up to the first refused element. If there is one, it returns the number of
+/// events before it, and the reason.
+///
+/// The text is read once, also behind a refused element, since an unreadable place comes first. One element is held at a time. The observer
+/// gets the number of pushed events.
+///
+/// # Errors
+///
+/// `Unreadable` if the bytes are not a text, with its place; `NoMemory` if memory is refused.
+pub fn read_events<L: Observer>(
+    alloc: Global,
+    history: &mut History,
+    bytes: &[u8],
+    observer: &L,
+) -> Result<Option<(usize, Refusal)>, Refusal>
+    ensures read { IfOk result
+        (IsRead bytes.now history.old.concurrency history.old.events history.new.events) }
+    ensures refused { IfErr result (λ why. IsWhy bytes.now why) }
+    ensures concurrency { history.new.concurrency ≡ history.old.concurrency }
+{
+    let mut elements = Elements::new(bytes);
+    let mut pushed: usize = 0;
+    'elements: loop {
+        let spelled = match next_event(alloc, &mut elements)? {
+            Some(spelled) => spelled,
+            None => return Ok(None),
+        };
+        match push_spelled(history, spelled) {
+            Ok(()) => {
+                pushed += 1;
+                observer.taken(pushed);
+            }
+            Err(refusal) => return refused_at(alloc, elements, pushed, refusal),
+        }
+    }
+}
+
+// The event that the next element of a text spells, or why it spells none; or none at the end of the text. No element is made
+// of an event that is spelled plainly.
+fn next_event(
+    alloc: Global,
+    elements: &mut Elements,
+) -> Result<Option<Result<Event, Refusal>>, Refusal>
+    ensures bytes { elements.new.bytes ≡ elements.old.bytes }
+    ensures given { IfOk result (λ found. IfSome found (λ spelled. (v : Value) × IsSpelled v spelled
+        × PassesOver elements.old v elements.new)) }
+    ensures end { IfOk result (λ found. IfNone found ((given : Values)
+        → IsLeftBehind elements.old.bytes given elements.old.left
+        → IsText elements.old.bytes given)) }
+    ensures refused { IfErr result (λ why. IsWhy elements.old.bytes why) }
+{
+    if let Some((event, rest)) = plain_event(alloc, elements.left()) {
+        elements.pass_to(rest);
+        return Ok(Some(Ok(event)));
+    }
+    match elements.next(alloc)? {
+        Some(element) => Ok(Some(spelled_by(alloc, element))),
+        None => Ok(None),
+    }
+}
+
+// The event that the element spells. By itself, for the prover's sake, since the element is dropped.
+fn spelled_by(alloc: Global, element: Edn) -> Result<Event, Refusal>
+    ensures { IsSpelled (value_of element) result }
+{
+    from_edn(alloc, &element)
+}
+
+// Pushes the event that an element spells, or says why it spells none.
+fn push_spelled(history: &mut History, spelled: Result<Event, Refusal>) -> Result<(), Refusal>
+    ensures pushed { OnOk result ((v : Value) → IsSpelled v spelled
+        → PushesElement history.old.concurrency history.old.events v history.new.events) }
+    ensures refused { IfErr result (λ why. why ≢ Refusal.NoMemory
+        → (v : Value) → IsSpelled v spelled
+        → RefusesNext history.old.concurrency history.old.events v why) }
+    ensures err { OnErr result (history.new.events ≡ history.old.events) }
+    ensures concurrency { history.new.concurrency ≡ history.old.concurrency }
+{
+    let event = spelled?;
+    history.push(event)
+}
+
+// The result if an element is refused for this reason after `pushed` events, once the rest of the text was read. Out of memory is never the
+// refusal of an element.
+fn refused_at(
+    alloc: Global,
+    elements: Elements,
+    pushed: usize,
+    refusal: Refusal,
+) -> Result<Option<(usize, Refusal)>, Refusal>
+    requires { (given : Values) × IsLeftBehind elements.bytes given elements.left }
+    ensures refused { IfOk result (λ first. (first ≡ Some (pushed, refusal))
+        × (refusal ≢ Refusal.NoMemory)
+        × ((values : Values) × IsText elements.entry.bytes values)) }
+    ensures err { IfErr result (λ why. IsWhy elements.entry.bytes why) }
+{
+    match refusal {
+        Refusal::NoMemory => Err(Refusal::NoMemory),
+        refusal => {
+            read_on(alloc, elements)?;
+            Ok(Some((pushed, refusal)))
+        }
+    }
+}
+
+// Reads a text on to its end. No element of it is kept.
+fn read_on(alloc: Global, elements: Elements) -> Result<(), Refusal>
+    requires { (given : Values) × IsLeftBehind elements.bytes given elements.left }
+    ensures text { OnOk result ((values : Values) × IsText elements.entry.bytes values) }
+    ensures refused { IfErr result (λ why. IsWhy elements.entry.bytes why) }
+{
+    let mut elements = elements;
+    'elements: while let Some(element) = elements.next(alloc)? {
+        discard(element);
+    }
+    Ok(())
+}
+
+// Drops an element, by itself for the prover's sake.
+fn discard(_element: Edn) {}

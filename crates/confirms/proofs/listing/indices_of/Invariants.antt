@@ -1,7 +1,0 @@
-use Rattle.std.proofs.Common.{take}
-use Rattle.edn.specs.View.{values_of}
-use Rattle.confirms.specs.Listing.{ListsAll}
-use Rattle.confirms.proofs.listing.indices_of.Given as goal
-
-abbrev pub invariant-loop-at : goal.invariant-loop-at
-invariant-loop-at l = ListsAll (values_of (take l.at l.elements)) l.order.items

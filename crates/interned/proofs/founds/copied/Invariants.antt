@@ -1,5 +1,0 @@
-use Rattle.std.proofs.Common.{◌≡◌, take}
-use Rattle.interned.proofs.founds.copied.Given as goal
-
-abbrev pub invariant-loop-found : goal.invariant-loop-found
-invariant-loop-found l = l.copy ≡ take l.found-index l.founds

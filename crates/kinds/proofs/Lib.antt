@@ -1,0 +1,3 @@
+pub mod AnyStates
+pub mod Apart
+pub mod Crossing

@@ -1,0 +1,135 @@
+//! A state of an object of any kind.
+ghost use Rattle.std.specs.Prelude.{◌≡◌, ◌↔◌, IsTrue, IfOk};
+ghost use Rattle.kinds.specs.declared.model_kind.ModelKind.{ModelKind};
+ghost use Rattle.kinds.specs.Kinds.{object_of};
+ghost use Rattle.kinds.specs.AnyState.{any, kind_of_state, outcomes_of, AreOwnOutcomes};
+
+use crate::model_kind::ModelKind;
+use crate::wide_cas_register::WideCasRegister;
+use crate::wide_fifo_queue::WideFifoQueue;
+use crate::wide_register::WideRegister;
+use crate::wide_set::WideSet;
+use crate::wide_unordered_queue::WideUnorderedQueue;
+use crate::{each_kind, of_kind};
+use models::{CasRegister, FifoQueue, Found, Mutex, Op, Register, SeqObject, Set, UnorderedQueue};
+use std::alloc::{AllocError, Global};
+use values::{Items, Multiset, Spans};
+
+/// A state of an object whose kind is known only as the program runs.
+pub enum AnyState {
+    Register(Option<i64>),
+    CasRegister(Option<i64>),
+    Mutex(bool),
+    FifoQueue(Items),
+    Set(Spans),
+    UnorderedQueue(Multiset),
+    WideRegister(Option<i64>),
+    WideCasRegister(Option<i64>),
+    WideSet(Spans),
+    WideFifoQueue(Items),
+    WideUnorderedQueue(Multiset),
+}
+
+macro_rules! drop_of {
+    ($state:expr; $($K:ident $name:literal),*) => {
+        match $state {
+            $(AnyState::$K(_state) => {})*
+        }
+    };
+}
+
+macro_rules! start_of {
+    ($alloc:expr, $kind:expr; $($K:ident $name:literal),*) => {
+        match $kind {
+            $(ModelKind::$K => AnyState::$K($K::start($alloc)),)*
+        }
+    };
+}
+
+macro_rules! state_kind {
+    ($state:expr; $($K:ident $name:literal),*) => {
+        match $state {
+            $(AnyState::$K(_) => ModelKind::$K,)*
+        }
+    };
+}
+
+macro_rules! copy_of_state {
+    ($state:expr, $alloc:expr; $($K:ident $name:literal),*) => {
+        match $state {
+            $(AnyState::$K(state) => Ok(AnyState::$K($K::copy($alloc, state)?)),)*
+        }
+    };
+}
+
+macro_rules! same_state {
+    ($a:expr, $b:expr; $($K:ident $name:literal),*) => {
+        match ($a, $b) {
+            $((AnyState::$K(a), AnyState::$K(b)) => $K::same(a, b),)*
+            _ => false,
+        }
+    };
+}
+
+macro_rules! outcomes_of_state {
+    ($state:expr, $alloc:expr, $op:expr; $($K:ident $name:literal),*) => {
+        match $state {
+            $(AnyState::$K(state) => of_kind::outcomes_in::<$K>($alloc, state, $op),)*
+        }
+    };
+}
+
+// So that crates above give one back by one call.
+impl Drop for AnyState {
+    fn drop(self) {
+        each_kind!(drop_of; self)
+    }
+}
+
+impl AnyState {
+    /// The start state of an object of this kind.
+    pub fn start(alloc: Global, kind: ModelKind) -> AnyState
+        ensures { result ≡ any kind (object_of kind).start }
+    {
+        each_kind!(start_of; alloc, kind)
+    }
+
+    /// The kind of the object whose state this is. Takes constant time.
+    pub fn kind(&self) -> ModelKind
+        ensures { result ≡ kind_of_state self.now }
+    {
+        each_kind!(state_kind; self)
+    }
+
+    /// An equal state; `AllocError` if there is no memory for it, or if as many share the items or values of a queue as can be counted.
+    /// Costs O(spans) for a set, and else constant time: the items and values of queues are shared.
+    pub fn copy(&self, alloc: Global) -> Result<AnyState, AllocError>
+        ensures { IfOk result (λ other. other ≡ self.now) }
+    {
+        each_kind!(copy_of_state; self, alloc)
+    }
+
+    /// Whether both are the same state of the same kind.
+    pub fn same(&self, other: &AnyState) -> bool
+        ensures { IsTrue result ↔ (self.now ≡ other.now) }
+    {
+        each_kind!(same_state; self, other)
+    }
+
+    /// The outcomes of the operation in the state, each once and in the order of the kind's table: the state after it and what it finds.
+    /// None if it can't take place; `AllocError` if there is no memory for a new state or for the list. Leaves the state as it was. Costs
+    /// O(spans) for a set, and O(members) for a read of it. Else each outcome costs O(log n) in the items or values.
+    pub fn apply(&self, alloc: Global, op: &Op) -> Result<Vec<(AnyState, Found)>, AllocError>
+        ensures { (kind : ModelKind) (s : (object_of kind).State) → self.now ≡ any kind s
+            → IfOk result (λ outcomes. outcomes.items ≡ outcomes_of kind s op.now) }
+    {
+        self.outcomes(alloc, op)
+    }
+
+    // The same, by the state's own kind.
+    fn outcomes(&self, alloc: Global, op: &Op) -> Result<Vec<(AnyState, Found)>, AllocError>
+        ensures { IfOk result (λ outcomes. AreOwnOutcomes self.now op.now outcomes.items) }
+    {
+        each_kind!(outcomes_of_state; self, alloc, op)
+    }
+}

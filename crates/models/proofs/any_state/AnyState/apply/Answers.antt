@@ -1,5 +1,0 @@
-use Rattle.models.proofs.AnyStates.{outcomes-own}
-use Rattle.models.proofs.any_state.AnyState.apply.Goals as goal
-
-pub returns : goal.returns
-returns c = outcomes-own c.args.self.now c.args.op.now c.outcomes.result c.outcomes.ensures

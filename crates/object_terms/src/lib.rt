@@ -1,0 +1,26 @@
+//! Values in a file of objects: the words of its cases, read as terms of the crate `rules`, and the faults of a file ([`Fault`]).
+//!
+//! [`term_of`] gives a term that has, in each state, the value that the element spells. `specs/Terms.antt` says which value that is.
+//!
+//! A call allocates only if its result can be `AllocError` or [`Fault::NoMemory`].
+#![tactic(auto)]
+
+mod constants;
+mod fault;
+mod fields;
+mod function;
+mod nearest;
+mod scope;
+mod sort;
+mod sorting;
+mod term;
+#[cfg(test)]
+mod tests;
+
+pub use constants::constant;
+pub use fault::{Fault, refused};
+pub use fields::{pairs_of, shown, test_keys};
+pub use nearest::{listed, meant};
+pub use scope::{Scope, place_of, texts_of};
+pub use sort::Sort;
+pub use term::{DEEPEST, MOST_WORDS, is_total, term_of};

@@ -1,0 +1,222 @@
+//! The texts on standard error, in addition to standard output.
+
+use crate::hints::hint_of;
+use crate::moving_line::MovingLine;
+use crate::observer::Observer;
+use crate::remark::{Remark, remark_on};
+use edn::Refusal;
+use linspec::Verdict;
+use monitor::Monitor;
+use std::cell::Cell;
+use std::fmt::Display;
+use std::io;
+use std::io::Eprint;
+use std::rt::Clock;
+
+// Events that may take a second to judge: that they are judged is then shown at once.
+const MANY_EVENTS: usize = 1 << 12;
+
+// The counts of a script or of a recorded history. Each count is a cell of its own, since one grows with each line, and another with each
+// event.
+#[derive(Drop)]
+struct Tally {
+    // Lines of a script that came.
+    lines: Cell<u64>,
+    // Events that were read.
+    events: Cell<u64>,
+    // Lines or events that were refused.
+    refused: Cell<u64>,
+    // The first that was refused, and the number of its line, from 1 on.
+    first: Cell<Option<(u64, Refusal)>>,
+    // Whether that closed the script.
+    is_closed: Cell<bool>,
+}
+
+impl Tally {
+    // Of nothing that came.
+    fn new() -> Tally {
+        Tally {
+            lines: Cell::new(0),
+            events: Cell::new(0),
+            refused: Cell::new(0),
+            first: Cell::new(None),
+            is_closed: Cell::new(false),
+        }
+    }
+}
+
+// One more.
+fn count(counter: &Cell<u64>) {
+    counter.set(counter.get().saturating_add(1));
+}
+
+/// Prints on standard error, in addition to standard output. At the end it prints how many lines of a script were refused, the usual cause
+/// of the first refusal, and a remark on the verdict.
+///
+/// If standard error is a terminal, one line says meanwhile how far a check has come. It is written over four times a second from the first
+/// second on; a run of clients has another such line.
+#[derive(Drop)]
+pub struct OnStandardError<'a, X> {
+    rt: &'a X,
+    is_terminal: bool,
+    // How far a check has come.
+    line: MovingLine<'a, X>,
+    bytes: Cell<usize>,
+    tally: Tally,
+    remark: Cell<Option<Remark>>,
+}
+
+impl<'a, X: Clock + Eprint> OnStandardError<'a, X> {
+    /// An observer that has printed nothing yet. `is_terminal` says whether standard error is a terminal, for the whole run. Reads the
+    /// clock if it is one, and takes no memory.
+    pub fn new(rt: &'a X, is_terminal: bool) -> Self {
+        OnStandardError {
+            rt,
+            is_terminal,
+            line: MovingLine::new(rt, is_terminal),
+            bytes: Cell::new(0),
+            tally: Tally::new(),
+            remark: Cell::new(None),
+        }
+    }
+
+    /// A line for how far a run of clients has come. It can be sent to the thread that shows it. It reads the clock where there is a
+    /// terminal, and takes no memory.
+    pub fn moving_line(&self) -> MovingLine<'a, X> {
+        MovingLine::new(self.rt, self.is_terminal)
+    }
+
+    /// Says what is left to say at the end of a run. It may wait for standard error, whose errors are passed over.
+    pub fn end(&self) {
+        if let Some((line, refusal)) = self.tally.first.get() {
+            self.say_refused(line);
+            self.say_hint(&refusal);
+        }
+        if let Some(remark) = self.remark.get() {
+            self.say(remark);
+        }
+    }
+
+    // How many lines of a script were refused; or which line of a recorded history is not text.
+    fn say_refused(&self, line: u64) {
+        let lines = self.tally.lines.get();
+        let refused = self.tally.refused.get();
+        if lines == 0 {
+            if line > 0 {
+                self.say(format_args!("what begins in line {line} is no text"));
+            }
+        } else if self.tally.is_closed.get() {
+            self.say(format_args!("line {line} was refused, and a strict script ends there"));
+        } else if refused == 1 {
+            self.say(format_args!(
+                "1 of {lines} lines was refused, line {line}: the verdict is on the others alone"
+            ));
+        } else {
+            self.say(format_args!(
+                "{refused} of {lines} lines were refused, the first of them line {line}: the verdict is on the others alone"
+            ));
+        }
+    }
+
+    // The usual cause of the refusal.
+    fn say_hint(&self, refusal: &Refusal) {
+        if let Some(hint) = hint_of(refusal.number()) {
+            self.say(hint);
+        }
+    }
+
+    // Says it in a line of its own.
+    fn say<D: Display + Drop>(&self, text: D) {
+        let _ = self.rt.eprintln(text);
+    }
+}
+
+// The number of the line that has the byte at this place.
+fn line_of(bytes: &[u8], place: usize) -> u64 {
+    let feeds = bytes
+        .iter()
+        .take(place)
+        .filter(|byte| **byte == b'\n')
+        .count();
+    (feeds as u64).saturating_add(1)
+}
+
+impl<'a, X: Clock + Eprint> Observer for OnStandardError<'a, X> {
+    fn read(&self, bytes: usize) {
+        let all = self.bytes.get().saturating_add(bytes);
+        self.bytes.set(all);
+        if self.line.is_time() {
+            self.line.show(format_args!("{all} bytes were read"));
+        }
+    }
+
+    fn unread(&self, path: &str, reason: &io::Error) {
+        self.line.leave();
+        self.say(format_args!("{path}: {reason}"));
+    }
+
+    fn taken(&self, events: usize) {
+        self.tally.events.set(events as u64);
+        if self.line.is_time() {
+            self.line
+                .show(format_args!("{events} events were read        "));
+        }
+    }
+
+    fn judges(&self, events: usize, workers: u32) {
+        let is_long = events >= MANY_EVENTS && self.line.moves();
+        if is_long || self.line.is_shown() || self.line.is_time() {
+            let s = if workers == 1 { "" } else { "s" };
+            self.line.show(format_args!("judging {events} events by {workers} worker{s}"));
+        }
+    }
+
+    fn line(&self) {
+        count(&self.tally.lines);
+    }
+
+    fn event(&self) {
+        count(&self.tally.events);
+    }
+
+    fn refused(&self, refusal: &Refusal) {
+        self.line.leave();
+        count(&self.tally.refused);
+        if self.tally.first.get().is_none() {
+            self.tally
+                .first
+                .set(Some((self.tally.lines.get(), *refusal)));
+        }
+    }
+
+    fn refused_text(&self, bytes: &[u8], refusal: &Refusal) {
+        self.refused(refusal);
+        if let Refusal::Unreadable(place) = refusal {
+            self.tally
+                .first
+                .set(Some((line_of(bytes, *place), *refusal)));
+        }
+    }
+
+    fn closed(&self) {
+        self.tally.is_closed.set(true);
+    }
+
+    fn judged(&self, monitor: &Monitor, verdict: &Verdict) {
+        self.line.leave();
+        let remark = if self.tally.events.get() == 0 {
+            Some(Remark::NoEvent)
+        } else {
+            remark_on(monitor, verdict)
+        };
+        self.remark.set(remark);
+    }
+
+    fn ran(&self, monitor: &Monitor, verdict: &Verdict) {
+        self.remark.set(remark_on(monitor, verdict));
+    }
+
+    fn stopped(&self, refusal: &Refusal) {
+        self.say_hint(refusal);
+    }
+}

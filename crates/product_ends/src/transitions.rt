@@ -1,0 +1,186 @@
+//! The transitions of each call in the states that were tried.
+ghost use Rattle.std.specs.Prelude.{◌≡◌, ◌<◌, ◌≤◌, ◌+◌, ◌^◌, ℕ, IfOk, IfSome, IsSome, OnOk, Some, length, get_or, slice_get, slice_range};
+ghost use Rattle.models.specs.declared.finding.Found.{Found};
+ghost use Rattle.moves.specs.Tables.{OnlyTries};
+ghost use Rattle.product_ends.specs.Transitions.{AreSound, AreStays, AreTriedToo, AreWithin, HasOneOutcome, IsTransition, IsOrderWith, IsStay, IsTried, TriesAtMost, order_in};
+
+use ends::{PendingOp, Table, step, told_by};
+use interner::founds::slot_at;
+use interner::states::number_of;
+use models::{Found, SeqObject};
+use products::number_set::singleton;
+use std::alloc::{AllocError, Global};
+
+/// The transition of a call in a state.
+#[derive(Clone, Copy)]
+pub enum Transition {
+    /// It cannot take place.
+    Nowhere,
+    /// It leads to the state with this number, and the number of its recorded answer is alone in this set.
+    To(usize, u64),
+}
+
+/// The transitions of each call in the states that were tried. The order of a state is the place of its first transition plus one, or zero
+/// if the calls were not tried in the state. For each transition, `stays` has the set with the number of its answer if it stays in the
+/// state, else the empty set.
+#[derive(Drop)]
+pub struct Transitions<S> {
+    order: Vec<usize>,
+    transitions: Vec<Transition>,
+    stays: Vec<u64>,
+    outcomes: Vec<(S, Found)>,
+}
+
+impl<S> Transitions<S> {
+    /// None.
+    pub fn new(alloc: Global) -> Transitions<S> {
+        Transitions {
+            order: Vec::new(alloc),
+            transitions: Vec::new(alloc),
+            stays: Vec::new(alloc),
+            outcomes: Vec::new(alloc),
+        }
+    }
+}
+
+/// Forgets all, and keeps the memory. Takes constant time.
+pub fn forget<S: Drop>(transitions: &mut Transitions<S>)
+    ensures none { (number : ℕ) → order_in transitions.new number ≡ 0 }
+    ensures stays { (calls : ℕ) → AreStays transitions.new calls }
+{
+    transitions.order.clear();
+    transitions.transitions.clear();
+    transitions.stays.clear();
+}
+
+// The part of the list for the state with this number: for each call one, from the place before its order on.
+#[inline(always)]
+fn part_in<'a, T>(
+    order: &[usize],
+    all: &'a [T],
+    number: usize,
+    call_count: usize,
+) -> Option<&'a [T]>
+    requires { length all.now < 2 ^ 64 }
+    ensures some { IfSome result (λ those. (first : ℕ) × (get_or order.now number 0 ≡ first + 1)
+        × (those.now ≡ slice_range all.now first (first + call_count)) × (length those.now ≡ call_count)) }
+    ensures within { 0 < get_or order.now number 0 → get_or order.now number 0 + call_count ≤ length all.now + 1 → IsSome result }
+{
+    match order.get(number) {
+        // A sum that wraps is before the first place, and then there are none.
+        Some(order) if *order > 0 => {
+            let first = *order - 1;
+            all.get(first..first.wrapping_add(call_count))
+        }
+        _ => None,
+    }
+}
+
+/// The transition of each of the call_count calls in the state with this number, if they were tried there. Takes constant time.
+#[inline(always)]
+pub fn transitions_in<S>(
+    transitions: &Transitions<S>,
+    number: usize,
+    call_count: usize,
+) -> Option<&[Transition]>
+    ensures some { IfSome result (λ those. (order : ℕ) × (order_in transitions.now number ≡ order + 1)
+        × (those.now ≡ slice_range transitions.now.transitions.items order (order + call_count)) × (length those.now ≡ call_count)) }
+    ensures tried { AreWithin transitions.now call_count → IsTried transitions.now number → IsSome result }
+{
+    part_in(
+        &transitions.order,
+        &transitions.transitions,
+        number,
+        call_count,
+    )
+}
+
+/// The answer of each of the call_count calls that stays in the state with this number, as a set, if they were tried there. The set has no
+/// number if the call cannot take place, or leads to another state. Takes constant time.
+#[inline(always)]
+pub fn stays_in<S>(transitions: &Transitions<S>, number: usize, call_count: usize) -> Option<&[u64]>
+    ensures some { IfSome result (λ those. (order : ℕ) × (order_in transitions.now number ≡ order + 1)
+        × (those.now ≡ slice_range transitions.now.stays.items order (order + call_count)) × (length those.now ≡ call_count)) }
+    ensures tried { AreStays transitions.now call_count → AreWithin transitions.now call_count → IsTried transitions.now number → IsSome result }
+{
+    part_in(&transitions.order, &transitions.stays, number, call_count)
+}
+
+// The transition of the call in the state with this number: one step.
+fn try_call<M: SeqObject>(
+    table: &mut Table<M::State>,
+    outcomes: &mut Vec<(M::State, Found)>,
+    number: usize,
+    call: &PendingOp,
+    applied: &mut u64,
+) -> Result<Transition, AllocError>
+    requires single { HasOneOutcome M.apply_to }
+    ensures transition { IfOk result (λ transition. (s : M.State) × (slice_get table.new.states number ≡ Some s)
+        × IsTransition table.new call.now (M.apply_to call.now.op s) transition) }
+    ensures tries { OnlyTries table.old table.new applied.old applied.new }
+    ensures cost { applied.new ≤ applied.old + 1 }
+{
+    let Some(state) = table.states.get(number) else {
+        return Err(AllocError);
+    };
+    step::<M>(table.alloc, state, &call.op, outcomes, applied)?;
+    match outcomes.pop() {
+        Some((state, found)) => {
+            let to = number_of::<M>(&mut table.states, state)?;
+            let slot = slot_at(&mut table.founds, told_by(call.crashed, found))?;
+            Ok(Transition::To(to, singleton(slot)?))
+        }
+        None => Ok(Transition::Nowhere),
+    }
+}
+
+// The answer of the transition, if it stays in the state with this number, in which it is done; else no number.
+#[inline(always)]
+fn stay(transition: Transition, number: usize) -> u64
+    ensures { IsStay number result transition }
+{
+    match transition {
+        Transition::To(to, found) if to == number => found,
+        _ => 0,
+    }
+}
+
+// Notes the place of the first transition in the state with this number.
+#[inline(always)]
+fn note_order(order: &mut Vec<usize>, number: usize, first: usize) -> Result<(), AllocError>
+    requires few { first < 2 ^ 63 }
+    ensures { OnOk result (IsOrderWith order.old.items order.new.items number first) }
+{
+    if order.len() <= number {
+        order.resize(number.saturating_add(1), 0)?;
+    }
+    if number < order.len() {
+        order[number] = first + 1;
+    }
+    Ok(())
+}
+
+/// Tries each call in the state with this number, and remembers what it does. `AllocError` if there is no memory for it, or no
+/// such state. Takes one step for each call.
+#[inline(never)]
+pub fn try_each<M: SeqObject>(
+    table: &mut Table<M::State>,
+    transitions: &mut Transitions<M::State>,
+    number: usize,
+    calls: &[PendingOp],
+    applied: &mut u64,
+) -> Result<(), AllocError>
+    requires single { HasOneOutcome M.apply_to }
+    ensures sound { AreSound M.apply_to table.old calls.now transitions.old
+        → OnOk result (AreSound M.apply_to table.new calls.now transitions.new) }
+    ensures tried { OnOk result (AreTriedToo number transitions.old transitions.new) }
+    ensures steps { TriesAtMost (length calls.now) table.old table.new applied.old applied.new }
+{
+    let before = transitions.transitions.len();
+    for call in calls {
+        let transition = try_call::<M>(table, &mut transitions.outcomes, number, call, applied)?;
+        transitions.transitions.push(transition)?;
+        transitions.stays.push(stay(transition, number))?;
+    }
+    note_order(&mut transitions.order, number, before)
+}

@@ -1,0 +1,4 @@
+mod Bounded
+mod Outcomes
+mod Reading
+mod Starting

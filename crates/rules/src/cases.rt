@@ -1,0 +1,75 @@
+//! The cases of an operation.
+ghost use Rattle.std.specs.Prelude.{◌≡◌};
+ghost use Rattle.rules.specs.Meaning.{found_by, or_nil, case_outcome, first_outcome};
+
+use crate::arithmetic::truth_in;
+use crate::assignments::state_after;
+use crate::finding::Found;
+use crate::rule::{Answer, Case, Variable};
+use crate::rules::State;
+use crate::value::value_of;
+
+// The answer is this value, or nil as well.
+fn or_nil(value: Option<i64>) -> Found
+    ensures { result ≡ or_nil value }
+{
+    match value {
+        None => Found::Exactly(None),
+        Some(integer) => Found::OrNil(integer),
+    }
+}
+
+// The answer that is found, if its value exists.
+fn found_by(answer: &Answer, before: &[Option<i64>], given: &[i64]) -> Option<Found>
+    ensures { result ≡ found_by answer.now before.now given.now }
+{
+    match answer {
+        Answer::Any => Some(Found::Anything),
+        Answer::Exactly(term) => {
+            let value = value_of(term, before, given)?;
+            Some(Found::Exactly(value))
+        }
+        Answer::OrNil(term) => {
+            let value = value_of(term, before, given)?;
+            Some(or_nil(value))
+        }
+    }
+}
+
+// The outcome of the case, if it holds: the state after it and what it finds. A read sets nothing.
+fn case_outcome(
+    variables: &[Variable],
+    before: &State,
+    given: &[i64],
+    reads: bool,
+    case: &Case,
+) -> Option<(State, Found)>
+    ensures { result ≡ case_outcome variables.now before.now given.now reads case.now }
+{
+    let condition = value_of(&case.when, before, given)?;
+    if !truth_in(condition)? {
+        return None;
+    }
+    let assignments = if reads { &[] } else { case.set.as_slice() };
+    let after = state_after(variables, before, given, assignments)?;
+    let found = found_by(&case.answer, before, given)?;
+    Some((after, found))
+}
+
+/// The outcome of the first case that holds.
+pub fn first_outcome(
+    variables: &[Variable],
+    before: &State,
+    given: &[i64],
+    reads: bool,
+    cases: &[Case],
+) -> Option<(State, Found)>
+    ensures { result ≡ first_outcome variables.now before.now given.now reads cases.now }
+{
+    for case in cases {
+        if let Some(outcome) = case_outcome(variables, before, given, reads, case) {
+            return Some(outcome);
+        }
+    }
+    None
+}

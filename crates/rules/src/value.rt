@@ -1,0 +1,34 @@
+//! The value of a term.
+ghost use Rattle.std.specs.Prelude.{◌≡◌};
+ghost use Rattle.rules.specs.Meaning.{value_of};
+
+use crate::arithmetic::{combined, truth_in};
+use crate::term::Term;
+
+/// The value of the term, nil or an integer, in this state and with these integers given; none if it has no value. A variable or an integer
+/// that is not there has none. Takes no memory, and time in proportion to the words of the term.
+pub fn value_of(term: &Term, state: &[Option<i64>], given: &[i64]) -> Option<Option<i64>>
+    ensures { result ≡ value_of term.now state.now given.now }
+{
+    match term {
+        Term::Constant(value) => Some(*value),
+        Term::Variable(place) => state.get(*place as usize).copied(),
+        Term::Given(place) => match given.get(*place as usize) {
+            Some(integer) => Some(Some(*integer)),
+            None => None,
+        },
+        Term::Combined(operator, a, b) => {
+            let a = value_of(a, state, given)?;
+            let b = value_of(b, state, given)?;
+            combined(*operator, a, b)
+        }
+        Term::If(condition, a, b) => {
+            let condition = value_of(condition, state, given)?;
+            if truth_in(condition)? {
+                value_of(a, state, given)
+            } else {
+                value_of(b, state, given)
+            }
+        }
+    }
+}

@@ -1,0 +1,9 @@
+-- Promise: the program refuses a configuration that cannot be opened, before it reads or writes anything
+use Rattle.std.specs.Prelude.{◌≡◌}
+use Rattle.edn.specs.declared.refusal.Refusal.{Refusal}
+use Rattle.machine.specs.Machine.{Setup}
+use Rattle.harness.specs.Setups.{MayNotOpen}
+
+-- no object is opened so, and reader and writer are as they were
+abbrev pub IsUnopened : {R W : Type 0} → Setup → R → R → W → W → Refusal → Type 0
+IsUnopened setup reader reader' writer writer' e = MayNotOpen setup e × (reader' ≡ reader) × (writer' ≡ writer)

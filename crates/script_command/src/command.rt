@@ -1,0 +1,149 @@
+//! The command of a line.
+ghost use Rattle.std.specs.Prelude.{◌≡◌, ◌≢◌, Err};
+ghost use Rattle.edn.specs.View.{value_of, values_of};
+ghost use Rattle.script_command.specs.Command.{rewind_to, model_of, budget_of, key_in, kind_in, command_named, vector_command, ElementAsks, AskFor, Asks};
+
+use edn::{Edn, Refusal};
+use harness::Command;
+use kinds::ModelKind;
+use models::Key;
+use plain_events::plain_line;
+use std::alloc::Global;
+
+/// The command of a line.
+#[derive(Drop)]
+pub enum LineCommand {
+    /// The program says its version, its kinds and its limits.
+    Hello,
+    /// A command of the one-thread object.
+    Step(Command),
+}
+
+/// Reads a line as a command, or as nothing if it has no element. A map spells an event to append. `[:verdict]` asks for the verdict,
+/// and `[:hello]` for the program's version, kinds and limits. `[:rewind n]` keeps the first n events, `[:model k m]` makes key k an object
+/// of kind m, and `[:budget k n]` gives it the budget n.
+///
+/// An event that is spelled plainly costs one pass over the line, and memory for the members of a set alone. Any other line costs what
+/// [`read_all`](edn::read_all) and [`from_edn`](events::from_edn) cost.
+///
+/// # Errors
+///
+/// `Unreadable` if the line is not text; `BadValue` if it has two elements or more, or one that is not a command. `NoSuchIndex` for a
+/// rewind and `BadBudget` for a budget to a number that is not of 32 bits; and `NoMemory` if memory is refused.
+pub fn read_command(alloc: Global, line: &[u8]) -> Result<Option<LineCommand>, Refusal>
+    ensures { result ≢ Err Refusal.NoMemory → Asks line.now result }
+{
+    if let Some(event) = plain_line(alloc, line) {
+        return Ok(Some(LineCommand::Step(Command::Append(event))));
+    }
+    let elements = edn::read_all(alloc, line)?;
+    asked_by(alloc, elements.as_slice())
+}
+
+// The command in the elements of a line.
+fn asked_by(alloc: Global, elements: &[Edn]) -> Result<Option<LineCommand>, Refusal>
+    ensures { result ≢ Err Refusal.NoMemory → AskFor (values_of elements.now) result }
+{
+    match elements {
+        [] => Ok(None),
+        [element] => Ok(Some(command_of(alloc, element)?)),
+        [_first, _second, ..] => Err(Refusal::BadValue),
+    }
+}
+
+// The command that an element asks for.
+fn command_of(alloc: Global, element: &Edn) -> Result<LineCommand, Refusal>
+    ensures { result ≢ Err Refusal.NoMemory → ElementAsks (value_of element.now) result }
+{
+    match element.as_slice() {
+        Some(items) => vector_command(items),
+        None => Ok(LineCommand::Step(Command::Append(events::from_edn(alloc, element)?))),
+    }
+}
+
+// The command that a vector of these elements is.
+fn vector_command(items: &[Edn]) -> Result<LineCommand, Refusal>
+    ensures { result ≡ vector_command (values_of items.now) }
+{
+    match items {
+        [] => Err(Refusal::BadValue),
+        [Edn::Keyword(name), arguments @ ..] => command_named(name.as_str(), arguments),
+        [_, ..] => Err(Refusal::BadValue),
+    }
+}
+
+// The command of this name with these arguments.
+fn command_named(name: &str, arguments: &[Edn]) -> Result<LineCommand, Refusal>
+    ensures { result ≡ command_named name.now (values_of arguments.now) }
+{
+    match arguments {
+        [] => match name {
+            "verdict" => Ok(LineCommand::Step(Command::Verdict)),
+            "hello" => Ok(LineCommand::Hello),
+            _ => Err(Refusal::BadValue),
+        },
+        [n] => match name {
+            "rewind" => rewind_to(n),
+            _ => Err(Refusal::BadValue),
+        },
+        [key, value] => match name {
+            "model" => model_of(key_of(key), kind_of(value)),
+            "budget" => budget_of(key_of(key), value),
+            _ => Err(Refusal::BadValue),
+        },
+        [_, _, _, ..] => Err(Refusal::BadValue),
+    }
+}
+
+fn rewind_to(n: &Edn) -> Result<LineCommand, Refusal>
+    ensures { result ≡ rewind_to (value_of n.now) }
+{
+    match n {
+        Edn::Int(n) => match u32::try_from(*n) {
+            Ok(n) => Ok(LineCommand::Step(Command::Rewind(n))),
+            Err(_) => Err(Refusal::NoSuchIndex),
+        },
+        _ => Err(Refusal::BadValue),
+    }
+}
+
+fn model_of(key: Option<Key>, kind: Option<ModelKind>) -> Result<LineCommand, Refusal>
+    ensures { result ≡ model_of key kind }
+{
+    match (key, kind) {
+        (Some(key), Some(kind)) => Ok(LineCommand::Step(Command::SetModel(key, kind))),
+        _ => Err(Refusal::BadValue),
+    }
+}
+
+fn budget_of(key: Option<Key>, n: &Edn) -> Result<LineCommand, Refusal>
+    ensures { result ≡ budget_of key (value_of n.now) }
+{
+    match (key, n) {
+        (Some(key), Edn::Int(n)) => match u32::try_from(*n) {
+            Ok(n) => Ok(LineCommand::Step(Command::SetBudget(key, n))),
+            Err(_) => Err(Refusal::BadBudget),
+        },
+        _ => Err(Refusal::BadValue),
+    }
+}
+
+// The key that an element is.
+fn key_of(element: &Edn) -> Option<Key>
+    ensures { result ≡ key_in (value_of element.now) }
+{
+    match element {
+        Edn::Int(n) => u16::try_from(*n).ok(),
+        _ => None,
+    }
+}
+
+// The kind that an element names.
+fn kind_of(element: &Edn) -> Option<ModelKind>
+    ensures { result ≡ kind_in (value_of element.now) }
+{
+    match element {
+        Edn::Keyword(name) => ModelKind::of_name(name.as_str()),
+        _ => None,
+    }
+}

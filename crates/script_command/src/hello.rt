@@ -1,0 +1,56 @@
+//! The line by which the program says its version, its kinds and its limits.
+ghost use Rattle.std.specs.Prelude.{◌≡◌};
+ghost use Rattle.script_command.specs.Hello.{hello_line};
+
+use kinds::{ModelKind, each_kind};
+
+/// The program's version: `with_version!(callback; args)` is `callback!(args; "1.6.1")`.
+#[macro_export]
+macro_rules! with_version {
+    ($callback:ident; $($args:tt)*) => {
+        $callback! { $($args)*; "1.6.1" }
+    };
+}
+
+macro_rules! bare {
+    (; $version:literal) => {
+        $version
+    };
+}
+
+macro_rules! kinds {
+    (; $($K:ident $name:literal),*) => {
+        &[$(ModelKind::$K),*]
+    };
+}
+
+macro_rules! text_of_hello {
+    ($first:literal $($name:literal)*; $version:literal) => {
+        concat!(
+            "{:jepmon \"", $version, "\" :kinds [:", $first, $(" :", $name,)*
+            "] :max-clients 64 :max-keys 65536 :max-events 1048576 :max-budget 65536 :max-line 65536}\n"
+        )
+    };
+}
+
+macro_rules! hello_of_kinds {
+    (; $First:ident $first:literal, $($K:ident $name:literal),*) => {
+        with_version!(text_of_hello; $first $($name)*)
+    };
+}
+
+/// The program's version.
+pub const VERSION: &str = with_version!(bare;);
+
+/// The kinds, in the order of [`each_kind!`].
+pub const KINDS: &[ModelKind] = each_kind!(kinds;);
+
+const HELLO: &str = each_kind!(hello_of_kinds;);
+
+/// The line by which the program says its version, its kinds and its limits, with its line feed. It is an EDN map, and the same for every
+/// object and history. It costs nothing.
+pub fn hello_text() -> &'static str
+    ensures { result.now ≡ hello_line }
+{
+    HELLO
+}

@@ -1,0 +1,265 @@
+//! The monitor, driven by lines.
+ghost use Rattle.std.specs.Prelude.{◌≡◌, ◌≢◌, ◌⊎◌, ℕ, List, [], Result, Option, IfOk, OnOk, IfErr, IsErrAnd, Ok, Err, Some, None, false, true};
+ghost use Rattle.harness.specs.Setups.{setup_of, IsSetup, MayNotOpen};
+ghost use Rattle.line_loop.specs.RefusalLine.{refusal_line};
+ghost use Rattle.line_loop.specs.Live.{IsLive};
+ghost use Rattle.line_loop.specs.Stopping.{MayStop, Finishes, Stops, KeepsUp};
+ghost use Rattle.edn.specs.declared.refusal.Refusal.{Refusal as RefusalValue};
+ghost use Rattle.script_command.specs.declared.command.LineCommand.{LineCommand as LineCommandValue};
+ghost use Rattle.script_command.specs.Command.{Asks};
+ghost use Rattle.script_command.specs.Reply.{CarriesOut, AnswersTo, MayReply, Shows, Script, script};
+ghost use Rattle.script_command.specs.Unopened.{IsUnopened};
+
+use crate::command::{LineCommand, read_command};
+use crate::hello::hello_text;
+use edn::Refusal;
+use harness::{Command, Config, Core, Reply};
+use line_loop::{Failed, Flushes, LineMachine, ReadsWithWriter, answer_lines, append_refusal};
+use linspec::Verdict;
+use observers::Observer;
+use report::append_verdict;
+use std::alloc::{AllocError, Global};
+use std::io::Write;
+use std::marker::Model;
+use std::sync::Wait;
+
+// A one-thread object whose commands are lines, and who looks on.
+#[derive(Drop)]
+struct ScriptMachine<'a, L> {
+    alloc: Global,
+    core: Core,
+    is_strict: bool,
+    is_closed: bool,
+    observer: &'a L,
+}
+
+impl<'a, L> Model for ScriptMachine<'a, L> {
+    ghost use Rattle.std.specs.Coded.{codes};
+    ghost use Rattle.generators.specs.Codes.{generator_code};
+    ghost use Rattle.script_command.specs.Reply.{Script};
+
+    ghost Value = { Script };
+
+    ghost coded = { Prim.hlevel (codes, generator_code) };
+
+    ghost view = { λ machine. record {
+      machine = machine.core.machine;
+      is_strict = machine.is_strict;
+      is_closed = machine.is_closed;
+    } };
+}
+
+impl<'a, L: Observer> LineMachine for ScriptMachine<'a, L> {
+    type State = ScriptMachine<'a, L>;
+
+    type Verdict = Option<Verdict>;
+
+    ghost state = { λ machine. machine };
+
+    ghost may_reply = { MayReply };
+
+    ghost is_closed = { λ script. script.is_closed };
+
+    ghost shows = { Shows };
+
+    fn answer(&mut self, line: &[u8], reply: &mut Vec<u8>) -> Result<(), AllocError> {
+        if self.is_closed {
+            return Ok(());
+        }
+        self.observer.line();
+        let is_refused = answer_line(self.alloc, &mut self.core, line, reply, self.observer)?;
+        self.is_closed = self.is_strict && is_refused;
+        Ok(())
+    }
+
+    fn answer_too_long(&mut self, reply: &mut Vec<u8>) -> Result<(), AllocError> {
+        if self.is_closed {
+            return Ok(());
+        }
+        self.observer.line();
+        reply_refusal(self.alloc, Refusal::TooLong, reply, self.observer)?;
+        self.is_closed = self.is_strict;
+        Ok(())
+    }
+
+    fn closed(&self) -> bool {
+        self.is_closed
+    }
+
+    fn verdict(&self) -> Option<Verdict> {
+        if self.is_closed {
+            self.observer.closed();
+            return None;
+        }
+        let verdict = self.core.verdict();
+        self.observer.judged(self.core.monitor(), &verdict);
+        Some(verdict)
+    }
+}
+
+// Puts the reply to a line into an empty vector, and says whether it is a refusal.
+fn answer_line<L: Observer>(
+    alloc: Global,
+    core: &mut Core,
+    line: &[u8],
+    reply: &mut Vec<u8>,
+    observer: &L,
+) -> Result<bool, AllocError>
+    requires { reply.old.items ≡ [] }
+    ensures { IfOk result (λ is_refused. (asked : Result (Option LineCommandValue) RefusalValue)
+        × Asks line.now asked
+        × AnswersTo core.old.machine asked reply.new.items is_refused core.new.machine) }
+{
+    match read_command(alloc, line) {
+        Ok(None) => Ok(false),
+        Ok(Some(LineCommand::Hello)) => {
+            reply.extend_from_slice(hello_text().as_bytes())?;
+            Ok(false)
+        }
+        Ok(Some(LineCommand::Step(command))) => {
+            tell_event(observer, &command);
+            carry_out(alloc, core, command, reply, observer)
+        }
+        Err(refusal) => {
+            reply_refusal(alloc, refusal, reply, observer)?;
+            Ok(true)
+        }
+    }
+}
+
+// Tells of an event that is to be appended.
+fn tell_event<L: Observer>(observer: &L, command: &Command) {
+    if let Command::Append(_) = command {
+        observer.event();
+    }
+}
+
+// Carries out the command of a line, puts the line of its result into an empty vector, and says whether it was refused.
+fn carry_out<L: Observer>(
+    alloc: Global,
+    core: &mut Core,
+    command: Command,
+    reply: &mut Vec<u8>,
+    observer: &L,
+) -> Result<bool, AllocError>
+    requires empty { reply.old.items ≡ [] }
+    requires asked { (line : List ℕ) × Asks line (Ok (Some (LineCommand.Step command))) }
+    ensures { IfOk result (λ is_refused.
+        CarriesOut core.old.machine command reply.new.items is_refused core.new.machine) }
+{
+    match core.step(command) {
+        Ok(said) => {
+            append_verdict(alloc, reply, &verdict_of(said))?;
+            Ok(false)
+        }
+        Err(refusal) => {
+            reply_refusal(alloc, refusal, reply, observer)?;
+            Ok(true)
+        }
+    }
+}
+
+// The verdict that the object says.
+fn verdict_of(said: Reply) -> Verdict
+    requires { (verdict : Verdict) × (said ≡ Reply.Verdict verdict) }
+    ensures { said ≡ Reply.Verdict result }
+{
+    match said {
+        Reply::Verdict(verdict) => verdict,
+        Reply::Drawn { .. } => unreachable!(),
+        Reply::Pending => unreachable!(),
+        Reply::Done => unreachable!(),
+        Reply::Served(_) => unreachable!(),
+        Reply::Fault { .. } => unreachable!(),
+    }
+}
+
+// Puts the line of a refusal into an empty vector. Want of memory has no line.
+fn reply_refusal<L: Observer>(
+    alloc: Global,
+    refusal: Refusal,
+    reply: &mut Vec<u8>,
+    observer: &L,
+) -> Result<(), AllocError>
+    requires { reply.old.items ≡ [] }
+    ensures line { OnOk result (reply.new.items ≡ refusal_line refusal) }
+    ensures memory { OnOk result (refusal ≢ Refusal.NoMemory) }
+{
+    match refusal {
+        Refusal::NoMemory => Err(AllocError),
+        refusal => {
+            observer.refused(&refusal);
+            append_refusal(alloc, reply, &refusal)
+        }
+    }
+}
+
+/// Reads commands from a reader, one in each line, and writes and flushes the reply to each before it reads further. At the reader's end it
+/// returns the verdict on the history. A strict script is closed at the first line that is refused: it writes and flushes that line's
+/// reply, reads no further, and returns no verdict.
+///
+/// A line has at most 65,536 bytes without its line feed; a longer one is answered by `refused 22 TooLong`. A line without an element gets
+/// no reply. Costs the time of the commands, and the memory of the monitor and of two lines. It waits for the reader and the writer. The
+/// observer gets each line.
+///
+/// # Errors
+///
+/// The refusals of [`Core::new`], before anything is read. Else `ReadFailed` if the reader failed, `WriteFailed` if the writer failed or
+/// took none of some bytes, and `NoMemory` if neither did: the writer has then taken a prefix of the replies.
+pub fn run_script<X: Wait, R: ReadsWithWriter<W>, W: Write + Failed + Flushes, L: Observer>(
+    rt: &X,
+    alloc: Global,
+    config: Config,
+    is_strict: bool,
+    reader: &mut R,
+    writer: &mut W,
+    observer: &L,
+) -> Result<Option<Verdict>, Refusal>
+    requires reads { R.has_failed reader.old ≡ false }
+    requires writes { W.has_failed writer.old ≡ false }
+    // A configuration out of its limits is refused before anything is read or written.
+    ensures limits { IsSetup (setup_of config)
+        ⊎ IsErrAnd result
+        (IsUnopened (setup_of config) reader.old reader.new writer.old writer.new) }
+    // The outcome is that of the end. The reader has not failed, all that it had is consumed, and the writer grew by a reply text of it. Or
+    // the script is closed, and all lines that were read to their line feed had their replies.
+    ensures done { IfOk result (λ outcome. (end : Script) × Shows end outcome
+        × ((Finishes MayReply (script (setup_of config) is_strict) end
+        (R.remaining reader.old) (R.remaining reader.new)
+        (W.contents writer.old) (W.contents writer.new)
+        × (R.has_failed reader.new ≡ false))
+        ⊎ ((end.is_closed ≡ true) × KeepsUp MayReply (script (setup_of config) is_strict) end
+        (R.remaining reader.old) (R.remaining reader.new)
+        (W.contents writer.old) (W.contents writer.new)))) }
+    // At each read the writer held the replies to all lines that were read before, they were flushed, and the script was open.
+    ensures live { IsLive MayReply (λ now. now.is_closed) (script (setup_of config) is_strict)
+        (W.contents writer.old) (R.remaining reader.old) (R.remaining reader.new)
+        (R.log reader.old) (R.log reader.new) }
+    ensures flushed { OnOk result (W.is_flushed writer.new ≡ true) }
+    // Nothing was read or written; or the writer grew by a beginning of a reply text of the lines read to their end.
+    ensures stopped { IfErr result (λ e.
+        IsUnopened (setup_of config) reader.old reader.new writer.old writer.new e
+        ⊎ Stops MayReply (script (setup_of config) is_strict)
+        (R.remaining reader.old) (R.remaining reader.new)
+        (W.contents writer.old) (W.contents writer.new) e) }
+    // Where the reader failed, all lines that were read to their line feed had their replies.
+    ensures kept_up { result ≡ Err Refusal.ReadFailed → (here : Script)
+        × KeepsUp MayReply (script (setup_of config) is_strict) here
+        (R.remaining reader.old) (R.remaining reader.new)
+        (W.contents writer.old) (W.contents writer.new) }
+    ensures kinds { IfErr result (λ e. MayNotOpen (setup_of config) e ⊎ MayStop e) }
+    ensures read { result ≡ Err Refusal.ReadFailed → R.has_failed reader.new ≡ true }
+    ensures reads_well { result ≢ Err Refusal.ReadFailed → R.has_failed reader.new ≡ false }
+    ensures wrote { result ≡ Err Refusal.WriteFailed → W.has_failed writer.new ≡ true }
+    ensures writes_well { result ≢ Err Refusal.WriteFailed → W.has_failed writer.new ≡ false }
+{
+    let core = Core::new(alloc, config)?;
+    let machine = ScriptMachine {
+        alloc,
+        core,
+        is_strict,
+        is_closed: false,
+        observer,
+    };
+    answer_lines(rt, alloc, machine, reader, writer)
+}

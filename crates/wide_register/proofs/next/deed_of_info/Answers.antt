@@ -1,5 +1,0 @@
-use Rattle.std.proofs.Common.{inl, inr, refl}
-use Rattle.wide_register.proofs.next.deed_of_info.Goals as goal
-
-pub returns-in-None : goal.returns-in-None
-returns-in-None c = inr (inl (c.in-None.ensures.none refl), refl)
