@@ -26,13 +26,13 @@ pub enum Remark {
     },
 }
 
-macro_rules! kinds {
+macro_rules! kinds_listed {
     (; $($K:ident $name:literal),*) => {
         [$(ModelKind::$K),*]
     };
 }
 
-const KINDS: [ModelKind; 11] = each_kind!(kinds;);
+const KINDS: [ModelKind; 11] = each_kind!(kinds_listed;);
 
 // Whether objects of this kind have operations of this name.
 fn has_operation(kind: ModelKind, name: Name) -> bool {

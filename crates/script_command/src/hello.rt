@@ -18,7 +18,7 @@ macro_rules! bare {
     };
 }
 
-macro_rules! kinds {
+macro_rules! kinds_listed {
     (; $($K:ident $name:literal),*) => {
         &[$(ModelKind::$K),*]
     };
@@ -43,7 +43,7 @@ macro_rules! hello_of_kinds {
 pub const VERSION: &str = with_version!(bare;);
 
 /// The kinds, in the order of [`each_kind!`].
-pub const KINDS: &[ModelKind] = each_kind!(kinds;);
+pub const KINDS: &[ModelKind] = each_kind!(kinds_listed;);
 
 const HELLO: &str = each_kind!(hello_of_kinds;);
 
