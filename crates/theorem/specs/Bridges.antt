@@ -41,8 +41,8 @@ abbrev pub SaysOf : Findings → Verdict → List ℕ → Type 0
 SaysOf (Judged said report) verdict text = (said ≡ verdict) × (report.items ≡ text)
 SaysOf found verdict text = ⊥
 
--- the text of a check is a report, and the status that of its verdict; or it is the line of the first element that is refused, behind events
--- that are well-formed, with 3; or the line of a refusal of the whole, with 3
+-- the text of a check is a report, with the status of its verdict. Or it is the line of the first element that is refused, with 3: the events
+-- before it are well-formed. Or it is the line of a refusal of the whole, with 3
 abbrev pub SaysOfCheck : Setup → List ℕ → List ℕ → ℕ → Type 0
 SaysOfCheck setup bytes text status =
     ((verdict : Verdict) × IsJudgedSo setup.concurrency setup.kind setup.budget bytes verdict text × (status ≡ status_of verdict))
