@@ -1,5 +1,5 @@
 -- what a parse finds of a flag: `true`, `false` or nothing, whatever the words are
-use Rattle.std.proofs.Common.{◌≡◌, ◌∙◌, ℕ, ◌+◌, ◌==◌, Bool, cond, true, false, zero, suc, min, length, drop, List, [], ◌∷◌, ◌++◌, Option, Some, None, IfSome, nat_lt, find, fold, option_map, option_and_then, slice_get, encode_utf8, chars, refl, sym, ap, subst, inl, inr, ◌⊎◌}
+use Rattle.std.proofs.Common.{◌≡◌, ◌∙◌, ℕ, ◌+◌, ◌==◌, ◌&&◌, Bool, cond, true, false, zero, suc, min, length, drop, List, [], ◌∷◌, ◌++◌, Option, Some, None, IfSome, nat_lt, find, fold, option_map, option_and_then, slice_get, encode_utf8, chars, refl, sym, ap, subst, inl, inr, ◌⊎◌}
 use Rattle.std.specs.Option.{option_map_or}
 use Rattle.std.specs.Str.{bytes_eq}
 use Rattle.std.proofs.lemmas.Bool.{false≢true}
@@ -7,7 +7,7 @@ use Rattle.std.proofs.lemmas.Slice.Eq.{bytes_eq-Decides}
 use Rattle.clap.specs.Lexer.{short_of, long_of}
 use Rattle.clap.specs.Matches.{count_text}
 use Rattle.clap.specs.Values.{read_as}
-use Rattle.clap.specs.Walk.{Text, Rule, Row, Held, Names, Outcome, done, waits, plain, refused, Waiting, idle, option, positional, Step, next, trailing, subcommand, value, Walk, action_of, reading_by, takes_values, takes_several, is_multiple, is_pending, most_values, pending_count, arg_by_id, arg_by_long, arg_by_short, arg_by_index, at_row, without, more_values, with_values, new_count, with_count, count_of, row_text, one_of, values_or_missing, used_as, used, used_by_id, settled_rows, settled, reacted, option_met, flag_met, long_met, attached_value, short_met, bundle_step, bundle_met, bundle, pushed, started, option_word, plain_word, after_flag, long_word, short_word, short_or_plain, long_or_other, subcommand_met, subcommand_or_other, word_met, to_positional, after_step, walked_from, walked, walk, walk_from, nothing_held, has_row, default_rows, with_default, finished, rows_after}
+use Rattle.clap.specs.Walk.{Text, Rule, Row, Held, Names, Outcome, done, waits, plain, refused, Waiting, idle, option, positional, Step, next, trailing, subcommand, value, Walk, action_of, reading_by, takes_values, takes_several, is_multiple, is_pending, most_values, pending_count, arg_by_id, arg_by_long, arg_by_short, arg_by_index, at_row, without, more_values, with_values, new_count, with_count, count_of, row_text, one_of, values_or_missing, used_as, used, used_by_id, settled_rows, settled, reacted, option_met, flag_met, long_met, attached_value, short_met, bundle_step, bundle_met, bundle, pushed, started, option_word, plain_word, after_flag, long_word, short_or_plain, long_or_other, subcommand_met, subcommand_or_other, word_met, to_positional, after_step, walked_from, walked, walk, walk_from, nothing_held, has_row, default_rows, with_default, rows_after}
 use Rattle.clap.specs.declared.builder.action.ArgAction.{ArgAction}
 use Rattle.clap.specs.declared.builder.action.ArgAction.TheVariants.{Set, Append, SetTrue, SetFalse, Count}
 use Rattle.clap.specs.declared.builder.value_parser.Reading.{Reading}
@@ -45,11 +45,11 @@ module _ (flag : Text) (IsTold : Text → Type 0) where
 
   at_row_right : (id : Text) (change : Row → List Row) (missing rows : List Row) → ((r : Row) → IsRight r → AreRight (change r)) → AreRight missing → AreRight rows → AreRight (at_row id change missing rows)
   at_row_right id change missing [] keeps new old = new
-  at_row_right id change missing (r ∷ rows) keeps new old = go (bytes_eq r.id id)
+  at_row_right id change missing (r ∷ rows) keeps new old = go (bytes_eq r.id id) (at_row_right id change missing rows keeps new old.1)
     where
-      go : (b : Bool) → AreRight (cond b (change r ++ rows) (r ∷ at_row id change missing rows))
-      go true = joined (change r) rows (keeps r old.0) old.1
-      go false = (old.0, at_row_right id change missing rows keeps new old.1)
+      go : (b : Bool) → AreRight (at_row id change missing rows) → AreRight (cond b (change r ++ rows) (r ∷ at_row id change missing rows))
+      go true later = joined (change r) rows (keeps r old.0) old.1
+      go false later = (old.0, later)
 
   pub without_right : (id : Text) (rows : List Row) → AreRight rows → AreRight (without id rows)
   without_right id rows old = at_row_right id (λ r. []) [] rows (λ r is. tt) tt old
@@ -96,11 +96,11 @@ module _ (flag : Text) (IsTold : Text → Type 0) where
 
   found : (p : Rule → Bool) (rules : List Rule) → AreKnown rules → IfSome (find p rules) (λ a. IsKnown a × (p a ≡ true))
   found p [] known = tt
-  found p (a ∷ rules) known = go (p a) refl
+  found p (a ∷ rules) known = go (p a) refl (found p rules known.1)
     where
-      go : (b : Bool) → p a ≡ b → IfSome (cond b (Some a) (find p rules)) (λ x. IsKnown x × (p x ≡ true))
-      go true passes = (known.0, passes)
-      go false fails = found p rules known.1
+      go : (b : Bool) → p a ≡ b → IfSome (find p rules) (λ x. IsKnown x × (p x ≡ true)) → IfSome (cond b (Some a) (find p rules)) (λ x. IsKnown x × (p x ≡ true))
+      go true passes later = (known.0, passes)
+      go false fails later = later
 
   known_of : (o : Option Rule) (P : Rule → Type 0) → IfSome o (λ a. IsKnown a × P a) → IfSome o IsKnown
   known_of None P is = tt
@@ -259,7 +259,7 @@ module _ (flag : Text) (IsTold : Text → Type 0) where
     to_positional_is : (o : Option Rule) (i : ℕ) (word : Text) (w : Walk) (h : Held) → IfSome o (λ a. IsKnown a × (option_map_or (λ k. k == i) a.index false ≡ true)) → IsWaiting w.waiting → IsHeld h → IsWalk (to_positional c o word w h)
     to_positional_is None i word w h one waiting is = (is, waiting)
     to_positional_is (Some a) i word w h one waiting is =
-        (pushed_is a.id word _ (index_other a i one.0 one.1) (held (is_pending a h.pending && takes_several a)), after (is_multiple a))
+        (pushed_is a.id word (cond (is_pending a h.pending && takes_several a) h (settled c h)) (index_other a i one.0 one.1) (held (is_pending a h.pending && takes_several a)), after (is_multiple a))
       where
         held : (b : Bool) → IsHeld (cond b h (settled c h))
         held true = is
@@ -319,15 +319,15 @@ module _ (flag : Text) (IsTold : Text → Type 0) where
 
   told : (rows : List Row) → AreRight rows → IfSome (one_of flag rows) IsTold
   told [] right = tt
-  told (r ∷ rows) right = go (bytes_eq r.id flag) refl
+  told (r ∷ rows) right = go (bytes_eq r.id flag) refl (told rows right.1)
     where
       text : (o : Option Text) → Tells o → IfSome o IsTold
       text None tells = absurd tells
       text (Some t) tells = tells
 
-      go : (b : Bool) → bytes_eq r.id flag ≡ b → IfSome (option_and_then row_text (cond b (Some r) (find (λ x. bytes_eq x.id flag) rows))) IsTold
-      go true same = text (row_text r) (right.0 same)
-      go false other = told rows right.1
+      go : (b : Bool) → bytes_eq r.id flag ≡ b → IfSome (one_of flag rows) IsTold → IfSome (option_and_then row_text (cond b (Some r) (find (λ x. bytes_eq x.id flag) rows))) IsTold
+      go true same later = text (row_text r) (right.0 same)
+      go false other later = later
 
   pub text_after : (c : List Rule) → AreKnown c → (names : Names) (words : List Text) → IfSome (one_of flag (rows_after c names words)) IsTold
   text_after c known names words = told (rows_after c names words) (rows_right c known names words)

@@ -2,9 +2,8 @@
 use Rattle.std.proofs.Common.{◌≡◌, ◌∙◌, Bool, cond, true, false, List, [], ◌∷◌, Option, Some, None, IfSome, find, option_map, codes, refl, sym, ap, subst, inl, inr, ◌⊎◌}
 use Rattle.std.specs.Prelude.{unwrap_or}
 use Rattle.clap.specs.Matches.{one_text}
-use Rattle.clap.specs.Walk.{Text, Row, rows_of, rows_after, one_of, without}
-use Rattle.clap.specs.Simple.{App, Shape, answers_to, built, entered, label_of, names_of, argument_words, rows_at, subcommand_of}
-use Rattle.clap.specs.Walk.{stop_after}
+use Rattle.clap.specs.Walk.{Text, Row, answers_to, one_of, rows_after, rows_of, stop_after, without}
+use Rattle.clap.specs.Simple.{App, Shape, built, entered, label_of, names_of, argument_words, rows_at, subcommand_of}
 use Rattle.clap.specs.declared.builder.value_parser.Reading.TheVariants.{AsWritten}
 use Rattle.clap.specs.declared.parser.matches.Found.{Found}
 use Rattle.clap.specs.declared.parser.matches.ValueSource.TheVariants.{DefaultValue, CommandLine}
@@ -33,26 +32,18 @@ commands = (
       λ rows old. values_right strict IsTold strict AsWritten CommandLine (codes "true" ∷ []) (without strict rows) (λ same. inl refl) (without_right strict IsTold strict rows old),
       λ rows old. values_right strict IsTold strict AsWritten DefaultValue (codes "false" ∷ []) rows (λ same. inr refl) old,
     ),
-    inl refl,
-    inl refl,
-    inl refl,
-    inl refl,
-    tt,
+    (inl refl, (inl refl, (inl refl, (inl refl, tt)))),
   ),
-  (inl refl, inl refl, inl refl, inl refl, inl refl, inl refl, tt),
-  (inl refl, inl refl, inl refl, inl refl, inl refl, tt),
-  (inl refl, inl refl, inl refl, inl refl, inl refl, inl refl, inl refl, inl refl, inl refl, inl refl, tt),
-  (inl refl, tt),
-  tt,
+  ((inl refl, (inl refl, (inl refl, (inl refl, (inl refl, (inl refl, tt)))))), ((inl refl, (inl refl, (inl refl, (inl refl, (inl refl, tt))))), ((inl refl, (inl refl, (inl refl, (inl refl, (inl refl, (inl refl, (inl refl, (inl refl, (inl refl, (inl refl, tt)))))))))), ((inl refl, tt), tt)))),
 )
 
 one_known : (p : Shape → Bool) (subs : List Shape) → AreCommands subs → IfSome (find p subs) (λ s. AreKnown strict IsTold s.rules)
 one_known p [] known = tt
-one_known p (s ∷ subs) known = go (p s)
+one_known p (s ∷ subs) known = go (p s) (one_known p subs known.1)
   where
-    go : (b : Bool) → IfSome (cond b (Some s) (find p subs)) (λ x. AreKnown strict IsTold x.rules)
-    go true = known.0
-    go false = one_known p subs known.1
+    go : (b : Bool) → IfSome (find p subs) (λ x. AreKnown strict IsTold x.rules) → IfSome (cond b (Some s) (find p subs)) (λ x. AreKnown strict IsTold x.rules)
+    go true later = known.0
+    go false later = later
 
 rows_told : (o : Option Shape) (words : List Text) (name : Text) (rows : List Row) → IfSome o (λ s. AreKnown strict IsTold s.rules) → option_map (λ s. rows_at s words) o ≡ Some (name, rows) → IfSome (one_of strict rows) IsTold
 rows_told None words name rows known e = cc
@@ -70,8 +61,8 @@ one : (o : Option Text) (flag other : Bool) → IfSome o IsTold
     → (o ≡ None → other ≡ false) × (o ≡ Some (codes "true") → other ≡ true) × (o ≡ Some (codes "false") → other ≡ false)
     → flag ≡ other
 one None flag other told is also = is.0 refl ∙ sym (also.0 refl)
-one (Some text) flag other (inl yes) is also = is.1 (ap Some yes) ∙ sym (also.1 (ap Some yes))
-one (Some text) flag other (inr no) is also = is.2 (ap Some no) ∙ sym (also.2 (ap Some no))
+one (Some text) flag other (inl told_yes) is also = is.1 (ap Some told_yes) ∙ sym (also.1 (ap Some told_yes))
+one (Some text) flag other (inr told_no) is also = is.2 (ap Some told_no) ∙ sym (also.2 (ap Some told_no))
 
 pub decided : (words : List Text) (name : Text) (found also : Found) (flag other : Bool) → subcommand_of program_app words ≡ Some (name, rows_of found) → rows_of also ≡ rows_of found
     → IsFlagFound found strict flag → IsFlagFound also strict other → flag ≡ other
