@@ -1,6 +1,5 @@
 -- the text and the exit status of a check
 use Rattle.std.proofs.Common.{◌≡◌, ℕ, List, [], None, refl, sym, subst, inl, inr, arith}
-use Rattle.edn.specs.declared.refusal.Refusal.{Refusal}
 use Rattle.events.specs.declared.event.Event.{Event}
 use Rattle.linspec.specs.JudgedHistory.{JudgedHistory}
 use Rattle.linspec.specs.declared.verdict.Verdict.{Verdict}
