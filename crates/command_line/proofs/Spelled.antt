@@ -1,6 +1,5 @@
 -- the settings that the shown defaults spell
 use Rattle.std.proofs.Common.{◌≡◌, Some, Ok, codes, refl}
-use Rattle.clap.specs.Words.{App}
 use Rattle.run_plans.specs.declared.options.JudgingTexts.{JudgingTexts}
 use Rattle.run_plans.specs.declared.options.RunTexts.{RunTexts}
 use Rattle.run_plans.specs.Options.{count_spelled, default_run, default_setup, judging_spelled, kind_spelled, run_spelled}

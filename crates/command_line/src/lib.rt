@@ -10,5 +10,5 @@ mod order;
 
 pub use exit_status::{say_unwritten, status_after, status_of_stop};
 pub use help::TYPED;
-pub use laws::help_shows_the_defaults;
+pub use laws::{help_shows_the_defaults, words_decide_strict};
 pub use order::{Order, Stop, no_text, order_by, order_given, order_of, stop_at};

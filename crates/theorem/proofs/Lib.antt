@@ -2,7 +2,9 @@ pub mod Verdicts
 pub mod Commands
 pub mod Lines
 pub mod Scripts
+pub mod Sessions
 pub mod Listed
+pub mod Statuses
 pub mod Tapes
 pub mod Shown
 pub mod Runs

@@ -1,5 +1,5 @@
 -- the findings about a recorded history, by its history alone
-use Rattle.std.proofs.Common.{◌≡◌, ℕ, List, [], ◌∷◌, ◌++◌, Some, Ok, refl, sym, ap, subst, ⊎_elim, inl, inr}
+use Rattle.std.proofs.Common.{◌≡◌, ℕ, List, [], ◌∷◌, ◌++◌, Option, Some, None, Ok, refl, sym, ap, subst, ⊎_elim, inl, inr}
 use Rattle.edn.specs.Value.{Value, Values, none, more}
 use Rattle.edn.specs.declared.refusal.Refusal.{Refusal}
 use Rattle.events.specs.declared.event.Event.{Event}
@@ -19,7 +19,7 @@ use Rattle.check_command.specs.declared.recorded.Findings.TheVariants.{Judged, R
 use Rattle.check_command.proofs.Recording.{machine_with}
 use Rattle.theorem.specs.Histories.{IsJudgedSo, recorded}
 use Rattle.theorem.specs.Bridges.{SaysOf}
-use Rattle.theorem.proofs.Verdicts.{right}
+use Rattle.theorem.proofs.Verdicts.{right, last_line}
 
 one_more : (m new : Machine) (e : Event) (reply : Reply) → MayStep m (Append e) (Ok reply) new → Takes m e × (new ≡ appended e m)
 one_more m new e (Says v) may = (may.0, may.1)
@@ -46,6 +46,10 @@ is_history c old none new h same = subst (IsHistoryOf c) (sym same) h
 is_history c old (more v vs) new h all =
     is_history c all.0 vs new (subst (IsHistoryOf c) (sym all.1.3) (history-push c old all.1.0 h all.1.2)) all.2
 
+pub well_formed : (setup : Setup) (bytes : List ℕ) (events : List Event) (first : Option (ℕ × Refusal)) → IsRead bytes setup.concurrency [] events first → IsHistoryOf setup.concurrency events
+well_formed setup bytes events None read = is_history setup.concurrency [] read.0 events (no_history setup.concurrency) read.2
+well_formed setup bytes events (Some first) read = is_history setup.concurrency [] read.pushed events (no_history setup.concurrency) read.pushes
+
 pub judged : (setup : Setup) (bytes : List ℕ) (found : Findings) (verdict : Verdict) (text : List ℕ) → ComesTo setup bytes found → SaysOf found verdict text → IsJudgedSo setup.concurrency setup.kind setup.budget bytes verdict text
 judged setup bytes (Judged v report) verdict text comes says =
     let end : Machine = comes.1.0 in
@@ -53,11 +57,13 @@ judged setup bytes (Judged v report) verdict text comes says =
     let (events, pushes, at) = taken setup [] all.values end all.takes in
     let is : end.judged ≡ recorded setup.concurrency setup.kind setup.budget events = ap (λ m. m.judged) at in
     let h : IsHistoryOf setup.concurrency events = is_history setup.concurrency [] all.values events (no_history setup.concurrency) pushes in
-    let on : IsVerdictOn (recorded setup.concurrency setup.kind setup.budget events) verdict = subst (λ w. IsVerdictOn (recorded setup.concurrency setup.kind setup.budget events) w) says.0 (subst (λ j. IsVerdictOn j v) is comes.1.2.0) in (
+    let on : IsVerdictOn (recorded setup.concurrency setup.kind setup.budget events) verdict = subst (λ w. IsVerdictOn (recorded setup.concurrency setup.kind setup.budget events) w) says.0 (subst (λ j. IsVerdictOn j v) is comes.1.2.0) in
+    let reported : IsReport (recorded setup.concurrency setup.kind setup.budget events) text = subst (λ t. IsReport (recorded setup.concurrency setup.kind setup.budget events) t) says.1 (subst (λ j. IsReport j report.items) is comes.1.2.1) in (
       events,
       (all.values, all.text, pushes),
       right (recorded setup.concurrency setup.kind setup.budget events) h verdict on,
-      subst (λ t. IsReport (recorded setup.concurrency setup.kind setup.budget events) t) says.1 (subst (λ j. IsReport j report.items) is comes.1.2.1),
+      reported,
+      last_line (recorded setup.concurrency setup.kind setup.budget events) text verdict reported on,
     )
 judged setup bytes (RefusedEvent i why) verdict text comes says = absurd says
 judged setup bytes (Refused why) verdict text comes says = absurd says

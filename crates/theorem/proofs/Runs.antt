@@ -9,7 +9,7 @@ use Rattle.generators.specs.declared.item.Drawn.TheVariants.{Op as Gets, Pending
 use Rattle.linspec.specs.Orders.{IsLinearizable, product}
 use Rattle.linspec.specs.JudgedHistory.{JudgedHistory, IsVerdictOn, kind_of, entries_in}
 use Rattle.linspec.specs.declared.verdict.Verdict.{Verdict}
-use Rattle.linspec.specs.declared.verdict.Verdict.TheVariants.{Legal, Illegal, Unknown}
+use Rattle.linspec.specs.declared.verdict.Verdict.TheVariants.{Legal}
 use Rattle.test_store.specs.declared.outcome.Mode.TheVariants.{Strict}
 use Rattle.test_store.specs.Store.{IsCount}
 use Rattle.machine.specs.Trials.{completion}
@@ -35,7 +35,7 @@ use Rattle.run_command.specs.RunText.{IsRunText, MaySay}
 use Rattle.theorem.specs.Theorem.{Means}
 use Rattle.theorem.specs.Histories.{recorded}
 use Rattle.theorem.specs.Bridges.{IsReportOf, SaysOfRun}
-use Rattle.theorem.proofs.Verdicts.{right}
+use Rattle.theorem.proofs.Verdicts.{right, last_line, legal_is, illegal_is}
 use Rattle.theorem.proofs.Lines.{HasHistory}
 
 -- The calls of a run
@@ -141,14 +141,17 @@ report_of quiet setup m text status may run is =
     let (settings, history) = run_history setup m run in
     let h : JudgedHistory = recorded setup.concurrency setup.kind setup.budget m.judged.events in
     let well : HasHistory (record m { judged = h }) = subst (λ (j : JudgedHistory). HasHistory (record m { judged = j })) settings history in
+    let on : IsVerdictOn h is.verdict = subst (λ (j : JudgedHistory). IsVerdictOn j is.verdict) settings is.judged in
+    let report : IsReport h text = subst (λ (j : JudgedHistory). IsReport j text) settings is.report in
     record {
       run = run;
       settings = settings;
       reported = record {
         well_formed = well;
         verdict = is.verdict;
-        right = right h well is.verdict (subst (λ (j : JudgedHistory). IsVerdictOn j is.verdict) settings is.judged);
-        report = subst (λ (j : JudgedHistory). IsReport j text) settings is.report;
+        right = right h well is.verdict on;
+        report = report;
+        last_line = last_line h text is.verdict report on;
         ends = is.status_is;
         strict = λ strict. subst (λ (j : JudgedHistory). Means j Legal) settings (quiet setup setup.concurrency m strict may.2.0 run);
       };
@@ -157,16 +160,6 @@ report_of quiet setup m text status may run is =
 pub says : NoAlarm → (setup : Setup) (text : List ℕ) (status : ℕ) → MaySay setup text status → SaysOfRun setup text status
 says quiet setup text status (inl may) = inl (may.1.0, report_of quiet setup may.1.0 text status may.0 may.1.1 may.1.2)
 says quiet setup text status (inr why) = inr why
-
-legal_is : (v : Verdict) → 0 ≡ status_of v → v ≡ Legal
-legal_is Legal e = refl
-legal_is (Illegal key index) e = absurd (omega (arith, e))
-legal_is (Unknown key index) e = absurd (omega (arith, e))
-
-illegal_is : (h : JudgedHistory) (v : Verdict) → 1 ≡ status_of v → Means h v → ¬ Means h Legal
-illegal_is h Legal e means = absurd (omega (arith, e))
-illegal_is h (Illegal key index) e means = means
-illegal_is h (Unknown key index) e means = absurd (omega (arith, e))
 
 means : (setup : Setup) (m : Machine) (text : List ℕ) (status : ℕ) → IsRun setup.concurrency (opening setup) m → IsRunText m text status → (v : Verdict) × (status ≡ status_of v) × Means m.judged v
 means setup m text status run is = (is.verdict, is.status_is, (right m.judged (run_history setup m run).1 is.verdict is.judged).1)

@@ -38,6 +38,17 @@ runs_right old new (Call seat command reply ∷ rest) h r =
     (next, (may, step_right old next command reply after may), runs_right next new rest after later)
 runs_right old new (Opening m ∷ rest) h r = absurd r
 
+runs_kept : (old new : Machine) (rest : CoreTape) → HasHistory old → Runs MayStep old rest new → HasHistory new
+runs_kept old new [] h same = subst HasHistory same h
+runs_kept old new (Call seat command reply ∷ rest) h r =
+    let (next, may, later) = r in
+    runs_kept next new rest (history_step old next command reply may h) later
+runs_kept old new (Opening m ∷ rest) h r = absurd r
+
+pub kept_tape : (setup : Setup) (tape : CoreTape) (m : Machine) → IsPrefix (opening_tape (opening setup)) tape → LeadsTo tape m → HasHistory m
+kept_tape setup tape m opens leads =
+    runs_kept (opening setup) m opens.0 (no_history setup.concurrency) (subst (λ t. Leads MayStep t m) (sym opens.1) leads)
+
 pub right_tape : (setup : Setup) (tape : CoreTape) (m : Machine) → IsPrefix (opening_tape (opening setup)) tape → LeadsTo tape m → IsRightTape tape m
 right_tape setup tape m opens leads =
     subst (λ t. Leads StepsRight t m) opens.1 (runs_right (opening setup) m opens.0 (no_history setup.concurrency) (subst (λ t. Leads MayStep t m) (sym opens.1) leads))

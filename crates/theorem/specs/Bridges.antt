@@ -1,12 +1,19 @@
 -- Promise: from the definitions of the calls to those of the page (this project's own)
-use Rattle.std.specs.Prelude.{◌≡◌, ◌⊎◌, ℕ, List, Ok}
+use Rattle.std.specs.Prelude.{◌≡◌, ◌⊎◌, ℕ, List, [], Some, Ok}
+use Rattle.edn.specs.Refusals.{IsWhy}
 use Rattle.edn.specs.declared.refusal.Refusal.{Refusal}
+use Rattle.events.specs.declared.event.Event.{Event}
 use Rattle.linspec.specs.declared.verdict.Verdict.{Verdict}
 use Rattle.machine.specs.declared.command.Command.{Command}
 use Rattle.machine.specs.declared.command.Command.TheVariants.{Append, Rewind, SetModel, SetBudget, Verdict as Ask}
 use Rattle.machine.specs.declared.command.Reply.TheVariants.{Verdict as Says}
 use Rattle.machine.specs.Machine.{Machine, Setup, MayStep, opening}
+use Rattle.harness.specs.Setups.{IsSetup, MayNotOpen}
+use Rattle.line_loop.specs.RefusalLine.{refusal_line}
 use Rattle.script_command.specs.Reply.{Script}
+use Rattle.check_command.specs.ExitStatus.{status_of}
+use Rattle.check_command.specs.Reading.{IsRead}
+use Rattle.check_command.specs.Recorded.{event_line}
 use Rattle.check_command.specs.declared.recorded.Findings.{Findings}
 use Rattle.check_command.specs.declared.recorded.Findings.TheVariants.{Judged}
 use Rattle.board.specs.Tape.{Leads}
@@ -14,7 +21,7 @@ use Rattle.board.specs.CoreTape.{CoreReply, CoreTape}
 use Rattle.clients.specs.Runs.{HasNoRun, IsRun}
 use Rattle.run_command.specs.RunText.{IsRefusalText}
 use Rattle.theorem.specs.Theorem.{Session, IsRight}
-use Rattle.theorem.specs.Histories.{IsReportedSo, recorded}
+use Rattle.theorem.specs.Histories.{IsJudgedSo, IsReportedSo, recorded}
 
 -- a line can spell the command: it is not a draw, a ticket or a fault
 abbrev pub IsOfHistory : Command → Type 0
@@ -33,6 +40,18 @@ session_of s = record { history = s.machine.judged; is_strict = s.is_strict; is_
 abbrev pub SaysOf : Findings → Verdict → List ℕ → Type 0
 SaysOf (Judged said report) verdict text = (said ≡ verdict) × (report.items ≡ text)
 SaysOf found verdict text = ⊥
+
+-- the text of a check is a report, with the status of its verdict. Or it is the line of the first element that is refused, with 3: the events
+-- before it are well-formed. Or it is the line of a refusal of the whole, with 3
+abbrev pub SaysOfCheck : Setup → List ℕ → List ℕ → ℕ → Type 0
+SaysOfCheck setup bytes text status =
+    ((verdict : Verdict) × IsJudgedSo setup.concurrency setup.kind setup.budget bytes verdict text × (status ≡ status_of verdict))
+    ⊎ (((i : ℕ) × (why : Refusal)
+    × ((events : List Event) × IsRead bytes setup.concurrency [] events (Some (i, why)))
+    × (text ≡ event_line i why) × (status ≡ 3))
+    ⊎ ((why : Refusal)
+    × ((IsSetup setup × IsWhy bytes why) ⊎ MayNotOpen setup why)
+    × (text ≡ refusal_line why) × (status ≡ 3)))
 
 -- the verdict of the reply, if it has one, is right of the history of the machine
 abbrev pub SaysRight : Machine → CoreReply → Type 0

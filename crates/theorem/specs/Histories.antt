@@ -1,5 +1,5 @@
 -- Promise: the theorem for whole histories, of a file or of a run, by the page of scripts (this project's own)
-use Rattle.std.specs.Prelude.{◌≡◌, ℕ, List, [], None}
+use Rattle.std.specs.Prelude.{◌≡◌, ℕ, List, [], ◌++◌, None}
 use Rattle.kinds.specs.declared.model_kind.ModelKind.{ModelKind}
 use Rattle.events.specs.declared.event.Event.{Event}
 use Rattle.history.specs.WellFormed.{IsHistoryOf}
@@ -9,6 +9,7 @@ use Rattle.linspec.specs.declared.verdict.Verdict.TheVariants.{Legal}
 use Rattle.test_store.specs.declared.outcome.Mode.{Mode}
 use Rattle.test_store.specs.declared.outcome.Mode.TheVariants.{Strict}
 use Rattle.report.specs.Report.{IsReport}
+use Rattle.report.specs.VerdictLine.{verdict_line}
 use Rattle.check_command.specs.ExitStatus.{status_of}
 use Rattle.check_command.specs.Reading.{IsRead}
 use Rattle.theorem.specs.Theorem.{Means, IsRight}
@@ -19,13 +20,18 @@ use Rattle.theorem.specs.Theorem.{Means, IsRight}
 abbrev pub recorded : ℕ → ModelKind → ℕ → List Event → JudgedHistory
 recorded concurrency kind budget events = record (opening_of concurrency kind budget) { events = events }
 
+-- the text ends with the line of the verdict
+abbrev pub EndsWithLine : List ℕ → Verdict → Type 0
+EndsWithLine text verdict = (lines : List ℕ) × (text ≡ lines ++ verdict_line verdict)
+
 -- the bytes spell events, each of which is well-formed after the events before it. The verdict on them is right, and the text is their
--- report
+-- report, which ends with the line of this verdict
 abbrev pub IsJudgedSo : ℕ → ModelKind → ℕ → List ℕ → Verdict → List ℕ → Type 0
 IsJudgedSo concurrency kind budget bytes verdict text =
     (events : List Event) × IsRead bytes concurrency [] events None
     × IsRight (recorded concurrency kind budget events) verdict
     × IsReport (recorded concurrency kind budget events) text
+    × EndsWithLine text verdict
 
 -- 2. An order that is shown
 
@@ -37,12 +43,14 @@ IsShownSo concurrency kind budget bytes =
 
 -- 3. A run of clients
 
--- the events that clients left are well-formed, each after those before it. The verdict on them is right, the text is their report, and the
--- status is that of the verdict. If the store is strict, they are linearizable, even if the verdict is unknown
+-- the events that clients left are well-formed, each after those before it. The verdict on them is right, the text is their report, which
+-- ends with the line of this verdict, and the status is that of the verdict. If the store is strict, they are linearizable, even if the
+-- verdict is unknown
 pub record IsReportedSo (mode : Mode) (concurrency : ℕ) (kind : ModelKind) (budget : ℕ) (events : List Event) (text : List ℕ) (status : ℕ) : Type 0 where
   pub well_formed : IsHistoryOf concurrency events
   pub verdict : Verdict
   pub right : IsRight (recorded concurrency kind budget events) verdict
   pub report : IsReport (recorded concurrency kind budget events) text
+  pub last_line : EndsWithLine text verdict
   pub ends : status ≡ status_of verdict
   pub strict : mode ≡ Strict → Means (recorded concurrency kind budget events) Legal

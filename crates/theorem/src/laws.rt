@@ -4,17 +4,18 @@ ghost use mathlib.Core.List.{IsPrefix};
 ghost use Rattle.edn.specs.declared.refusal.Refusal.{Refusal};
 ghost use Rattle.kinds.specs.declared.model_kind.ModelKind.{ModelKind};
 ghost use Rattle.events.specs.declared.event.Event.{Event};
+ghost use Rattle.history.specs.WellFormed.{IsHistoryOf};
 ghost use Rattle.linspec.specs.declared.verdict.Verdict.{Verdict};
 ghost use Rattle.machine.specs.declared.command.Command.{Command};
 ghost use Rattle.machine.specs.declared.command.Reply.{Reply};
 ghost use Rattle.machine.specs.Machine.{Machine, Setup, MayStep, opening};
-ghost use Rattle.line_loop.specs.ReplyText.{IsReplyText};
+ghost use Rattle.line_loop.specs.ReplyText.{IsReplyText, Replies};
 ghost use Rattle.line_loop.specs.Logs.{Logged};
 ghost use Rattle.line_loop.specs.Live.{IsLive};
 ghost use Rattle.line_loop.specs.Stopping.{Finishes, KeepsUp, Stops};
 ghost use Rattle.script_command.specs.Reply.{MayReply, Script, Shows, script};
 ghost use Rattle.check_command.specs.Reading.{IsRead};
-ghost use Rattle.check_command.specs.Recorded.{ComesTo};
+ghost use Rattle.check_command.specs.Recorded.{ComesTo, findings_status, findings_text};
 ghost use Rattle.check_command.specs.declared.recorded.Findings.{Findings};
 ghost use Rattle.witness.specs.declared.confirming.Confirmation.{Confirmation};
 ghost use Rattle.confirm_command.specs.Found.{ComesTo as Confirms};
@@ -22,14 +23,15 @@ ghost use Rattle.confirm_command.specs.declared.found.Found.{Found};
 ghost use Rattle.board.specs.CoreTape.{CoreTape, LeadsTo, opening_tape};
 ghost use Rattle.clients.specs.Runs.{IsRun};
 ghost use Rattle.run_command.specs.RunText.{MaySay};
-ghost use Rattle.theorem.specs.Theorem.{Answers, Changes, Declines, EndsBy, Means, opened};
-ghost use Rattle.theorem.specs.Histories.{IsJudgedSo, IsShownSo};
-ghost use Rattle.theorem.specs.Bridges.{IsOfHistory, IsRightTape, SaysOf, SaysOfRun, session_of};
+ghost use Rattle.theorem.specs.Theorem.{Answers, Changes, Declines, EndsBy, Means, Session, opened};
+ghost use Rattle.theorem.specs.Histories.{IsJudgedSo, IsShownSo, recorded};
+ghost use Rattle.theorem.specs.Bridges.{IsOfHistory, IsRightTape, SaysOf, SaysOfCheck, SaysOfRun, session_of};
 
 use clients::laws::no_false_alarm_in_a_run;
 
 /// The bytes of a script. `script_command::run_script` promises its reply text over the one-thread object; this law promises the same over
-/// histories alone, by `Answers`. Each verdict in the text is right by the definition of Herlihy and Wing.
+/// histories alone, by `Answers`. Each verdict in the text is right by the definition of Herlihy and Wing. Its history is well-formed: whatever
+/// lines lead to it, each event is well-formed after those before it.
 pub fn script_law()
     ensures replies { (setup : Setup) (is_strict : Bool) (input text : List ℕ) (end : Script) →
         IsReplyText MayReply (script setup is_strict) input text end
@@ -48,10 +50,15 @@ pub fn script_law()
     ensures live { (setup : Setup) (is_strict : Bool) (before left left' : Option (List ℕ)) (log log' : Option (List Logged)) →
         IsLive MayReply (λ now. now.is_closed) (script setup is_strict) before left left' log log'
         → IsLive Answers (λ now. now.is_closed) (opened setup.concurrency setup.kind setup.budget is_strict) before left left' log log' }
+    ensures well_formed { (setup : Setup) (is_strict : Bool) (lines : List (List ℕ)) (text : List ℕ) (end : Session) →
+        Replies Answers (opened setup.concurrency setup.kind setup.budget is_strict) lines text end
+        → IsHistoryOf setup.concurrency end.history.events }
 {}
 
 /// The bytes of a recorded history. If they come to a verdict, it is right by the definition of Herlihy and Wing on the events that they
-/// spell. If they come to a refused event, they spell the events before it, and the process rule or a limit forbids the next one.
+/// spell. If they come to a refused event, they spell the events before it, and the process rule or a limit forbids the next one. In both
+/// cases each event is well-formed after those before it. So the exit status 0 of a check means that the history is linearizable, and 1 that
+/// it is not.
 pub fn check_law()
     ensures judged { (setup : Setup) (bytes : List ℕ) (found : Findings) (verdict : Verdict) (text : List ℕ) →
         ComesTo setup bytes found → SaysOf found verdict text
@@ -59,6 +66,16 @@ pub fn check_law()
     ensures refused { (setup : Setup) (bytes : List ℕ) (i : ℕ) (why : Refusal) →
         ComesTo setup bytes (Findings.RefusedEvent i why)
         → (events : List Event) × IsRead bytes setup.concurrency [] events (Some (i, why)) }
+    ensures well_formed { (setup : Setup) (bytes : List ℕ) (events : List Event) (first : Option (ℕ × Refusal)) →
+        IsRead bytes setup.concurrency [] events first → IsHistoryOf setup.concurrency events }
+    ensures says { (setup : Setup) (bytes : List ℕ) (found : Findings) → ComesTo setup bytes found
+        → SaysOfCheck setup bytes (findings_text found) (findings_status found) }
+    ensures legal { (setup : Setup) (bytes : List ℕ) (found : Findings) → ComesTo setup bytes found
+        → findings_status found ≡ 0 → IsShownSo setup.concurrency setup.kind setup.budget bytes }
+    ensures illegal { (setup : Setup) (bytes : List ℕ) (found : Findings) → ComesTo setup bytes found
+        → findings_status found ≡ 1
+        → (events : List Event) × IsRead bytes setup.concurrency [] events None
+        × ¬ Means (recorded setup.concurrency setup.kind setup.budget events) Verdict.Legal }
 {}
 
 /// The bytes of a recorded history and of an order: `confirm_command::confirm_bytes` promises its finding on them by `ComesTo`. If it finds
@@ -70,10 +87,13 @@ pub fn confirm_law()
 {}
 
 /// The tape of a board. Each verdict on a legal tape is right by the definition of Herlihy and Wing. It is right of the history to which
-/// the calls up to this one lead, whichever seats made them.
+/// the calls up to this one lead, whichever seats made them, and each event of this history is well-formed after those before it.
 pub fn tape_law()
-    ensures { (setup : Setup) (tape : CoreTape) (m : Machine) →
+    ensures right { (setup : Setup) (tape : CoreTape) (m : Machine) →
         IsPrefix (opening_tape (opening setup)) tape → LeadsTo tape m → IsRightTape tape m }
+    ensures well_formed { (setup : Setup) (tape : CoreTape) (m : Machine) →
+        IsPrefix (opening_tape (opening setup)) tape → LeadsTo tape m
+        → IsHistoryOf m.judged.concurrency m.judged.events }
 {}
 
 /// The text and the exit status of a run: `run_command::run_store` promises them by `MaySay`. If they report a history, it is the one that the

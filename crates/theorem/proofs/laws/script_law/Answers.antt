@@ -1,4 +1,5 @@
 use Rattle.theorem.proofs.Scripts.{reply_text, finishes, ends, keeps_up, stops, live}
+use Rattle.theorem.proofs.Sessions.{well_formed}
 use Rattle.theorem.proofs.laws.script_law.Goals as goal
 
 pub returns-clause-replies : goal.returns-clause-replies
@@ -18,3 +19,6 @@ returns-clause-stops c = stops
 
 pub returns-clause-live : goal.returns-clause-live
 returns-clause-live c = live
+
+pub returns-clause-well_formed : goal.returns-clause-well_formed
+returns-clause-well_formed c = well_formed
