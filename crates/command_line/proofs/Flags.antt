@@ -14,7 +14,7 @@ use Rattle.clap.specs.declared.builder.value_parser.Reading.{Reading}
 use Rattle.clap.specs.declared.parser.matches.ValueSource.{ValueSource}
 use Rattle.clap.specs.declared.parser.matches.ValueSource.TheVariants.{DefaultValue, CommandLine}
 
--- the flag with this name, of which only such texts may be found
+-- the flag with this name; only such texts may be found for it
 module _ (flag : Text) (IsTold : Text → Type 0) where
   abbrev IsOther : Text → Type 0
   IsOther id = bytes_eq id flag ≡ false
