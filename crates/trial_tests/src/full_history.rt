@@ -3,7 +3,7 @@ use crate::answers::{Answer, Row, Struck};
 use crate::setups::Ask::{Draw, Finish, Heal, Nemesis, Rewind, Serve};
 use crate::setups::Given::Write;
 use crate::setups::{NUMBERS, Plain};
-use crate::trials::{MOST, Stage, Trial};
+use crate::trials::{MOST, Stage, Trial, goes};
 use test_store::Mode;
 
 const SERVED: [Row; 2] = [(Draw(0), Answer::Drawn(0, 0)), (Serve(0), Answer::Done)];
@@ -24,10 +24,15 @@ const FULL: [Row; 11] = [
 
 // No event comes in: none that is handed in, no invocation, no completion and no fault. The tests before that one come
 // first all the same. After a cut there is room again.
-pub(crate) const TRIALS: [Trial; 1] = [Trial {
+const TRIAL: Trial = Trial {
     mode: Mode::Strict,
     numbers: NUMBERS,
     given: &[Write(7, 5)],
     fault: Some((1, Plain::Heal)),
     stages: &[Stage::Rows(&SERVED), Stage::Fill, Stage::Rows(&FULL)],
-}];
+};
+
+#[test]
+fn full_history(rt: HostRuntime) {
+    assert!(rt; goes(rt.alloc(), &TRIAL));
+}

@@ -68,6 +68,9 @@ const FAULTS: [Given; 15] = [
     Fault(Plain::Resume(2)),
 ];
 
+// Reads, writes and faults at random.
+const CHOICES: Source = Source::Mix(&READS, &WRITES, &FAULTS);
+
 fn command_of(next: Next, thread: u32) -> Command {
     match next {
         Next::Draw => Command::Draw(thread),
@@ -141,7 +144,7 @@ fn trial(alloc: Global, mode: Mode, seed: u64) -> Option<Ended> {
     let setup = Setup {
         mode,
         numbers: (4096, 3, 3),
-        source: Source::Mix(&READS, &WRITES, &FAULTS),
+        source: CHOICES,
         fault: None,
         seed,
     };

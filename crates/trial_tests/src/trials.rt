@@ -1,7 +1,7 @@
 //! Trials as rows: how a core is opened, its questions and answers, and the events then.
 use crate::answers::{Answer, Row, are_answered, events_are, reply_said, verdict_said};
 use crate::setups::{Ask, Given, Numbers, Plain, Setup, Source, command_of, heal, open};
-use crate::{full_history, halves, refusals, worked_rows};
+use crate::{halves, refusals, worked_rows};
 use events::{EventKind, Process};
 use harness::Core;
 use std::alloc::Global;
@@ -96,8 +96,8 @@ fn are_as_told(core: &mut Core, stages: &[Stage]) -> bool {
     true
 }
 
-// Whether each answer of the trial is that of its row, and the events are those of its stages.
-fn goes(alloc: Global, trial: &Trial) -> bool {
+/// Whether each answer of the trial is that of its row, and the events are those of its stages.
+pub(crate) fn goes(alloc: Global, trial: &Trial) -> bool {
     let setup = Setup {
         mode: trial.mode,
         numbers: trial.numbers,
@@ -111,12 +111,7 @@ fn goes(alloc: Global, trial: &Trial) -> bool {
     }
 }
 
-const ALL: [&[Trial]; 4] = [
-    &worked_rows::TRIALS,
-    &refusals::TRIALS,
-    &halves::TRIALS,
-    &full_history::TRIALS,
-];
+const ALL: [&[Trial]; 3] = [&worked_rows::TRIALS, &refusals::TRIALS, &halves::TRIALS];
 
 #[test]
 fn trials_answer(rt: HostRuntime) {
