@@ -4,7 +4,7 @@ use events::from_edn;
 use history::History;
 use kinds::ModelKind;
 use kinds::ModelKind::{CasRegister, FifoQueue, Mutex, Register, Set, UnorderedQueue};
-use std::alloc::{AllocError, Global};
+use std::alloc::Global;
 use witness::MismatchReason::{
     AnotherAnswer, CannotTakePlace, Failed, LeftOut, NoEvent, NoInvocation, TooLate, Twice,
 };
@@ -141,11 +141,11 @@ const OF_OPEN_DEQUEUE: [Row; 4] = [
 
 const OF_NOTHING: [Row; 2] = [(&[], None), (&[0], Some((0, 0, NoEvent)))];
 
-// The history of a text.
-fn history_of(alloc: Global, text: &str) -> Result<History, Refusal> {
+/// The history of copies of the events of a text.
+pub(crate) fn history_of(alloc: Global, text: &str) -> Result<History, Refusal> {
     let mut history = History::new(alloc, 3)?;
     for element in &read_all(alloc, text.as_bytes())? {
-        history.push(from_edn(alloc, element)?)?;
+        history.push(from_edn(alloc, element)?.copy()?)?;
     }
     Ok(history)
 }
@@ -158,72 +158,44 @@ fn said_by(row: Row) -> Confirmation {
     }
 }
 
-// The place of the first row whose order is answered otherwise.
-fn first_other(
-    alloc: Global,
-    history: &History,
-    kind: ModelKind,
-    rows: &[Row],
-) -> Result<Option<usize>, AllocError> {
-    for (place, row) in rows.iter().enumerate() {
-        if confirm(alloc, history, kind, row.0)? != said_by(*row) {
-            return Ok(Some(place));
-        }
-    }
-    Ok(None)
-}
-
-// The kind of its keys, the text of a history, and orders.
-type Orders = (ModelKind, &'static str, &'static [Row]);
-
-// The same, of the history.
-fn first_other_of(alloc: Global, orders: &Orders) -> Result<Option<usize>, Refusal> {
-    let (kind, text, rows) = *orders;
-    let history = history_of(alloc, text)?;
-    Ok(first_other(alloc, &history, kind, rows)?)
-}
-
-const REGISTERS: [Orders; 5] = [
-    (Register, OPEN_WRITE, &OF_OPEN_WRITE),
-    (Register, WRITE_THEN_READ, &OF_WRITE_THEN_READ),
-    (Register, FAILED_AND_CRASHED, &OF_FAILED_AND_CRASHED),
-    (Register, TWO_KEYS, &OF_TWO_KEYS),
-    (Register, "", &OF_NOTHING),
-];
-
-const OTHER_KINDS: [Orders; 4] = [
-    (CasRegister, CAS, &OF_CAS),
-    (Mutex, MUTEX, &OF_MUTEX),
-    (Set, SET, &OF_SET),
-    (FifoQueue, QUEUE, &OF_QUEUE),
-];
-
-const WITHOUT_AN_ORDER: [Orders; 2] = [
-    (UnorderedQueue, QUEUE, &OF_BAG),
-    (UnorderedQueue, OPEN_DEQUEUE, &OF_OPEN_DEQUEUE),
-];
-
-// Whether each order of each history is answered so.
-fn are_answered(alloc: Global, all: &[Orders]) -> bool {
-    for orders in all {
-        if first_other_of(alloc, orders) != Ok(None) {
+// Whether each order is answered so.
+fn are_confirmed(alloc: Global, history: &History, kind: ModelKind, rows: &[Row]) -> bool {
+    for row in rows {
+        if confirm(alloc, history, kind, row.0) != Ok(said_by(*row)) {
             return false;
         }
     }
     true
 }
 
-#[test]
-fn registers(rt: HostRuntime) {
-    assert!(rt; are_answered(rt.alloc(), &REGISTERS));
+// The kind of its keys, the text of a history, and orders.
+type Orders = (ModelKind, &'static str, &'static [Row]);
+
+// The same, of the history of the text.
+fn are_answered(alloc: Global, orders: &Orders) -> bool {
+    match history_of(alloc, orders.1) {
+        Ok(history) => are_confirmed(alloc, &history, orders.0, orders.2),
+        Err(_) => false,
+    }
 }
 
-#[test]
-fn other_kinds(rt: HostRuntime) {
-    assert!(rt; are_answered(rt.alloc(), &OTHER_KINDS));
-}
+const ALL: [Orders; 11] = [
+    (Register, OPEN_WRITE, &OF_OPEN_WRITE),
+    (Register, WRITE_THEN_READ, &OF_WRITE_THEN_READ),
+    (Register, FAILED_AND_CRASHED, &OF_FAILED_AND_CRASHED),
+    (Register, TWO_KEYS, &OF_TWO_KEYS),
+    (Register, "", &OF_NOTHING),
+    (CasRegister, CAS, &OF_CAS),
+    (Mutex, MUTEX, &OF_MUTEX),
+    (Set, SET, &OF_SET),
+    (FifoQueue, QUEUE, &OF_QUEUE),
+    (UnorderedQueue, QUEUE, &OF_BAG),
+    (UnorderedQueue, OPEN_DEQUEUE, &OF_OPEN_DEQUEUE),
+];
 
 #[test]
-fn queues_without_an_order(rt: HostRuntime) {
-    assert!(rt; are_answered(rt.alloc(), &WITHOUT_AN_ORDER));
+fn orders_are_confirmed(rt: HostRuntime) {
+    for orders in &ALL {
+        assert!(rt; are_answered(rt.alloc(), orders));
+    }
 }

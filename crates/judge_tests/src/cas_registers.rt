@@ -1,14 +1,9 @@
 //! Histories of registers with compare and set that are judged by their ends.
 use crate::judge_rows::Answer::{Nil, One, Two};
-use crate::judge_rows::{Case, Row, assert_steps, steps_of};
+use crate::judge_rows::{Case, Row, Steps};
 use events::EventKind::{Fail as Failed, Info as Crashed, Invoke, Ok as Done};
 use frontier::Step::{Alive, Dead, Over};
-use kinds::ModelKind;
 use models::Name::{Cas, Read, Write};
-use std::alloc::{AllocError, Global};
-use wide_cas_register::WideCasRegister;
-
-const KIND: ModelKind = ModelKind::WideCasRegister;
 
 const STALE_READ: [Row; 6] = [
     (0, Invoke, Write, One(5), Alive),
@@ -83,50 +78,18 @@ const THREE_FRONTS_OF_TWO: [Row; 4] = [
     (1, Failed, Write, One(6), Alive),
 ];
 
-const LEGAL: [Case; 1] = [(2, &NIL_FITS_ALWAYS, Some(3))];
-
-#[test]
-fn wide_cas_register_is_legal(rt: HostRuntime) {
-    assert_steps(&rt, rt.alloc(), KIND, &LEGAL, false);
-}
-
-const ILLEGAL: [Case; 2] = [
-    (2, &STALE_READ, Some(5)),
-    (1, &NO_VALUE_TO_COMPARE, Some(1)),
+/// The cases of this kind.
+pub const CASES: [Case; 8] = [
+    // Legal histories.
+    (2, &NIL_FITS_ALWAYS, Steps::Are(3)),
+    // Illegal ones.
+    (2, &STALE_READ, Steps::Are(5)),
+    (1, &NO_VALUE_TO_COMPARE, Steps::Are(1)),
+    // Operations that have to be placed.
+    (2, &CAS_THAT_TIMED_OUT, Steps::Are(8)),
+    (4, &TWO_IN_A_ROW, Steps::Are(21)),
+    (9, &HIDDEN_WRITE_IS_FOUND, Steps::Any),
+    // Some that are over a budget.
+    (3, &THREE_FRONTS, Steps::Are(6)),
+    (2, &THREE_FRONTS_OF_TWO, Steps::Are(2)),
 ];
-
-#[test]
-fn wide_cas_register_is_illegal(rt: HostRuntime) {
-    assert_steps(&rt, rt.alloc(), KIND, &ILLEGAL, false);
-}
-
-const PLACED: [Case; 2] = [
-    (2, &CAS_THAT_TIMED_OUT, Some(8)),
-    (4, &TWO_IN_A_ROW, Some(21)),
-];
-
-#[test]
-fn wide_cas_register_places_operations(rt: HostRuntime) {
-    assert_steps(&rt, rt.alloc(), KIND, &PLACED, false);
-    let hidden = steps_of(rt.alloc(), KIND, 9, &HIDDEN_WRITE_IS_FOUND, false);
-    assert!(rt; matches!(hidden, Ok(Some(_))));
-}
-
-const COUNTED: [Case; 2] = [
-    (3, &THREE_FRONTS, Some(6)),
-    (2, &THREE_FRONTS_OF_TWO, Some(2)),
-];
-
-#[test]
-fn wide_cas_register_is_over(rt: HostRuntime) {
-    assert_steps(&rt, rt.alloc(), KIND, &COUNTED, false);
-}
-
-fn budget_of_nine(alloc: Global) -> Result<u32, AllocError> {
-    Ok(WideCasRegister::start(alloc, 9)?.budget())
-}
-
-#[test]
-fn wide_cas_register_keeps_its_budget(rt: HostRuntime) {
-    assert!(rt; budget_of_nine(rt.alloc()) == Ok(9));
-}

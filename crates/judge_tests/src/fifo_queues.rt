@@ -1,12 +1,9 @@
 //! Histories of queues.
 use crate::judge_rows::Answer::{Nil, One};
-use crate::judge_rows::{Case, Row, assert_steps};
+use crate::judge_rows::{Case, Row, Steps};
 use events::EventKind::{Fail as Failed, Info as Crashed, Invoke, Ok as Done};
 use frontier::Step::{Alive, Dead, Over};
-use kinds::ModelKind;
 use models::Name::{Dequeue, Enqueue, Read};
-
-const KIND: ModelKind = ModelKind::WideFifoQueue;
 
 // The values overlap, so either may come out first, but not twice.
 const EITHER_FIRST: [Row; 10] = [
@@ -101,26 +98,16 @@ const NEVER_ENQUEUED: [Row; 2] = [
 
 const NO_READS: [Row; 2] = [(0, Invoke, Read, Nil, Alive), (0, Done, Read, One(5), Dead)];
 
-const CASES: [Case; 10] = [
-    (1, &EITHER_FIRST, Some(0)),
-    (1, &OUT_OF_TURN, Some(0)),
-    (1, &CRASHED_TAKER, Some(0)),
-    (1, &FAILED_TAKER, Some(0)),
-    (1, &FAILED_ENQUEUE_CAME_OUT, Some(0)),
-    (1, &FAILED_ENQUEUE, Some(0)),
-    (1, &EQUAL_VALUES, Some(0)),
-    (1, &NIL_IS_NO_VALUE, Some(0)),
-    (1, &NEVER_ENQUEUED, Some(0)),
-    (1, &NO_READS, Some(0)),
+/// The cases of this kind. Nothing is tried.
+pub const CASES: [Case; 10] = [
+    (1, &EITHER_FIRST, Steps::Are(0)),
+    (1, &OUT_OF_TURN, Steps::Are(0)),
+    (1, &CRASHED_TAKER, Steps::Are(0)),
+    (1, &FAILED_TAKER, Steps::Are(0)),
+    (1, &FAILED_ENQUEUE_CAME_OUT, Steps::Are(0)),
+    (1, &FAILED_ENQUEUE, Steps::Are(0)),
+    (1, &EQUAL_VALUES, Steps::Are(0)),
+    (1, &NIL_IS_NO_VALUE, Steps::Are(0)),
+    (1, &NEVER_ENQUEUED, Steps::Are(0)),
+    (1, &NO_READS, Steps::Are(0)),
 ];
-
-// Nothing is tried.
-#[test]
-fn wide_queue_answers(rt: HostRuntime) {
-    assert_steps(&rt, rt.alloc(), KIND, &CASES, false);
-}
-
-#[test]
-fn copies_of_wide_queues(rt: HostRuntime) {
-    assert_steps(&rt, rt.alloc(), KIND, &CASES, true);
-}

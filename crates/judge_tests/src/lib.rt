@@ -1,15 +1,31 @@
-//! Worked histories of one key, judged event by event: wide registers with and without compare and set, wide sets, and wide queues. Each
-//! answer follows from the definitions by hand. It has tests alone.
+//! Worked rows: calls of the crates that judge, each answer compared with one that follows from the definitions by hand; and two ways to
+//! judge small histories, compared with one another. It has tests alone.
 #![tactic(auto)]
 
+#[cfg(test)]
+mod agreement;
 #[cfg(test)]
 mod cas_registers;
 #[cfg(test)]
 mod fifo_queues;
 #[cfg(test)]
+mod frontiers;
+#[cfg(test)]
+mod joins;
+#[cfg(test)]
+mod judge;
+#[cfg(test)]
 mod judge_rows;
 #[cfg(test)]
+mod judges;
+#[cfg(test)]
+mod key_lines;
+#[cfg(test)]
+mod plain;
+#[cfg(test)]
 mod registers;
+#[cfg(test)]
+mod rewinds;
 #[cfg(test)]
 mod sets;
 #[cfg(test)]

@@ -1,14 +1,9 @@
 //! Histories of registers that are judged by lean ends.
 use crate::judge_rows::Answer::{Nil, One, Two};
-use crate::judge_rows::{Case, Row, assert_steps, steps_of};
+use crate::judge_rows::{Case, Row, Steps};
 use events::EventKind::{Fail as Failed, Info as Crashed, Invoke, Ok as Done};
 use frontier::Step::{Alive, Dead, Over};
-use kinds::ModelKind;
 use models::Name::{Cas, Read, Write};
-use std::alloc::{AllocError, Global};
-use wide_register::WideRegister;
-
-const KIND: ModelKind = ModelKind::WideRegister;
 
 const STALE_READ: [Row; 6] = [
     (0, Invoke, Write, One(5), Alive),
@@ -134,54 +129,23 @@ const TWO_ENDS_OF_ONE: [Row; 7] = [
     (0, Crashed, Write, One(5), Alive),
 ];
 
-const LEGAL: [Case; 4] = [
-    (1, &OLD_VALUE_OF_A_READ_THAT_IS_OPEN, Some(2)),
-    (2, &ANOTHER_WRITE_OF_THE_VALUE_STAYS, Some(2)),
-    (1, &WRITE_BEFORE_ANOTHER_ONE, None),
-    (1, &NIL_FITS_ALWAYS, Some(1)),
+/// The cases of this kind.
+pub const CASES: [Case; 13] = [
+    // Legal histories.
+    (1, &OLD_VALUE_OF_A_READ_THAT_IS_OPEN, Steps::Are(2)),
+    (2, &ANOTHER_WRITE_OF_THE_VALUE_STAYS, Steps::Are(2)),
+    (1, &WRITE_BEFORE_ANOTHER_ONE, Steps::AnotherAnswer),
+    (1, &NIL_FITS_ALWAYS, Steps::Are(1)),
+    // Illegal ones.
+    (1, &STALE_READ, Steps::Are(2)),
+    (1, &FAILED_WRITE_WAS_READ, Steps::Are(1)),
+    (1, &NO_CAS, Steps::Are(0)),
+    // Operations that have to be placed.
+    (1, &NO_WRITE_BEFORE_ITS_INVOCATION, Steps::Are(2)),
+    (2, &WRITE_BEFORE_ANOTHER_ONE, Steps::Are(2)),
+    (1, &WRITE_TWICE, Steps::Are(3)),
+    (9, &HIDDEN_WRITE_IS_FOUND, Steps::Any),
+    // Some that are over a budget.
+    (2, &TWO_ENDS, Steps::Are(4)),
+    (1, &TWO_ENDS_OF_ONE, Steps::Are(2)),
 ];
-
-#[test]
-fn wide_register_is_legal(rt: HostRuntime) {
-    assert_steps(&rt, rt.alloc(), KIND, &LEGAL, false);
-}
-
-const ILLEGAL: [Case; 3] = [
-    (1, &STALE_READ, Some(2)),
-    (1, &FAILED_WRITE_WAS_READ, Some(1)),
-    (1, &NO_CAS, Some(0)),
-];
-
-#[test]
-fn wide_register_is_illegal(rt: HostRuntime) {
-    assert_steps(&rt, rt.alloc(), KIND, &ILLEGAL, false);
-}
-
-const PLACED: [Case; 3] = [
-    (1, &NO_WRITE_BEFORE_ITS_INVOCATION, Some(2)),
-    (2, &WRITE_BEFORE_ANOTHER_ONE, Some(2)),
-    (1, &WRITE_TWICE, Some(3)),
-];
-
-#[test]
-fn wide_register_places_writes(rt: HostRuntime) {
-    assert_steps(&rt, rt.alloc(), KIND, &PLACED, false);
-    let hidden = steps_of(rt.alloc(), KIND, 9, &HIDDEN_WRITE_IS_FOUND, false);
-    assert!(rt; matches!(hidden, Ok(Some(_))));
-}
-
-const COUNTED: [Case; 2] = [(2, &TWO_ENDS, Some(4)), (1, &TWO_ENDS_OF_ONE, Some(2))];
-
-#[test]
-fn wide_register_is_over(rt: HostRuntime) {
-    assert_steps(&rt, rt.alloc(), KIND, &COUNTED, false);
-}
-
-fn budget_of_nine(alloc: Global) -> Result<u32, AllocError> {
-    Ok(WideRegister::start(alloc, 9)?.budget())
-}
-
-#[test]
-fn wide_register_keeps_its_budget(rt: HostRuntime) {
-    assert!(rt; budget_of_nine(rt.alloc()) == Ok(9));
-}

@@ -1,12 +1,9 @@
 //! Histories of sets.
 use crate::judge_rows::Answer::{All, Nil, One};
-use crate::judge_rows::{Case, Row, assert_steps};
+use crate::judge_rows::{Case, Row, Steps};
 use events::EventKind::{Fail as Failed, Info as Crashed, Invoke, Ok as Done};
 use frontier::Step::{Alive, Dead};
-use kinds::ModelKind;
 use models::Name::{Add, Read, Write};
-
-const KIND: ModelKind = ModelKind::WideSet;
 
 const STALE_READ: [Row; 4] = [
     (0, Invoke, Add, One(5), Alive),
@@ -81,24 +78,14 @@ const ADDED_AGAIN: [Row; 12] = [
 
 const NIL_IS_NO_SET: [Row; 2] = [(0, Invoke, Read, Nil, Alive), (0, Done, Read, Nil, Dead)];
 
-const CASES: [Case; 8] = [
-    (1, &STALE_READ, Some(0)),
-    (1, &CROSSED_ANSWERS, Some(0)),
-    (1, &FAILED_ADD_WAS_READ, Some(0)),
-    (1, &ANOTHER_ADD_STAYS, Some(0)),
-    (1, &READ_BACKWARDS, Some(0)),
-    (1, &LATE_ANSWER, Some(0)),
-    (1, &ADDED_AGAIN, Some(0)),
-    (1, &NIL_IS_NO_SET, Some(0)),
+/// The cases of this kind. Nothing is tried, and no budget is exceeded.
+pub const CASES: [Case; 8] = [
+    (1, &STALE_READ, Steps::Are(0)),
+    (1, &CROSSED_ANSWERS, Steps::Are(0)),
+    (1, &FAILED_ADD_WAS_READ, Steps::Are(0)),
+    (1, &ANOTHER_ADD_STAYS, Steps::Are(0)),
+    (1, &READ_BACKWARDS, Steps::Are(0)),
+    (1, &LATE_ANSWER, Steps::Are(0)),
+    (1, &ADDED_AGAIN, Steps::Are(0)),
+    (1, &NIL_IS_NO_SET, Steps::Are(0)),
 ];
-
-// Nothing is tried, and no budget is exceeded.
-#[test]
-fn wide_set_answers(rt: HostRuntime) {
-    assert_steps(&rt, rt.alloc(), KIND, &CASES, false);
-}
-
-#[test]
-fn copies_of_wide_sets(rt: HostRuntime) {
-    assert_steps(&rt, rt.alloc(), KIND, &CASES, true);
-}

@@ -1,12 +1,9 @@
 //! Histories of queues without an order.
 use crate::judge_rows::Answer::{Nil, One};
-use crate::judge_rows::{Case, Row, assert_steps};
+use crate::judge_rows::{Case, Row, Steps};
 use events::EventKind::{Fail as Failed, Info as Crashed, Invoke, Ok as Done};
 use frontier::Step::{Alive, Dead};
-use kinds::ModelKind;
 use models::Name::{Dequeue, Enqueue, Read};
-
-const KIND: ModelKind = ModelKind::WideUnorderedQueue;
 
 const ANY_ORDER: [Row; 8] = [
     (0, Invoke, Enqueue, One(5), Alive),
@@ -86,24 +83,14 @@ const NIL_IS_NO_VALUE: [Row; 2] = [
     (0, Done, Dequeue, Nil, Dead),
 ];
 
-const CASES: [Case; 8] = [
-    (1, &ANY_ORDER, Some(0)),
-    (1, &DEQUEUED_TWICE, Some(0)),
-    (1, &EQUAL_VALUES, Some(0)),
-    (1, &FAILED_ENQUEUE_SERVED, Some(0)),
-    (1, &LATER_ENQUEUE, Some(0)),
-    (1, &ONE_OF_TWO_FAILS, Some(0)),
-    (1, &OTHERS_CHANGE_NOTHING, Some(0)),
-    (1, &NIL_IS_NO_VALUE, Some(0)),
+/// The cases of this kind. Nothing is tried, and no budget is exceeded.
+pub const CASES: [Case; 8] = [
+    (1, &ANY_ORDER, Steps::Are(0)),
+    (1, &DEQUEUED_TWICE, Steps::Are(0)),
+    (1, &EQUAL_VALUES, Steps::Are(0)),
+    (1, &FAILED_ENQUEUE_SERVED, Steps::Are(0)),
+    (1, &LATER_ENQUEUE, Steps::Are(0)),
+    (1, &ONE_OF_TWO_FAILS, Steps::Are(0)),
+    (1, &OTHERS_CHANGE_NOTHING, Steps::Are(0)),
+    (1, &NIL_IS_NO_VALUE, Steps::Are(0)),
 ];
-
-// Nothing is tried, and no budget is exceeded.
-#[test]
-fn wide_unordered_queue_answers(rt: HostRuntime) {
-    assert_steps(&rt, rt.alloc(), KIND, &CASES, false);
-}
-
-#[test]
-fn copies_of_wide_unordered_queues(rt: HostRuntime) {
-    assert_steps(&rt, rt.alloc(), KIND, &CASES, true);
-}

@@ -1,6 +1,5 @@
 //! The answers of a core as plain data.
 use crate::setups::{Ask, command_of};
-use edn::Refusal;
 use events::{EventKind, Fault, Process};
 use harness::{Command, Core, Reply};
 use linspec::Verdict;
@@ -51,17 +50,7 @@ pub(crate) fn verdict_said(verdict: Verdict) -> Answer {
     }
 }
 
-fn served_said(outcome: &Outcome) -> Answer {
-    match outcome {
-        Outcome::Done(Found::Unit) => Answer::Done,
-        Outcome::Done(Found::Reg(value)) => Answer::Found(*value),
-        Outcome::Done(_) => Answer::FoundOther,
-        Outcome::Refused => Answer::NotDone,
-        Outcome::Lost => Answer::Lost,
-    }
-}
-
-fn fault_said(fault: &Fault) -> Struck {
+fn struck_by(fault: &Fault) -> Struck {
     match fault {
         Fault::Partition(_) => Struck::Partition,
         Fault::Heal => Struck::Heal,
@@ -77,8 +66,12 @@ pub(crate) fn reply_said(reply: &Reply) -> Answer {
         Reply::Drawn { ticket, index } => Answer::Drawn(*ticket, *index),
         Reply::Pending => Answer::Pending,
         Reply::Done => Answer::Over,
-        Reply::Served(outcome) => served_said(outcome),
-        Reply::Fault { fault, index } => Answer::Fault(fault_said(fault), *index),
+        Reply::Served(Outcome::Done(Found::Unit)) => Answer::Done,
+        Reply::Served(Outcome::Done(Found::Reg(value))) => Answer::Found(*value),
+        Reply::Served(Outcome::Done(_)) => Answer::FoundOther,
+        Reply::Served(Outcome::Refused) => Answer::NotDone,
+        Reply::Served(Outcome::Lost) => Answer::Lost,
+        Reply::Fault { fault, index } => Answer::Fault(struck_by(fault), *index),
     }
 }
 
@@ -100,23 +93,14 @@ pub(crate) fn answer_of(core: &mut Core, command: Command) -> Answer {
 /// A command, and how it is to be answered.
 pub(crate) type Row = (Ask, Answer);
 
-/// The place of the first command that is answered otherwise, and what it is answered by.
-pub(crate) fn first_other(core: &mut Core, rows: &[Row]) -> Option<(usize, Answer)> {
-    for (place, (ask, want)) in rows.iter().enumerate() {
-        let said = answer_of(core, command_of(*ask));
-        if said != *want {
-            return Some((place, said));
+/// Whether each command is answered so.
+pub(crate) fn are_answered(core: &mut Core, rows: &[Row]) -> bool {
+    for (ask, want) in rows {
+        if answer_of(core, command_of(*ask)) != *want {
+            return false;
         }
     }
-    None
-}
-
-/// The number of the refusal of an opening, 0 if it is opened.
-pub(crate) fn opening_said(opened: Result<Core, Refusal>) -> u8 {
-    match opened {
-        Ok(_) => 0,
-        Err(why) => why.number(),
-    }
+    true
 }
 
 /// Whether the events are of these kinds, by these processes.
@@ -125,8 +109,8 @@ pub(crate) fn events_are(core: &Core, want: &[(EventKind, Process)]) -> bool {
     if events.len() != want.len() {
         return false;
     }
-    for (event, (kind, process)) in events.iter().zip(want.iter()) {
-        if event.kind != *kind || event.process != *process {
+    for place in 0..want.len() {
+        if events[place].kind != want[place].0 || events[place].process != want[place].1 {
             return false;
         }
     }

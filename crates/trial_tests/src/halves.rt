@@ -1,23 +1,11 @@
-//! The two halves of the commands of a trial.
-use crate::answers::{Answer, Row, Struck, reply_said};
-use crate::setups::Ask::{Draw, Finish, Nemesis, Serve};
-use crate::setups::{Ask, Plain, command_of, faulty};
-use edn::Refusal;
-use harness::Core;
-use std::alloc::Global;
+//! The two halves of commands.
+use crate::answers::{Answer, Row, Struck};
+use crate::setups::Ask::{Draw, Finish, Nemesis, Serve, Verdict, Write as WriteOf};
+use crate::setups::Given::Write;
+use crate::setups::{NUMBERS, Plain};
+use crate::trials::{Prepared, Stage, Trial};
+use events::EventKind::{Invoke, Ok as Done};
 use test_store::Mode;
-
-// Whether the command is prepared twice, each time with this reply, and then is committed.
-fn prepared_twice(core: &mut Core, ask: Ask, want: Answer) -> bool {
-    let Ok((early, _)) = core.prepare(command_of(ask)) else {
-        return false;
-    };
-    let Ok((late, _)) = core.prepare(command_of(ask)) else {
-        return false;
-    };
-    core.commit();
-    reply_said(&early) == want && reply_said(&late) == want
-}
 
 const ROWS: [Row; 6] = [
     (Nemesis, Answer::Fault(Struck::LoseReplies, 0)),
@@ -28,23 +16,39 @@ const ROWS: [Row; 6] = [
     (Serve(1), Answer::Done),
 ];
 
-// The place of the first command that is not.
-fn first_not_prepared(core: &mut Core) -> Option<usize> {
-    for (place, (ask, want)) in ROWS.iter().enumerate() {
-        if !prepared_twice(core, *ask, *want) {
-            return Some(place);
-        }
-    }
-    None
-}
+const EARLY: [Prepared; 3] = [
+    (WriteOf(Invoke, Some(3)), Answer::Legal, Some(Answer::Legal)),
+    (WriteOf(Done, Some(3)), Answer::Refused(3), None),
+    (Verdict, Answer::Legal, Some(Answer::Legal)),
+];
 
-fn first_of_new(alloc: Global) -> Result<Option<usize>, Refusal> {
-    let lose = Plain::LoseReplies(1);
-    let mut core = faulty(alloc, Mode::Strict, &[Some(5), Some(6)], 0, lose)?;
-    Ok(first_not_prepared(&mut core))
-}
+const BLOWN: Answer = Answer::Unknown(7, 1);
 
-#[test]
-fn what_is_prepared_changes_nothing(rt: HostRuntime) {
-    assert!(rt; matches!(first_of_new(rt.alloc()), Ok(None)));
-}
+const LATE: [Prepared; 2] = [
+    (WriteOf(Done, Some(3)), Answer::Refused(4), None),
+    (WriteOf(Done, Some(4)), BLOWN, Some(BLOWN)),
+];
+
+pub(crate) const TRIALS: [Trial; 2] = [
+    // Each command of a trial is prepared twice with the same answer, and then is committed.
+    Trial {
+        mode: Mode::Strict,
+        numbers: NUMBERS,
+        given: &[Write(7, 5), Write(7, 6)],
+        fault: Some((0, Plain::LoseReplies(1))),
+        stages: &[Stage::Twice(&ROWS)],
+    },
+    // A prepared event changes nothing until it is committed, and the next command takes its place.
+    Trial {
+        mode: Mode::Strict,
+        numbers: (1, 1, 1),
+        given: &[],
+        fault: None,
+        stages: &[
+            Stage::Prepared(&EARLY),
+            Stage::Twice(&[(WriteOf(Invoke, Some(4)), Answer::Legal)]),
+            Stage::Prepared(&LATE),
+            Stage::Rows(&[(Verdict, Answer::Legal)]),
+        ],
+    },
+];

@@ -1,149 +1,106 @@
 //! Cores that are not opened, each by the first test that it does not pass.
-use crate::answers::opening_said;
-use crate::setups::{NUMBERS, Numbers, Plain, config, fault_of, no_fault, one_fault, op, ops_of};
+use crate::setups::{Given, NUMBERS, Numbers, Plain, Setup, Source, open};
 use edn::Refusal;
-use generators::{Cycle, Gen, Item};
-use harness::Core;
-use models::{Name, Part};
-use std::alloc::{AllocError, Global};
+use harness::{Config, Core};
+use kinds::ModelKind;
+use std::alloc::Global;
 use test_store::Mode;
 
-// Reads.
-fn reads(alloc: Global) -> Result<Gen, AllocError> {
-    ops_of(alloc, &[None])
+/// The numbers, the generator and the fault of an opening, and the number of its refusal, 0 if it is opened.
+type Opening = (Numbers, Source, Option<Plain>, u8);
+
+fn said(opened: Result<Core, Refusal>) -> u8 {
+    match opened {
+        Ok(_) => 0,
+        Err(why) => why.number(),
+    }
 }
 
-// A core of this budget, concurrency and number of replicas.
-fn numbers(alloc: Global, numbers: Numbers) -> Result<Core, Refusal> {
-    let config = config(Mode::Strict, numbers, reads(alloc)?, no_fault(alloc), 0);
-    Core::new(alloc, config)
+fn is_refused_so(alloc: Global, opening: &Opening) -> bool {
+    let (numbers, source, fault, why) = *opening;
+    let fault = match fault {
+        Some(fault) => Some((0, fault)),
+        None => None,
+    };
+    let setup = Setup {
+        mode: Mode::Strict,
+        numbers,
+        source,
+        fault,
+        seed: 0,
+    };
+    said(open(alloc, &setup)) == why
 }
 
-const OF_NUMBERS: [(Numbers, u8); 8] = [
-    ((0, 2, 3), 9),
-    ((65_537, 2, 3), 9),
-    ((4096, 0, 3), 10),
-    ((4096, 65, 3), 10),
-    ((4096, 2, 0), 18),
-    ((4096, 2, 8), 18),
-    ((1, 1, 1), 0),
-    ((65_536, 64, 7), 0),
+const READS: Source = Source::Clients(&[Given::Read(7)]);
+
+const ABSENT: Plain = Plain::Partition(&[0], &[1, 3]);
+
+const TWICE: Plain = Plain::Partition(&[0], &[0, 1]);
+
+const BOTH: Plain = Plain::Partition(&[0], &[0, 3]);
+
+const RIGHT: Plain = Plain::Partition(&[0], &[2, 1]);
+
+const OPENINGS: [Opening; 30] = [
+    // Each number below and above its limits, and at them.
+    ((0, 2, 3), READS, None, 9),
+    ((65_537, 2, 3), READS, None, 9),
+    ((4096, 0, 3), READS, None, 10),
+    ((4096, 65, 3), READS, None, 10),
+    ((4096, 2, 0), READS, None, 18),
+    ((4096, 2, 8), READS, None, 18),
+    ((1, 1, 1), READS, None, 0),
+    ((65_536, 64, 7), READS, None, 0),
+    // Faults as a schedule has them, and as a generator gives them.
+    (NUMBERS, READS, Some(Plain::Pause(3)), 18),
+    (NUMBERS, READS, Some(ABSENT), 18),
+    (NUMBERS, READS, Some(TWICE), 5),
+    (NUMBERS, READS, Some(BOTH), 18),
+    (NUMBERS, READS, Some(RIGHT), 0),
+    (NUMBERS, READS, Some(Plain::Restart(2)), 0),
+    (
+        NUMBERS,
+        Source::Nemesis(&[Given::Fault(Plain::Pause(3))]),
+        None,
+        18,
+    ),
+    (NUMBERS, Source::Nemesis(&[Given::Fault(ABSENT)]), None, 18),
+    (NUMBERS, Source::Nemesis(&[Given::Fault(TWICE)]), None, 5),
+    (NUMBERS, Source::Nemesis(&[Given::Fault(BOTH)]), None, 18),
+    (NUMBERS, Source::Nemesis(&[Given::Fault(RIGHT)]), None, 0),
+    (
+        NUMBERS,
+        Source::Nemesis(&[Given::Fault(Plain::Restart(2))]),
+        None,
+        0,
+    ),
+    // Operations with a part that their name does not have, and one with its own.
+    (NUMBERS, Source::Clients(&[Given::WriteOfNil]), None, 5),
+    (NUMBERS, Source::Clients(&[Given::ReadOf(5)]), None, 5),
+    (NUMBERS, Source::Clients(&[Given::CasOf(5)]), None, 5),
+    (NUMBERS, Source::Clients(&[Given::Cas(1, 2)]), None, 0),
+    // All that can be wrong is, and is put right one by one.
+    ((0, 65, 0), READS, Some(Plain::Crash(3)), 9),
+    ((4096, 65, 0), READS, Some(Plain::Crash(3)), 10),
+    ((4096, 2, 0), READS, Some(Plain::Crash(3)), 18),
+    ((4096, 2, 3), READS, Some(Plain::Partition(&[3], &[3])), 18),
+    ((4096, 2, 3), READS, Some(Plain::Partition(&[1], &[1])), 5),
+    ((4096, 2, 3), READS, Some(Plain::Heal), 0),
 ];
 
-// Whether each is opened, or refused so.
-fn numbers_are_tested(alloc: Global) -> bool {
-    for (given, why) in OF_NUMBERS {
-        if opening_said(numbers(alloc, given)) != why {
-            return false;
-        }
+// Of a core that only judges, by its concurrency and budget.
+fn refusal_of_judging(alloc: Global, concurrency: u32, budget: u32) -> u8 {
+    let config = Config::judging_only(alloc, concurrency, ModelKind::Register, budget);
+    said(Core::new(alloc, config))
+}
+
+#[test]
+fn openings(rt: HostRuntime) {
+    for opening in &OPENINGS {
+        assert!(rt; is_refused_so(rt.alloc(), opening));
     }
-    true
-}
-
-// Each number below and above its limits, and at them.
-#[test]
-fn numbers_out_of_limits(rt: HostRuntime) {
-    assert!(rt; numbers_are_tested(rt.alloc()));
-}
-
-// A core whose schedule has this fault.
-fn scheduled(alloc: Global, fault: Plain) -> Result<Core, Refusal> {
-    let schedule = one_fault(alloc, 0, fault)?;
-    let generator = reads(alloc)?;
-    Core::new(alloc, config(Mode::Strict, NUMBERS, generator, schedule, 0))
-}
-
-fn only(alloc: Global, item: Item) -> Result<Gen, AllocError> {
-    Ok(Gen::Ops(Cycle::new(vec![in alloc; item]?)))
-}
-
-// A generator of this fault.
-fn fault_given(alloc: Global, fault: Plain) -> Result<Gen, AllocError> {
-    let fault = fault_of(alloc, fault)?;
-    let faults = only(alloc, Item::Fault(fault))?;
-    Ok(Gen::Nemesis(Box::new(alloc, faults)?))
-}
-
-// A core that is given by this.
-fn given(alloc: Global, generator: Gen) -> Result<Core, Refusal> {
-    let schedule = no_fault(alloc);
-    Core::new(alloc, config(Mode::Strict, NUMBERS, generator, schedule, 0))
-}
-
-// A core whose generator gives this fault.
-fn generated(alloc: Global, fault: Plain) -> Result<Core, Refusal> {
-    given(alloc, fault_given(alloc, fault)?)
-}
-
-const FAULTS: [(Plain, u8); 6] = [
-    (Plain::Pause(3), 18),
-    (Plain::Partition(&[0], &[1, 3]), 18),
-    (Plain::Partition(&[0], &[0, 1]), 5),
-    (Plain::Partition(&[0], &[0, 3]), 18),
-    (Plain::Partition(&[0], &[2, 1]), 0),
-    (Plain::Restart(2), 0),
-];
-
-fn faults_are_tested(alloc: Global) -> bool {
-    for (fault, why) in FAULTS {
-        if opening_said(scheduled(alloc, fault)) != why {
-            return false;
-        }
-        if opening_said(generated(alloc, fault)) != why {
-            return false;
-        }
+    for (concurrency, budget, why) in [(0, 0, 9), (65, 65_537, 9), (0, 1, 10), (65, 1, 10)] {
+        assert!(rt; refusal_of_judging(rt.alloc(), concurrency, budget) == why);
     }
-    true
-}
-
-// Faults as a schedule has them, and as a generator gives them.
-#[test]
-fn bad_faults(rt: HostRuntime) {
-    assert!(rt; faults_are_tested(rt.alloc()));
-}
-
-// A core whose generator gives this operation.
-fn giving(alloc: Global, name: Name, part: Part) -> Result<Core, Refusal> {
-    given(alloc, only(alloc, Item::Op(op(name, part)))?)
-}
-
-// Operations with a part that their name does not have, and one with its own.
-#[test]
-fn bad_operations(rt: HostRuntime) {
-    let nil = opening_said(giving(rt.alloc(), Name::Write, Part::Nil));
-    let found = opening_said(giving(rt.alloc(), Name::Read, Part::Int(5)));
-    let half = opening_said(giving(rt.alloc(), Name::Cas, Part::Int(5)));
-    let right = opening_said(giving(rt.alloc(), Name::Cas, Part::Pair(1, 2)));
-    assert!(rt; [nil, found, half, right] == [5, 5, 5, 0]);
-}
-
-// A core of these numbers and this fault.
-fn opened(alloc: Global, numbers: Numbers, fault: Plain) -> Result<Core, Refusal> {
-    let schedule = one_fault(alloc, 0, fault)?;
-    let generator = reads(alloc)?;
-    Core::new(alloc, config(Mode::Strict, numbers, generator, schedule, 0))
-}
-
-const IN_ORDER: [(Numbers, Plain, u8); 6] = [
-    ((0, 65, 0), Plain::Crash(3), 9),
-    ((4096, 65, 0), Plain::Crash(3), 10),
-    ((4096, 2, 0), Plain::Crash(3), 18),
-    ((4096, 2, 3), Plain::Partition(&[3], &[3]), 18),
-    ((4096, 2, 3), Plain::Partition(&[1], &[1]), 5),
-    ((4096, 2, 3), Plain::Heal, 0),
-];
-
-fn tests_come_in_order(alloc: Global) -> bool {
-    for (numbers, fault, why) in IN_ORDER {
-        if opening_said(opened(alloc, numbers, fault)) != why {
-            return false;
-        }
-    }
-    true
-}
-
-// All that can be wrong is, and is put right one by one.
-#[test]
-fn openings_are_refused_in_order(rt: HostRuntime) {
-    assert!(rt; tests_come_in_order(rt.alloc()));
 }

@@ -1,10 +1,11 @@
 //! Commands that are refused. Each leaves history and verdict as they were, and the commands after it are answered as without it.
 use crate::answers::{Answer, Row};
 use crate::setups::Ask::{
-    Budget, Draw, Event, Finish, Nemesis, Numbered, Ok as OkOf, Rewind, Serve, Verdict,
+    Budget, Draw, Event, Finish, Nemesis, Numbered, Rewind, Serve, Verdict, Write as WriteOf,
 };
-use crate::setups::Plain;
-use crate::trials::{Stage, Trial, goes};
+use crate::setups::Given::{Read, Write};
+use crate::setups::{NUMBERS, Plain};
+use crate::trials::{Stage, Trial};
 use events::EventKind::{Fail as Failed, Info, Invoke, Ok as Done};
 use events::Process::Client;
 use events::{EventKind, Process};
@@ -65,93 +66,68 @@ const OTHERS: [Row; 9] = [
     (Event(0, Invoke), Answer::Refused(1)),
     (Event(2, Invoke), Answer::Refused(2)),
     (Event(1, Done), Answer::Refused(3)),
-    (OkOf(Some(6)), Answer::Refused(4)),
-    (OkOf(None), Answer::Refused(5)),
+    (WriteOf(Done, Some(6)), Answer::Refused(4)),
+    (WriteOf(Done, None), Answer::Refused(5)),
     (Numbered(0), Answer::Refused(6)),
     (Event(0, Info), Answer::Legal),
     (Event(2, Invoke), Answer::Legal),
 ];
 
-const TRIALS: [Trial; 7] = [
+pub(crate) const TRIALS: [Trial; 7] = [
     // A thread draws if it is there and has no open operation. A draw that is refused asks no generator.
     Trial {
         mode: Mode::Strict,
-        values: &[Some(5), None],
+        numbers: NUMBERS,
+        given: &[Write(7, 5), Read(7)],
         fault: None,
-        stages: &[Stage {
-            rows: &DRAWS,
-            events: None,
-        }],
+        stages: &[Stage::Rows(&DRAWS)],
     },
     // The ok of a served operation was handed in, so its ticket is not finished. A cut of that event alone opens the operation
     // again, and then the ticket is finished, once.
     Trial {
         mode: Mode::Strict,
-        values: &[Some(5)],
+        numbers: NUMBERS,
+        given: &[Write(7, 5)],
         fault: None,
-        stages: &[Stage {
-            rows: &FINISH_AFTER_OK,
-            events: Some(&FINISHED),
-        }],
+        stages: &[Stage::Rows(&FINISH_AFTER_OK), Stage::Events(&FINISHED)],
     },
     // The fail of an operation that no one has served was handed in: the store does not carry it out, and there is nothing to
     // finish. A cut of that event alone opens it again.
     Trial {
         mode: Mode::Strict,
-        values: &[Some(5)],
+        numbers: NUMBERS,
+        given: &[Write(7, 5)],
         fault: None,
-        stages: &[Stage {
-            rows: &SERVE_AFTER_FAIL,
-            events: None,
-        }],
+        stages: &[Stage::Rows(&SERVE_AFTER_FAIL)],
     },
     Trial {
         mode: Mode::Strict,
-        values: &[Some(5)],
+        numbers: NUMBERS,
+        given: &[Write(7, 5)],
         fault: None,
-        stages: &[Stage {
-            rows: &LIMITS,
-            events: None,
-        }],
+        stages: &[Stage::Rows(&LIMITS)],
     },
     // No fault is due yet, and the generator gives none to the nemesis.
     Trial {
         mode: Mode::Strict,
-        values: &[Some(5)],
+        numbers: NUMBERS,
+        given: &[Write(7, 5)],
         fault: Some((2, Plain::Heal)),
-        stages: &[Stage {
-            rows: &IDLE,
-            events: None,
-        }],
+        stages: &[Stage::Rows(&IDLE)],
     },
     Trial {
         mode: Mode::Strict,
-        values: &[],
+        numbers: NUMBERS,
+        given: &[],
         fault: Some((2, Plain::Heal)),
-        stages: &[Stage {
-            rows: &IDLE_AND_OVER,
-            events: None,
-        }],
+        stages: &[Stage::Rows(&IDLE_AND_OVER)],
     },
     // Between commands of a trial an event that was handed in is refused as ever.
     Trial {
         mode: Mode::Strict,
-        values: &[Some(5)],
+        numbers: NUMBERS,
+        given: &[Write(7, 5)],
         fault: None,
-        stages: &[Stage {
-            rows: &OTHERS,
-            events: None,
-        }],
+        stages: &[Stage::Rows(&OTHERS)],
     },
 ];
-
-// Each command is refused or answered as its row says.
-#[test]
-fn refused_commands(rt: HostRuntime) {
-    for (place, trial) in TRIALS.iter().enumerate() {
-        assert!(rt;
-            matches!(goes(rt.alloc(), trial), Ok(true)),
-            "trial {place}"
-        );
-    }
-}

@@ -4,7 +4,7 @@ use events::{Body, Event, EventKind, Fault, Groups, Process};
 use generators::{Cycle, Gen, Item};
 use harness::{Command, Config, Core};
 use kinds::ModelKind;
-use models::{Name, Op, Part};
+use models::{Key, Name, Op, Part};
 use nemesis::Schedule;
 use std::alloc::{AllocError, Global};
 use test_store::Mode;
@@ -22,32 +22,28 @@ pub(crate) enum Ask {
     Verdict,
     /// An event of a write of 5 by this process.
     Event(u32, EventKind),
-    /// The ok of process 0 to a write of this.
-    Ok(Option<i64>),
+    /// An event of a write of this by process 0.
+    Write(EventKind, Option<i64>),
     /// The ok of process 0 to a write of 5, which says that it has this index.
     Numbered(u32),
     /// A heal that was handed in.
     Heal,
 }
 
-fn part_of(value: Option<i64>) -> Part {
-    match value {
+fn event(index: Option<u32>, process: u32, kind: EventKind, value: Option<i64>) -> Command {
+    let part = match value {
         Some(value) => Part::Int(value),
         None => Part::Nil,
-    }
-}
-
-/// An operation on key 7.
-pub(crate) fn op(name: Name, part: Part) -> Op {
-    Op { name, key: 7, part }
-}
-
-fn event(index: Option<u32>, process: u32, kind: EventKind, value: Option<i64>) -> Command {
+    };
     Command::Append(Event {
         index,
         kind,
         process: Process::Client(process),
-        body: Body::Op(op(Name::Write, part_of(value))),
+        body: Body::Op(Op {
+            name: Name::Write,
+            key: 7,
+            part,
+        }),
     })
 }
 
@@ -72,7 +68,7 @@ pub(crate) fn command_of(ask: Ask) -> Command {
         Ask::Budget(n) => Command::SetBudget(7, n),
         Ask::Verdict => Command::Verdict,
         Ask::Event(process, kind) => event(None, process, kind, Some(5)),
-        Ask::Ok(value) => event(None, 0, EventKind::Ok, value),
+        Ask::Write(kind, value) => event(None, 0, kind, value),
         Ask::Numbered(index) => event(Some(index), 0, EventKind::Ok, Some(5)),
         Ask::Heal => heal(),
     }
@@ -90,48 +86,101 @@ pub(crate) enum Plain {
     LoseReplies(u16),
 }
 
-fn partition(alloc: Global, a: &[u8], b: &[u8]) -> Result<Fault, AllocError> {
+fn groups(alloc: Global, a: &[u8], b: &[u8]) -> Result<Groups, AllocError> {
     let mut groups = Vec::new(alloc);
     groups.push(Vec::from_slice(alloc, a)?)?;
     groups.push(Vec::from_slice(alloc, b)?)?;
-    Ok(Fault::Partition(Groups::new(groups)))
+    Ok(Groups::new(groups))
 }
 
-/// The fault itself.
-pub(crate) fn fault_of(alloc: Global, fault: Plain) -> Result<Fault, AllocError> {
+// The fault itself.
+fn fault_of(alloc: Global, fault: Plain) -> Result<Fault, AllocError> {
+    Ok(match fault {
+        Plain::Partition(a, b) => Fault::Partition(groups(alloc, a, b)?),
+        Plain::Heal => Fault::Heal,
+        Plain::Pause(replica) => Fault::Pause(replica),
+        Plain::Resume(replica) => Fault::Resume(replica),
+        Plain::Crash(replica) => Fault::Crash(replica),
+        Plain::Restart(replica) => Fault::Restart(replica),
+        Plain::LoseReplies(count) => Fault::LoseReplies(count),
+    })
+}
+
+// No fault, or one alone, due from this length of the history on.
+fn schedule_of(alloc: Global, fault: Option<(u32, Plain)>) -> Result<Schedule, AllocError> {
     match fault {
-        Plain::Partition(a, b) => partition(alloc, a, b),
-        Plain::Heal => Ok(Fault::Heal),
-        Plain::Pause(replica) => Ok(Fault::Pause(replica)),
-        Plain::Resume(replica) => Ok(Fault::Resume(replica)),
-        Plain::Crash(replica) => Ok(Fault::Crash(replica)),
-        Plain::Restart(replica) => Ok(Fault::Restart(replica)),
-        Plain::LoseReplies(count) => Ok(Fault::LoseReplies(count)),
+        Some((at, fault)) => {
+            let fault = fault_of(alloc, fault)?;
+            Ok(Schedule::new(vec![in alloc; (at, fault)]?))
+        }
+        None => Ok(Schedule::new(Vec::new(alloc))),
     }
 }
 
-/// A fault alone, due from this length of the history on.
-pub(crate) fn one_fault(alloc: Global, at: u32, fault: Plain) -> Result<Schedule, AllocError> {
-    let fault = fault_of(alloc, fault)?;
-    Ok(Schedule::new(vec![in alloc; (at, fault)]?))
+/// An item of a generator.
+#[derive(Clone, Copy)]
+pub(crate) enum Given {
+    Read(Key),
+    Write(Key, i64),
+    Fault(Plain),
+    /// Operations on key 7 whose part their name does not have, and a cas with its own.
+    WriteOfNil,
+    ReadOf(i64),
+    CasOf(i64),
+    Cas(i64, i64),
 }
 
-/// For each number its write, and a read if there is none, in turn.
-pub(crate) fn ops_of(alloc: Global, values: &[Option<i64>]) -> Result<Gen, AllocError> {
+fn operation(name: Name, key: Key, part: Part) -> Item {
+    Item::Op(Op { name, key, part })
+}
+
+fn item_of(alloc: Global, given: Given) -> Result<Item, AllocError> {
+    Ok(match given {
+        Given::Read(key) => operation(Name::Read, key, Part::Nil),
+        Given::Write(key, value) => operation(Name::Write, key, Part::Int(value)),
+        Given::Fault(fault) => Item::Fault(fault_of(alloc, fault)?),
+        Given::WriteOfNil => operation(Name::Write, 7, Part::Nil),
+        Given::ReadOf(value) => operation(Name::Read, 7, Part::Int(value)),
+        Given::CasOf(value) => operation(Name::Cas, 7, Part::Int(value)),
+        Given::Cas(old, new) => operation(Name::Cas, 7, Part::Pair(old, new)),
+    })
+}
+
+// These items in turn.
+fn in_turn(alloc: Global, all: &[Given]) -> Result<Gen, AllocError> {
     let mut items = Vec::new(alloc);
-    for value in values {
-        let name = match value {
-            Some(_) => Name::Write,
-            None => Name::Read,
-        };
-        items.push(Item::Op(op(name, part_of(*value))))?;
+    for given in all {
+        items.push(item_of(alloc, *given)?)?;
     }
     Ok(Gen::Ops(Cycle::new(items)))
 }
 
-/// No fault.
-pub(crate) fn no_fault(alloc: Global) -> Schedule {
-    Schedule::new(Vec::new(alloc))
+/// What a generator gives.
+#[derive(Clone, Copy)]
+pub(crate) enum Source {
+    /// Operations to clients, in turn.
+    Clients(&'static [Given]),
+    /// Faults to the nemesis, in turn.
+    Nemesis(&'static [Given]),
+    /// Two lists of operations to clients, and one of faults to the nemesis, at random.
+    Mix(&'static [Given], &'static [Given], &'static [Given]),
+}
+
+fn to_nemesis(alloc: Global, faults: &[Given]) -> Result<Gen, AllocError> {
+    Ok(Gen::Nemesis(Box::new(alloc, in_turn(alloc, faults)?)?))
+}
+
+fn generator_of(alloc: Global, source: Source) -> Result<Gen, AllocError> {
+    match source {
+        Source::Clients(items) => in_turn(alloc, items),
+        Source::Nemesis(faults) => to_nemesis(alloc, faults),
+        Source::Mix(first, second, faults) => {
+            let first = in_turn(alloc, first)?;
+            let second = in_turn(alloc, second)?;
+            let third = to_nemesis(alloc, faults)?;
+            Ok(Gen::Mix(vec![in alloc; first, second, third]?))
+        }
+    }
 }
 
 /// The budget, how many threads, and how many replicas.
@@ -140,36 +189,32 @@ pub(crate) type Numbers = (u32, u32, u8);
 /// A budget that is large enough, two threads, three replicas.
 pub(crate) const NUMBERS: Numbers = (4096, 2, 3);
 
-/// Registers of these numbers, whose clients are given this, under these faults.
-pub(crate) fn config(
-    mode: Mode,
-    numbers: Numbers,
-    generator: Gen,
-    schedule: Schedule,
-    seed: u64,
-) -> Config {
-    Config {
-        concurrency: numbers.1,
-        kind: ModelKind::Register,
-        budget: numbers.0,
-        replicas: numbers.2,
-        mode,
-        generator,
-        schedule,
-        seed,
-    }
+/// How a core of registers is opened.
+#[derive(Clone, Copy)]
+pub(crate) struct Setup {
+    pub(crate) mode: Mode,
+    pub(crate) numbers: Numbers,
+    pub(crate) source: Source,
+    /// The one fault of the schedule, and the length of the history from which on it is due.
+    pub(crate) fault: Option<(u32, Plain)>,
+    pub(crate) seed: u64,
 }
 
-/// A core of two threads that get a write of each number, and a read if there is none, in turn. It has one fault, due from this length of
-/// the history on.
-pub(crate) fn faulty(
-    alloc: Global,
-    mode: Mode,
-    values: &[Option<i64>],
-    at: u32,
-    fault: Plain,
-) -> Result<Core, Refusal> {
-    let schedule = one_fault(alloc, at, fault)?;
-    let generator = ops_of(alloc, values)?;
-    Core::new(alloc, config(mode, NUMBERS, generator, schedule, 0))
+/// The core that is opened so.
+pub(crate) fn open(alloc: Global, setup: &Setup) -> Result<Core, Refusal> {
+    let schedule = schedule_of(alloc, setup.fault)?;
+    let generator = generator_of(alloc, setup.source)?;
+    Core::new(
+        alloc,
+        Config {
+            concurrency: setup.numbers.1,
+            kind: ModelKind::Register,
+            budget: setup.numbers.0,
+            replicas: setup.numbers.2,
+            mode: setup.mode,
+            generator,
+            schedule,
+            seed: setup.seed,
+        },
+    )
 }

@@ -1,61 +1,123 @@
 //! Trials as rows: how a core is opened, its questions and answers, and the events then.
-use crate::answers::{Row, events_are, first_other};
-use crate::setups::{NUMBERS, Plain, config, no_fault, one_fault, ops_of};
-use edn::Refusal;
+use crate::answers::{Answer, Row, are_answered, events_are, reply_said, verdict_said};
+use crate::setups::{Ask, Given, Numbers, Plain, Setup, Source, command_of, heal, open};
+use crate::{halves, refusals, worked_rows};
 use events::{EventKind, Process};
 use harness::Core;
-use nemesis::Schedule;
-use std::alloc::{AllocError, Global};
+use std::alloc::Global;
 use test_store::Mode;
 
-/// Commands and their answers, and the events after them.
+/// The most events of a history.
+pub(crate) const MOST: u32 = 1_048_576;
+
+/// A command that is only prepared, its answer, and the verdict that its commit would bring.
+pub(crate) type Prepared = (Ask, Answer, Option<Answer>);
+
+/// A part of a trial.
 #[derive(Clone, Copy)]
-pub(crate) struct Stage {
-    pub(crate) rows: &'static [Row],
-    /// None if nothing is said of them.
-    pub(crate) events: Option<&'static [(EventKind, Process)]>,
+pub(crate) enum Stage {
+    /// Commands and their answers.
+    Rows(&'static [Row]),
+    /// The same, each prepared twice before it is committed.
+    Twice(&'static [Row]),
+    /// Commands that are only prepared.
+    Prepared(&'static [Prepared]),
+    /// The events so far, by kind and process.
+    Events(&'static [(EventKind, Process)]),
+    /// Heals are handed in until the history is full.
+    Fill,
 }
 
-/// A trial of two threads that are given a write of each number, and a read if there is none, in turn.
+/// A trial of threads that are given operations in turn.
 #[derive(Clone, Copy)]
 pub(crate) struct Trial {
     pub(crate) mode: Mode,
-    pub(crate) values: &'static [Option<i64>],
+    pub(crate) numbers: Numbers,
+    pub(crate) given: &'static [Given],
     /// The one fault, and the length of the history from which on it is due.
     pub(crate) fault: Option<(u32, Plain)>,
     pub(crate) stages: &'static [Stage],
 }
 
-fn schedule(alloc: Global, fault: Option<(u32, Plain)>) -> Result<Schedule, AllocError> {
-    match fault {
-        Some((at, fault)) => one_fault(alloc, at, fault),
-        None => Ok(no_fault(alloc)),
+// Whether each command is prepared twice with its answer, and then is committed.
+fn all_prepared_twice(core: &mut Core, rows: &[Row]) -> bool {
+    for (ask, want) in rows {
+        let Ok((early, _)) = core.prepare(command_of(*ask)) else {
+            return false;
+        };
+        let Ok((late, _)) = core.prepare(command_of(*ask)) else {
+            return false;
+        };
+        core.commit();
+        if reply_said(&early) != *want || reply_said(&late) != *want {
+            return false;
+        }
     }
+    true
 }
 
-fn opened(alloc: Global, trial: &Trial) -> Result<Core, Refusal> {
-    let schedule = schedule(alloc, trial.fault)?;
-    let generator = ops_of(alloc, trial.values)?;
-    Core::new(alloc, config(trial.mode, NUMBERS, generator, schedule, 0))
+fn all_prepared(core: &mut Core, rows: &[Prepared]) -> bool {
+    for (ask, said, verdict) in rows {
+        let found = match core.prepare(command_of(*ask)) {
+            Ok((reply, verdict)) => (reply_said(&reply), Some(verdict_said(verdict))),
+            Err(why) => (Answer::Refused(why.number()), None),
+        };
+        if found != (*said, *verdict) {
+            return false;
+        }
+    }
+    true
 }
 
-fn is_as_told(core: &mut Core, stage: &Stage) -> bool {
-    if first_other(core, stage.rows).is_some() {
-        return false;
+// Whether each heal was taken.
+fn fill(core: &mut Core) -> bool {
+    for _ in core.monitor().history().len()..MOST {
+        if core.step(heal()).is_err() {
+            return false;
+        }
     }
-    match stage.events {
-        Some(events) => events_are(core, events),
-        None => true,
+    true
+}
+
+// Whether each stage goes as it is told.
+fn are_as_told(core: &mut Core, stages: &[Stage]) -> bool {
+    for stage in stages {
+        let goes = match *stage {
+            Stage::Rows(rows) => are_answered(core, rows),
+            Stage::Twice(rows) => all_prepared_twice(core, rows),
+            Stage::Prepared(rows) => all_prepared(core, rows),
+            Stage::Events(events) => events_are(core, events),
+            Stage::Fill => fill(core),
+        };
+        if !goes {
+            return false;
+        }
     }
+    true
 }
 
 /// Whether each answer of the trial is that of its row, and the events are those of its stages.
-pub(crate) fn goes(alloc: Global, trial: &Trial) -> Result<bool, Refusal> {
-    let mut core = opened(alloc, trial)?;
-    for stage in trial.stages {
-        if !is_as_told(&mut core, stage) {
-            return Ok(false);
+pub(crate) fn goes(alloc: Global, trial: &Trial) -> bool {
+    let setup = Setup {
+        mode: trial.mode,
+        numbers: trial.numbers,
+        source: Source::Clients(trial.given),
+        fault: trial.fault,
+        seed: 0,
+    };
+    match open(alloc, &setup) {
+        Ok(mut core) => are_as_told(&mut core, trial.stages),
+        Err(_) => false,
+    }
+}
+
+const ALL: [&[Trial]; 3] = [&worked_rows::TRIALS, &refusals::TRIALS, &halves::TRIALS];
+
+#[test]
+fn trials_answer(rt: HostRuntime) {
+    for trials in &ALL {
+        for trial in *trials {
+            assert!(rt; goes(rt.alloc(), trial));
         }
     }
-    Ok(true)
 }

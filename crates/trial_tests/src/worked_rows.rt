@@ -1,8 +1,9 @@
 //! Trials worked out by hand: two threads, three replicas, key 7.
 use crate::answers::{Answer, Row, Struck};
 use crate::setups::Ask::{Draw, Finish, Nemesis, Rewind, Serve};
-use crate::setups::Plain;
-use crate::trials::{Stage, Trial, goes};
+use crate::setups::Given::{Read, Write};
+use crate::setups::{NUMBERS, Plain};
+use crate::trials::{Stage, Trial};
 use events::EventKind::{Fail as Failed, Info, Invoke, Ok as Done};
 use events::Process::Client;
 use events::{EventKind, Process};
@@ -84,64 +85,44 @@ const LOST_AGAIN: [Row; 4] = [
     (Finish(0), Answer::Legal),
 ];
 
-const TRIALS: [Trial; 4] = [
+pub(crate) const TRIALS: [Trial; 4] = [
     // The replica of thread 0 is cut off from the two others, so its write does not take place. That of thread 1 does.
     Trial {
         mode: Mode::Strict,
-        values: &[Some(5), Some(6)],
+        numbers: NUMBERS,
+        given: &[Write(7, 5), Write(7, 6)],
         fault: Some((0, Plain::Partition(&[0], &[1, 2]))),
-        stages: &[Stage {
-            rows: &MINORITY,
-            events: Some(&MINORITY_EVENTS),
-        }],
+        stages: &[Stage::Rows(&MINORITY), Stage::Events(&MINORITY_EVENTS)],
     },
     // The heal takes the older write to all replicas. The newer one takes place at the replica of thread 0 alone, and then
     // thread 1 reads the older one.
     Trial {
         mode: Mode::Sloppy,
-        values: &[Some(5), Some(6), None],
+        numbers: NUMBERS,
+        given: &[Write(7, 5), Write(7, 6), Read(7)],
         fault: Some((2, Plain::Heal)),
-        stages: &[Stage {
-            rows: &HEAL,
-            events: None,
-        }],
+        stages: &[Stage::Rows(&HEAL)],
     },
     // A ticket is served once, and is finished after its serve. The cut of its invocation makes it stale for good.
     Trial {
         mode: Mode::Strict,
-        values: &[Some(5)],
+        numbers: NUMBERS,
+        given: &[Write(7, 5)],
         fault: None,
-        stages: &[Stage {
-            rows: &STALE,
-            events: Some(&STALE_EVENTS),
-        }],
+        stages: &[Stage::Rows(&STALE), Stage::Events(&STALE_EVENTS)],
     },
     // A write whose reply is lost crashes its process, and the thread goes on with the next one. A cut of the completion alone
     // brings the process back, and its ticket can be finished again.
     Trial {
         mode: Mode::Strict,
-        values: &[Some(5), Some(6)],
+        numbers: NUMBERS,
+        given: &[Write(7, 5), Write(7, 6)],
         fault: Some((0, Plain::LoseReplies(1))),
         stages: &[
-            Stage {
-                rows: &LOST,
-                events: Some(&LOST_EVENTS),
-            },
-            Stage {
-                rows: &LOST_AGAIN,
-                events: Some(&LOST_AGAIN_EVENTS),
-            },
+            Stage::Rows(&LOST),
+            Stage::Events(&LOST_EVENTS),
+            Stage::Rows(&LOST_AGAIN),
+            Stage::Events(&LOST_AGAIN_EVENTS),
         ],
     },
 ];
-
-// Each answer, and the events, are those of the rows.
-#[test]
-fn worked_trials(rt: HostRuntime) {
-    for (place, trial) in TRIALS.iter().enumerate() {
-        assert!(rt;
-            matches!(goes(rt.alloc(), trial), Ok(true)),
-            "trial {place}"
-        );
-    }
-}

@@ -24,26 +24,23 @@ const JOINS: [(&[(Key, KeyStatus)], Verdict); 4] = [
     ),
 ];
 
-// The first of the least Dead, else of the least Over, wherever it stands.
-#[test]
-fn least_index_of_the_gravest(rt: HostRuntime) {
-    for (statuses, verdict) in JOINS {
-        assert!(rt; join(statuses) == verdict);
-    }
-}
+const ONE_BY_ONE: [(Key, KeyStatus, Verdict); 5] = [
+    (1, Alive, Legal),
+    (2, Over(6), Unknown { key: 2, index: 6 }),
+    (3, Over(4), Unknown { key: 3, index: 4 }),
+    (4, Dead(8), Illegal { key: 4, index: 8 }),
+    (5, Dead(9), Illegal { key: 4, index: 8 }),
+];
 
-// One more status at a time: the joined status goes on.
+// The first of the least Dead, else of the least Over, wherever it stands. And one more status at a time: the joined status goes on.
 #[test]
-fn one_status_after_the_other(rt: HostRuntime) {
+fn statuses_are_joined(rt: HostRuntime) {
+    for (statuses, verdict) in &JOINS {
+        assert!(rt; join(statuses) == *verdict);
+    }
     let mut verdict = Legal;
-    for (key, status, joined) in [
-        (1, Alive, Legal),
-        (2, Over(6), Unknown { key: 2, index: 6 }),
-        (3, Over(4), Unknown { key: 3, index: 4 }),
-        (4, Dead(8), Illegal { key: 4, index: 8 }),
-        (5, Dead(9), Illegal { key: 4, index: 8 }),
-    ] {
-        verdict = join_with(verdict, key, status);
-        assert!(rt; verdict == joined);
+    for (key, status, joined) in &ONE_BY_ONE {
+        verdict = join_with(verdict, *key, *status);
+        assert!(rt; verdict == *joined);
     }
 }

@@ -1,6 +1,6 @@
 //! Lines of a few events, against statuses that follow from the definitions by hand.
 ghost use Rattle.std.specs.Prelude.{◌≡◌, IfOk};
-ghost use Rattle.differential_tests.specs.LongLine.{writes, writes_from};
+ghost use Rattle.judge_tests.specs.LongLine.{writes, writes_from};
 
 use crate::plain::event;
 use checkpoints::KeyLine;
@@ -23,20 +23,6 @@ fn of_a_release(alloc: Global) -> Result<[KeyStatus; 5], AllocError> {
     Ok([crashed, failed, returned, before, line.status()])
 }
 
-// A mutex that nobody holds is not released, while a release may crash or fail. A prepared change counts once it is committed.
-#[test]
-fn prepared_events(rt: HostRuntime) {
-    let dead = KeyStatus::Dead(1);
-    let told = [
-        KeyStatus::Alive,
-        KeyStatus::Alive,
-        dead,
-        KeyStatus::Alive,
-        dead,
-    ];
-    assert!(rt; of_a_release(rt.alloc()) == Ok(told));
-}
-
 // The status of a line of a fault and a write, and how many events it has.
 fn behind_a_fault(alloc: Global) -> Result<(KeyStatus, usize), AllocError> {
     let mut line = KeyLine::new(alloc, ModelKind::Register, 4096)?;
@@ -50,11 +36,6 @@ fn behind_a_fault(alloc: Global) -> Result<(KeyStatus, usize), AllocError> {
     line.push(1, &event(0, EventKind::Invoke, Name::Write, Part::Int(1)))?;
     line.push(2, &event(0, EventKind::Ok, Name::Write, Part::Int(1)))?;
     Ok((line.status(), line.len()))
-}
-
-#[test]
-fn fault_changes_nothing(rt: HostRuntime) {
-    assert!(rt; matches!(behind_a_fault(rt.alloc()), Ok((KeyStatus::Alive, 3))));
 }
 
 // 65 times a write of 1 that returns: 130 events, of indices 0 to 129.
@@ -97,12 +78,7 @@ fn after_cut(alloc: Global, n: u32) -> Result<(u64, usize), AllocError> {
 }
 
 // A cut judges again only what stays behind the last 64th event.
-#[test]
-fn rewind_replays_few(rt: HostRuntime) {
-    for (n, again, left) in [(130, 0, 130), (129, 1, 129), (127, 63, 127), (64, 0, 64)] {
-        assert!(rt; after_cut(rt.alloc(), n) == Ok((again, left)), "cut at {n}");
-    }
-}
+const CUTS: [(u32, u64, usize); 4] = [(130, 0, 130), (129, 1, 129), (127, 63, 127), (64, 0, 64)];
 
 // The status of such a line; and the number of its replays, then of another kind, and then if a cut is prepared, with those that it would
 // add before the last.
@@ -118,12 +94,6 @@ fn replays(alloc: Global) -> Result<(KeyStatus, [u64; 4]), AllocError> {
         status,
         [first, second, line.prepared_replays(), line.replayed()],
     ))
-}
-
-// Each event that is pushed is one replay, another kind judges each once more, and a cut counts once it is committed.
-#[test]
-fn replays_are_counted(rt: HostRuntime) {
-    assert!(rt; replays(rt.alloc()) == Ok((KeyStatus::Alive, [130, 260, 63, 260])));
 }
 
 // Two events, of indices 3 and 5.
@@ -146,16 +116,37 @@ fn of_two(alloc: Global, n: u32) -> Result<(bool, bool), AllocError> {
 }
 
 // Whether a cut takes events away, and whether there are events before it.
+const OF_TWO: [(u32, (bool, bool)); 5] = [
+    (0, (true, false)),
+    (3, (true, false)),
+    (4, (true, true)),
+    (5, (true, true)),
+    (6, (false, true)),
+];
+
+// A mutex that nobody holds is not released, while a release may crash or fail. A prepared change counts once it is committed.
+const OF_A_RELEASE: [KeyStatus; 5] = [
+    KeyStatus::Alive,
+    KeyStatus::Alive,
+    KeyStatus::Dead(1),
+    KeyStatus::Alive,
+    KeyStatus::Dead(1),
+];
+
+// Each event that is pushed is one replay, another kind judges each once more, and a cut counts once it is committed.
+const REPLAYS: (KeyStatus, [u64; 4]) = (KeyStatus::Alive, [130, 260, 63, 260]);
+
 #[test]
-fn cuts_of_a_line(rt: HostRuntime) {
-    assert!(rt; of_nothing(rt.alloc()) == Ok((false, false)));
-    for (n, loses, begins) in [
-        (0, true, false),
-        (3, true, false),
-        (4, true, true),
-        (5, true, true),
-        (6, false, true),
-    ] {
-        assert!(rt; of_two(rt.alloc(), n) == Ok((loses, begins)), "at {n}");
+fn lines_answer(rt: HostRuntime) {
+    let alloc = rt.alloc();
+    assert!(rt; of_a_release(alloc) == Ok(OF_A_RELEASE));
+    assert!(rt; behind_a_fault(alloc) == Ok((KeyStatus::Alive, 3)));
+    for (n, again, left) in &CUTS {
+        assert!(rt; after_cut(alloc, *n) == Ok((*again, *left)));
+    }
+    assert!(rt; replays(alloc) == Ok(REPLAYS));
+    assert!(rt; of_nothing(alloc) == Ok((false, false)));
+    for (n, want) in &OF_TWO {
+        assert!(rt; of_two(alloc, *n) == Ok(*want));
     }
 }

@@ -47,20 +47,15 @@ fn rewound_to(alloc: Global, n: u32) -> Result<u64, Refusal> {
 }
 
 // Key 7 keeps n - 4 events, and of these n - 4 modulo 64 are judged again; key 1 loses none unless n is below 4.
-#[test]
-fn rewinds_judge_few_again(rt: HostRuntime) {
-    for (n, again) in [
-        (134, 0),
-        (133, 1),
-        (131, 63),
-        (68, 0),
-        (67, 63),
-        (4, 0),
-        (3, 3),
-    ] {
-        assert!(rt; rewound_to(rt.alloc(), n) == Ok(again), "to {n}");
-    }
-}
+const REWINDS: [(u32, u64); 7] = [
+    (134, 0),
+    (133, 1),
+    (131, 63),
+    (68, 0),
+    (67, 63),
+    (4, 0),
+    (3, 3),
+];
 
 // The number of events judged again for a rewind and another kind that are prepared and dropped, and for the rewind that follows.
 fn dropped(alloc: Global) -> Result<(u64, u64, u64), Refusal> {
@@ -75,6 +70,9 @@ fn dropped(alloc: Global) -> Result<(u64, u64, u64), Refusal> {
 
 // A change that is dropped counts, too: 63 events of key 7, then all four of key 1, then one of key 7.
 #[test]
-fn dropped_changes_count(rt: HostRuntime) {
-    assert!(rt; matches!(dropped(rt.alloc()), Ok((63, 67, 68))));
+fn rewinds_judge_few_again(rt: HostRuntime) {
+    for (n, again) in &REWINDS {
+        assert!(rt; rewound_to(rt.alloc(), *n) == Ok(*again));
+    }
+    assert!(rt; dropped(rt.alloc()) == Ok((63, 67, 68)));
 }

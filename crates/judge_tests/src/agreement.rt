@@ -2,14 +2,15 @@
 //! come. A wide kind and its plain one also agree on each event.
 ghost use Rattle.std.specs.Prelude.{◌<◌};
 
+use crate::judge::Judge;
+use edn::Refusal;
 use events::{Body, Event, EventKind, Process};
-use frontier::{AnyFrontier, Step};
+use frontier::Step;
 use history::History;
 use kinds::ModelKind;
 use linspec::brute;
 use models::{Key, Name, Op, Part};
 use std::alloc::{AllocError, Global};
-use std::test::Fail;
 use values::Members;
 
 const KEY: Key = 7;
@@ -19,6 +20,8 @@ const MOST_OPERATIONS: u32 = 8;
 
 /// How many of them are open at once, in a history of operations that are all open.
 const OPEN: u32 = 8;
+
+const SEATS: usize = 8;
 
 /// More ends than histories of so few operations have.
 const BUDGET: u32 = 1_000_000;
@@ -103,9 +106,15 @@ impl Request {
         kind: ModelKind,
     ) -> Result<Part, AllocError> {
         match (self.name, kind) {
-            (Name::Read, ModelKind::Set | ModelKind::WideSet) => Ok(Part::Set(some_members(
-                alloc, numbers,
-            )?)),
+            (Name::Read, ModelKind::Set | ModelKind::WideSet) => {
+                let mut members = Members::new(alloc);
+                for value in 1i64..3 {
+                    if numbers.below(2) == 0 {
+                        members = members.with(value)?;
+                    }
+                }
+                Ok(Part::Set(members))
+            }
             (Name::Read, _) if numbers.below(6) == 0 => Ok(Part::Nil),
             (Name::Read | Name::Dequeue, _) => Ok(Part::Int(numbers.value())),
             _ => Ok(self.part()),
@@ -123,25 +132,6 @@ impl Request {
             _ => EventKind::Ok,
         }
     }
-
-    /// The operation with this part.
-    fn with(self, part: Part) -> Op {
-        Op {
-            name: self.name,
-            key: KEY,
-            part,
-        }
-    }
-}
-
-fn some_members(alloc: Global, numbers: &mut Numbers) -> Result<Members, AllocError> {
-    let mut members = Members::new(alloc);
-    for value in 1i64..3 {
-        if numbers.below(2) == 0 {
-            members = members.with(value)?;
-        }
-    }
-    Ok(members)
 }
 
 /// An operation that is open.
@@ -176,23 +166,10 @@ struct Seen {
     failed: bool,
     crashed: bool,
     crashed_read: bool,
-}
-
-impl Seen {
-    /// After an operation of this name has ended so, and the frontier has answered this. A crash is answered Alive, even of a
-    /// frontier that is dead.
-    fn after(self, name: Name, kind: EventKind, step: Step) -> Result<Seen, Fail> {
-        if step == Step::Over {
-            return Err("more ends than the budget".into());
-        }
-        let crashes = kind == EventKind::Info;
-        Ok(Seen {
-            dead: step == Step::Dead || crashes && self.dead,
-            failed: self.failed || kind == EventKind::Fail,
-            crashed: self.crashed || crashes,
-            crashed_read: self.crashed_read || crashes && name == Name::Read,
-        })
-    }
+    /// There were more ends than the budget.
+    over: bool,
+    /// A wide kind answered otherwise than its plain kind.
+    differs: bool,
 }
 
 /// The plain kind of the same objects, of a wide kind.
@@ -207,7 +184,7 @@ fn plain_kind(kind: ModelKind) -> Option<ModelKind> {
     }
 }
 
-/// A history as it grows, with the frontier of its events; and of a wide kind with the one of the plain kind, too.
+/// A history as it grows, with its judge; and of a wide kind with the one of the plain kind, too.
 #[derive(Drop)]
 struct Run {
     alloc: Global,
@@ -215,17 +192,19 @@ struct Run {
     form: Form,
     threads: u32,
     history: History,
-    frontier: AnyFrontier,
-    plain: Option<AnyFrontier>,
+    own: Judge,
+    plain: Option<Judge>,
     invoked: u32,
     seen: Seen,
 }
 
 impl Run {
-    fn new(alloc: Global, kind: ModelKind, form: Form) -> Result<Run, Fail> {
+    fn new(alloc: Global, kind: ModelKind, form: Form) -> Result<Run, Refusal> {
         let threads = if form == Form::AllOpen { OPEN } else { 3 };
+        let history = History::new(alloc, threads)?;
+        let own = Judge::start(alloc, kind, BUDGET)?;
         let plain = match plain_kind(kind) {
-            Some(plain) => Some(AnyFrontier::start(alloc, plain, BUDGET)?),
+            Some(plain) => Some(Judge::start(alloc, plain, BUDGET)?),
             None => None,
         };
         Ok(Run {
@@ -233,21 +212,20 @@ impl Run {
             kind,
             form,
             threads,
-            history: History::new(alloc, threads)?,
-            frontier: AnyFrontier::start(alloc, kind, BUDGET)?,
+            history,
+            own,
             plain,
             invoked: 0,
             seen: Seen::default(),
         })
     }
 
-    /// The frontier and the history get the same event of the operation with this id.
-    fn append(&mut self, id: u32, kind: EventKind, process: u32, op: Op) -> Result<Step, Fail> {
-        let step = self.frontier.observe(id, kind, &op)?;
+    /// The judges and the history get the same event of the operation with this id.
+    fn append(&mut self, id: u32, kind: EventKind, process: u32, op: Op) -> Result<Step, Refusal> {
+        let step = self.own.observe(id, kind, &op)?;
         if let Some(plain) = &mut self.plain {
-            if plain.observe(id, kind, &op)? != step {
-                return Err("a wide kind answers otherwise".into());
-            }
+            let other = plain.observe(id, kind, &op)?;
+            self.seen.differs = self.seen.differs || other != step;
         }
         self.history.push(Event {
             index: None,
@@ -259,7 +237,7 @@ impl Run {
     }
 
     /// The next step of the thread.
-    fn go_on(&mut self, numbers: &mut Numbers, thread: Thread) -> Result<Thread, Fail> {
+    fn go_on(&mut self, numbers: &mut Numbers, thread: Thread) -> Result<Thread, Refusal> {
         match thread.call {
             Some(call) => self.end(numbers, thread.process, call),
             None => self.invoke(numbers, thread.process),
@@ -267,14 +245,21 @@ impl Run {
     }
 
     /// The process invokes an operation, unless there are enough.
-    fn invoke(&mut self, numbers: &mut Numbers, process: u32) -> Result<Thread, Fail> {
+    fn invoke(&mut self, numbers: &mut Numbers, process: u32) -> Result<Thread, Refusal> {
         if self.invoked >= MOST_OPERATIONS {
-            return Ok(idle(process));
+            return Ok(Thread {
+                process,
+                call: None,
+            });
         }
         self.invoked = self.invoked.wrapping_add(1);
         let request = Request::any(numbers, self.kind);
         let id = self.history.len();
-        let op = request.with(request.part());
+        let op = Op {
+            name: request.name,
+            key: KEY,
+            part: request.part(),
+        };
         let _ = self.append(id, EventKind::Invoke, process, op)?;
         Ok(Thread {
             process,
@@ -283,138 +268,175 @@ impl Run {
     }
 
     /// The open operation of the process returns, fails or crashes, and then the next process of the thread takes its place.
-    fn end(&mut self, numbers: &mut Numbers, process: u32, call: Call) -> Result<Thread, Fail> {
-        let kind = call.request.end(numbers, self.form);
+    fn end(&mut self, numbers: &mut Numbers, process: u32, call: Call) -> Result<Thread, Refusal> {
+        let request = call.request;
+        let kind = request.end(numbers, self.form);
         let part = match kind {
-            EventKind::Ok => call.request.answer(self.alloc, numbers, self.kind)?,
-            _ => call.request.part(),
+            EventKind::Ok => request.answer(self.alloc, numbers, self.kind)?,
+            _ => request.part(),
         };
-        let step = self.append(call.id, kind, process, call.request.with(part))?;
-        self.seen = self.seen.after(call.request.name, kind, step)?;
-        match kind {
-            EventKind::Info => Ok(idle(process.wrapping_add(self.threads))),
-            _ => Ok(idle(process)),
-        }
+        let op = Op {
+            name: request.name,
+            key: KEY,
+            part,
+        };
+        let step = self.append(call.id, kind, process, op)?;
+        self.note(request.name, kind, step);
+        let process = match kind {
+            EventKind::Info => process.wrapping_add(self.threads),
+            _ => process,
+        };
+        Ok(Thread {
+            process,
+            call: None,
+        })
+    }
+
+    /// Notes that an operation of this name has ended so, and that its judge has answered this. A crash is answered Alive, even of a judge
+    /// whose history is not linearizable.
+    fn note(&mut self, name: Name, kind: EventKind, step: Step) {
+        let seen = self.seen;
+        let crashes = kind == EventKind::Info;
+        self.seen = Seen {
+            dead: step == Step::Dead || crashes && seen.dead,
+            failed: seen.failed || kind == EventKind::Fail,
+            crashed: seen.crashed || crashes,
+            crashed_read: seen.crashed_read || crashes && name == Name::Read,
+            over: seen.over || step == Step::Over,
+            differs: seen.differs,
+        };
     }
 
     /// Three threads go on in turn. Whether an operation is open at the end.
-    fn mix(&mut self, numbers: &mut Numbers) -> Result<bool, Fail> {
-        let mut threads = [idle(0), idle(1), idle(2)];
+    fn mix(&mut self, numbers: &mut Numbers) -> Result<bool, Refusal> {
+        let idle = Thread {
+            process: 0,
+            call: None,
+        };
+        let mut threads = [
+            idle,
+            Thread { process: 1, ..idle },
+            Thread { process: 2, ..idle },
+        ];
         let least = if self.form == Form::Crashing { 8 } else { 6 };
         for _ in 0..least + numbers.below(9) {
             let place = numbers.below(3) as usize;
             threads[place] = self.go_on(numbers, threads[place])?;
         }
-        Ok(threads.iter().any(|thread| thread.call.is_some()))
+        Ok(threads[0].call.is_some() || threads[1].call.is_some() || threads[2].call.is_some())
     }
 
     /// Each thread invokes an operation, and then all but two at most end. Whether one stays open.
-    fn open_all(&mut self, numbers: &mut Numbers) -> Result<bool, Fail> {
-        let mut threads = Vec::new(self.alloc);
+    fn open_all(&mut self, numbers: &mut Numbers) -> Result<bool, Refusal> {
+        let mut threads = [Thread {
+            process: 0,
+            call: None,
+        }; SEATS];
         for process in 0..OPEN {
-            threads.push(self.invoke(numbers, process)?)?;
+            threads[process as usize] = self.invoke(numbers, process)?;
         }
         let stay_open = numbers.below(3);
-        for thread in threads.iter().skip(stay_open as usize) {
-            let _ = self.go_on(numbers, *thread)?;
+        for process in stay_open..OPEN {
+            let _ = self.go_on(numbers, threads[process as usize])?;
         }
         Ok(stay_open > 0)
     }
 }
 
-fn idle(process: u32) -> Thread {
-    Thread {
-        process,
-        call: None,
-    }
-}
+/// How many histories are legal, are illegal, have an open operation at the end, a failed one, a crashed one, a crashed read; have more ends
+/// than the budget, have an event that a plain kind answers otherwise, and are legal by their orders but not by their ends, or the other way
+/// round.
+type Tally = [u32; 9];
 
-/// How many histories are such.
-#[derive(Clone, Copy, Default)]
-struct Tally {
-    legal: u32,
-    illegal: u32,
-    open: u32,
-    failed: u32,
-    crashed: u32,
-    crashed_read: u32,
-}
-
-fn more(count: u32, is_such: bool) -> u32 {
-    count.wrapping_add(u32::from(is_such))
-}
-
-impl Tally {
-    fn with(self, seen: Seen, is_open: bool) -> Tally {
-        Tally {
-            legal: more(self.legal, !seen.dead),
-            illegal: more(self.illegal, seen.dead),
-            open: more(self.open, is_open),
-            failed: more(self.failed, seen.failed),
-            crashed: more(self.crashed, seen.crashed),
-            crashed_read: more(self.crashed_read, seen.crashed_read),
-        }
-    }
-
-    fn and(self, other: Tally) -> Tally {
-        Tally {
-            legal: self.legal.wrapping_add(other.legal),
-            illegal: self.illegal.wrapping_add(other.illegal),
-            open: self.open.wrapping_add(other.open),
-            failed: self.failed.wrapping_add(other.failed),
-            crashed: self.crashed.wrapping_add(other.crashed),
-            crashed_read: self.crashed_read.wrapping_add(other.crashed_read),
-        }
-    }
-}
-
-/// Counts one more history, after both answers about it were compared.
+/// The tally with one more history, after both answers about it were compared.
 fn compare(
     alloc: Global,
     numbers: &mut Numbers,
     kind: ModelKind,
     form: Form,
     tally: Tally,
-) -> Result<Tally, Fail> {
+) -> Result<Tally, Refusal> {
     let mut run = Run::new(alloc, kind, form)?;
     let is_open = match form {
         Form::Mixed | Form::Crashing => run.mix(numbers)?,
         Form::AllOpen => run.open_all(numbers)?,
     };
-    if brute(alloc, &run.history, &[(KEY, kind)])? == run.seen.dead {
-        return Err("the answers differ".into());
-    }
-    Ok(tally.with(run.seen, is_open))
+    let seen = run.seen;
+    let has_order = brute(alloc, &run.history, &[(KEY, kind)])?;
+    Ok(with(
+        tally,
+        [
+            !seen.dead,
+            seen.dead,
+            is_open,
+            seen.failed,
+            seen.crashed,
+            seen.crashed_read,
+            seen.over,
+            seen.differs,
+            has_order == seen.dead,
+        ],
+    ))
 }
 
-/// Compares `count` histories of each of these kinds; the number of a kind says how many must be legal.
-fn compare_all(
-    alloc: Global,
+fn with(mut tally: Tally, is_such: [bool; 9]) -> Tally {
+    for place in 0..9usize {
+        tally[place] = tally[place].wrapping_add(u32::from(is_such[place]));
+    }
+    tally
+}
+
+/// Histories to be compared: the seed of their numbers, their form, how many there are of each kind, and how many of these are legal; and
+/// the tally of all, or None.
+struct Compared {
     seed: u64,
     form: Form,
     count: u32,
-    kinds: &[(ModelKind, u32)],
-) -> Result<Tally, Fail> {
-    let mut numbers = Numbers { state: seed };
-    let mut all = Tally::default();
-    for (kind, legal) in kinds.iter() {
-        let mut of_kind = Tally::default();
-        for _ in 0..count {
-            of_kind = compare(alloc, &mut numbers, *kind, form, of_kind)?;
+    kinds: &'static [(ModelKind, u32)],
+    all: [Option<u32>; 9],
+}
+
+/// The tally of the histories; None if more or fewer of a kind are legal.
+fn tally_of(alloc: Global, compared: &Compared) -> Result<Option<Tally>, Refusal> {
+    let mut numbers = Numbers {
+        state: compared.seed,
+    };
+    let mut tally = [0; 9];
+    for (kind, legal) in compared.kinds {
+        let before = tally[0];
+        for _ in 0..compared.count {
+            tally = compare(alloc, &mut numbers, *kind, compared.form, tally)?;
         }
-        if (of_kind.legal, of_kind.illegal) != (*legal, count.saturating_sub(*legal)) {
-            return Err("more or fewer of a kind are legal".into());
+        if tally[0] != before.wrapping_add(*legal) {
+            return Ok(None);
         }
-        all = all.and(of_kind);
     }
-    Ok(all)
+    Ok(Some(tally))
+}
+
+fn is_tally(want: &[Option<u32>; 9], tally: Tally) -> bool {
+    for place in 0..9usize {
+        if want[place].is_some_and(|count| count != tally[place]) {
+            return false;
+        }
+    }
+    true
+}
+
+fn agree(alloc: Global, compared: &Compared) -> bool {
+    match tally_of(alloc, compared) {
+        Ok(Some(tally)) => is_tally(&compared.all, tally),
+        _ => false,
+    }
 }
 
 /// There are 600 histories, 60 of each kind but wide fifo queues, since values are equal here. The rows have how many are legal. In 520 an
 /// operation is open at the end, in 296 one has failed, in 326 one has crashed.
-#[test]
-fn orders_and_ends_agree(rt: HostRuntime) -> Result<(), Fail> {
-    let kinds = [
+const MIXED: Compared = Compared {
+    seed: 1,
+    form: Form::Mixed,
+    count: 60,
+    kinds: &[
         (ModelKind::Register, 24),
         (ModelKind::CasRegister, 24),
         (ModelKind::Mutex, 34),
@@ -425,51 +447,93 @@ fn orders_and_ends_agree(rt: HostRuntime) -> Result<(), Fail> {
         (ModelKind::WideSet, 17),
         (ModelKind::WideCasRegister, 28),
         (ModelKind::WideUnorderedQueue, 20),
-    ];
-    let all = compare_all(rt.alloc(), 1, Form::Mixed, 60, &kinds)?;
-    assert!(rt; (all.legal, all.illegal) == (238, 362));
-    assert!(rt; (all.open, all.failed, all.crashed) == (520, 296, 326));
-    Ok(())
+    ],
+    all: [
+        Some(238),
+        Some(362),
+        Some(520),
+        Some(296),
+        Some(326),
+        None,
+        Some(0),
+        Some(0),
+        Some(0),
+    ],
+};
+
+#[test]
+fn orders_and_ends_agree(rt: HostRuntime) {
+    assert!(rt; agree(rt.alloc(), &MIXED));
 }
 
 /// 120 more histories, 20 of each kind, each have eight operations that are open at once. This number are legal and the others are not. In
 /// 80 an operation has failed, in 89 one has crashed.
-#[test]
-fn orders_and_ends_agree_on_eight_open(rt: HostRuntime) -> Result<(), Fail> {
-    let kinds = [
+const EIGHT_OPEN: Compared = Compared {
+    seed: 2,
+    form: Form::AllOpen,
+    count: 20,
+    kinds: &[
         (ModelKind::Register, 14),
         (ModelKind::CasRegister, 13),
         (ModelKind::Mutex, 14),
         (ModelKind::FifoQueue, 8),
         (ModelKind::Set, 12),
         (ModelKind::UnorderedQueue, 8),
-    ];
-    let all = compare_all(rt.alloc(), 2, Form::AllOpen, 20, &kinds)?;
-    assert!(rt; (all.legal, all.illegal) == (69, 51));
-    assert!(rt; (all.failed, all.crashed) == (80, 89));
-    Ok(())
+    ],
+    all: [
+        Some(69),
+        Some(51),
+        None,
+        Some(80),
+        Some(89),
+        None,
+        Some(0),
+        Some(0),
+        Some(0),
+    ],
+};
+
+#[test]
+fn orders_and_ends_agree_on_eight_open(rt: HostRuntime) {
+    assert!(rt; agree(rt.alloc(), &EIGHT_OPEN));
 }
 
 /// So it is of 80 more, 20 of each wide kind but that of fifo queues. In 56 an operation has failed, in 65 one has crashed.
-#[test]
-fn wide_kinds_agree_on_eight_open(rt: HostRuntime) -> Result<(), Fail> {
-    let kinds = [
+const WIDE_EIGHT_OPEN: Compared = Compared {
+    seed: 4,
+    form: Form::AllOpen,
+    count: 20,
+    kinds: &[
         (ModelKind::WideRegister, 14),
         (ModelKind::WideSet, 12),
         (ModelKind::WideCasRegister, 12),
         (ModelKind::WideUnorderedQueue, 8),
-    ];
-    let all = compare_all(rt.alloc(), 4, Form::AllOpen, 20, &kinds)?;
-    assert!(rt; (all.legal, all.illegal) == (46, 34));
-    assert!(rt; (all.failed, all.crashed) == (56, 65));
-    Ok(())
+    ],
+    all: [
+        Some(46),
+        Some(34),
+        None,
+        Some(56),
+        Some(65),
+        None,
+        Some(0),
+        Some(0),
+        Some(0),
+    ],
+};
+
+#[test]
+fn wide_kinds_agree_on_eight_open(rt: HostRuntime) {
+    assert!(rt; agree(rt.alloc(), &WIDE_EIGHT_OPEN));
 }
 
 /// There are 400 more histories: 50 for each kind that reads and for each kind of unordered queues. Half of their reads that end crash. The
 /// rows have how many are legal. In 217 a read has crashed, in 214 an operation has failed.
-#[test]
-fn orders_and_ends_agree_on_crashed_reads(rt: HostRuntime) -> Result<(), Fail> {
-    let kinds = [
+const CRASHED_READS: Compared = Compared {
+    seed: 3,
+    form: Form::Crashing,
+    count: 50,
+    kinds: &[
         (ModelKind::Register, 33),
         (ModelKind::CasRegister, 23),
         (ModelKind::Set, 24),
@@ -478,9 +542,21 @@ fn orders_and_ends_agree_on_crashed_reads(rt: HostRuntime) -> Result<(), Fail> {
         (ModelKind::WideSet, 28),
         (ModelKind::WideCasRegister, 18),
         (ModelKind::WideUnorderedQueue, 18),
-    ];
-    let all = compare_all(rt.alloc(), 3, Form::Crashing, 50, &kinds)?;
-    assert!(rt; (all.legal, all.illegal) == (181, 219));
-    assert!(rt; (all.failed, all.crashed, all.crashed_read) == (214, 315, 217));
-    Ok(())
+    ],
+    all: [
+        Some(181),
+        Some(219),
+        None,
+        Some(214),
+        Some(315),
+        Some(217),
+        Some(0),
+        Some(0),
+        Some(0),
+    ],
+};
+
+#[test]
+fn orders_and_ends_agree_on_crashed_reads(rt: HostRuntime) {
+    assert!(rt; agree(rt.alloc(), &CRASHED_READS));
 }
