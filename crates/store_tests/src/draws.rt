@@ -1,10 +1,12 @@
 //! Draws by hand.
-use crate::forms::{Form, Kind, cycle_of, generator_of};
+use crate::forms::{Form, Kind, MEMORY, cycle_of, generator_of};
 use events::Fault;
 use generators::{Asker, Drawn, Item, Source};
 use rand_chacha::ChaCha8Rng;
 use rand_core::{Rng, SeedableRng};
-use std::alloc::{AllocError, Global};
+use std::alloc::Global;
+use std::panic::Expect;
+use std::process::Abort;
 
 const BOTH: [bool; 2] = [true, true];
 
@@ -33,30 +35,37 @@ fn drawn(source: &mut Source, idle: &[bool], asker: Asker) -> &'static str {
     }
 }
 
-fn source_of(alloc: Global, seed: u64, forms: &[Form]) -> Result<Source, AllocError> {
-    Ok(Source::new(alloc, generator_of(alloc, forms)?, seed))
+fn source_of<R: Abort>(rt: &R, alloc: Global, seed: u64, forms: &[Form]) -> Source {
+    Source::new(alloc, generator_of(rt, alloc, forms), seed)
 }
 
-// Whether a draw for each row, in turn, is what the row says; and the places of the source and of a copy of it then.
-fn followed(
+// Whether a draw for each row, in turn, is what the row says.
+fn draws(source: &mut Source, rows: &[Row]) -> bool {
+    for (idle, asker, want) in rows {
+        if drawn(source, idle, *asker) != *want {
+            return false;
+        }
+    }
+    true
+}
+
+// The same of a new source, and the places of it and of a copy then.
+fn followed<R: Abort>(
+    rt: &R,
     alloc: Global,
     seed: u64,
     forms: &[Form],
     rows: &[Row],
-) -> Result<(bool, u128, u128), AllocError> {
-    let mut source = source_of(alloc, seed, forms)?;
-    for (idle, asker, want) in rows {
-        if drawn(&mut source, idle, *asker) != *want {
-            return Ok((false, 0, 0));
-        }
-    }
-    let copy = source.copy()?;
-    Ok((true, source.place(), copy.place()))
+) -> (bool, u128, u128) {
+    let mut source = source_of(rt, alloc, seed, forms);
+    let follows = draws(&mut source, rows);
+    let copy = source.copy().expect(rt, MEMORY);
+    (follows, source.place(), copy.place())
 }
 
-// The same, in short.
-fn follows(alloc: Global, forms: &[Form], rows: &[Row]) -> bool {
-    matches!(followed(alloc, 0, forms, rows), Ok((true, _, _)))
+fn follows<R: Abort>(rt: &R, alloc: Global, forms: &[Form], rows: &[Row]) -> bool {
+    let (follows, _, _) = followed(rt, alloc, 0, forms, rows);
+    follows
 }
 
 // The first three of writes and reads in turn.
@@ -71,7 +80,7 @@ const OF_THREE: [Row; 4] = [
 
 #[test]
 fn limit_and_cycle(rt: HostRuntime) {
-    assert!(rt; followed(rt.alloc(), 0, &THREE_OF_TWO, &OF_THREE) == Ok((true, 0, 0)));
+    assert!(rt; followed(&rt, rt.alloc(), 0, &THREE_OF_TWO, &OF_THREE) == (true, 0, 0));
 }
 
 // A write and then reads, in phases.
@@ -90,7 +99,7 @@ const IN_PHASES: [Row; 3] = [
 
 #[test]
 fn phases_wait_for_idle(rt: HostRuntime) {
-    assert!(rt; follows(rt.alloc(), &PHASES, &IN_PHASES));
+    assert!(rt; follows(&rt, rt.alloc(), &PHASES, &IN_PHASES));
 }
 
 // A read for each thread.
@@ -106,7 +115,7 @@ const FOR_EACH: [Row; 5] = [
 
 #[test]
 fn each_thread_once(rt: HostRuntime) {
-    assert!(rt; follows(rt.alloc(), &READ_EACH, &FOR_EACH));
+    assert!(rt; follows(&rt, rt.alloc(), &READ_EACH, &FOR_EACH));
 }
 
 // A heal of the nemesis, and then reads of the clients.
@@ -128,7 +137,7 @@ const IN_SEQUENCE: [Row; 4] = [
 
 #[test]
 fn nemesis_then_clients(rt: HostRuntime) {
-    assert!(rt; follows(rt.alloc(), &HEAL_THEN_READS, &IN_SEQUENCE));
+    assert!(rt; follows(&rt, rt.alloc(), &HEAL_THEN_READS, &IN_SEQUENCE));
 }
 
 // A mix of an inner mix that gives nothing, and of reads.
@@ -141,16 +150,21 @@ const MIXED_WITH_NOTHING: [Form; 4] = [
 
 const A_READ: [Row; 1] = [(BOTH, ZERO, "read")];
 
-// An inner mix that gives nothing takes a word of its own where it is asked first.
+// The place of the stream after a read of that: the inner mix takes a word of its own where it is asked first.
+fn place_of(seed: u64) -> u128 {
+    if ChaCha8Rng::seed_from_u64(seed).next_u32() % 2 == 0 {
+        2
+    } else {
+        1
+    }
+}
+
 #[test]
 fn mix_moves_the_stream(rt: HostRuntime) {
     for seed in 0..16 {
-        let first = ChaCha8Rng::seed_from_u64(seed).next_u32();
-        let place = if first % 2 == 0 { 2 } else { 1 };
-        assert!(rt;
-            followed(rt.alloc(), seed, &MIXED_WITH_NOTHING, &A_READ) == Ok((true, place, place)),
-            "{seed}"
-        );
+        let place = place_of(seed);
+        let told = followed(&rt, rt.alloc(), seed, &MIXED_WITH_NOTHING, &A_READ);
+        assert!(rt; told == (true, place, place), "{seed}");
     }
 }
 
@@ -158,7 +172,7 @@ const NOTHING: [Form; 1] = [Form::Ops(&[])];
 
 #[test]
 fn empty_ops_is_done(rt: HostRuntime) {
-    assert!(rt; follows(rt.alloc(), &NOTHING, &[(BOTH, ZERO, "done")]));
+    assert!(rt; follows(&rt, rt.alloc(), &NOTHING, &[(BOTH, ZERO, "done")]));
 }
 
 // A mix of two, so that the order of the answers is that of the stream.
@@ -169,30 +183,41 @@ const MIXED: [Form; 4] = [
     Form::Limit(40),
 ];
 
-// The word that a draw answers where it asks first whom the stream's word says.
-fn asked_by(word: u32) -> &'static str {
-    if word % 2 == 0 { "write" } else { "read" }
-}
-
-// Whether 40 draws are those of the words of the seed, each at its place, and nothing is drawn behind them.
-fn draws_of_words(alloc: Global) -> Result<bool, AllocError> {
-    let mut source = source_of(alloc, 7, &MIXED)?;
-    let mut words = ChaCha8Rng::seed_from_u64(7);
-    for before in 0..40u64 {
-        if source.place() != u128::from(before) {
-            return Ok(false);
-        }
-        if drawn(&mut source, &BOTH, ZERO) != asked_by(words.next_u32()) {
-            return Ok(false);
+// The words that 40 draws answer, each of which asks first whom the low bit of a word of the seed says.
+fn asked_by(seed: u64) -> [&'static str; 40] {
+    let mut words = ChaCha8Rng::seed_from_u64(seed);
+    let mut asked = ["write"; 40];
+    for word in asked.iter_mut() {
+        if words.next_u32() % 2 == 1 {
+            *word = "read";
         }
     }
-    Ok(drawn(&mut source, &BOTH, ZERO) == "done" && source.place() == 40)
+    asked
+}
+
+// Whether the draws are these, each at its place.
+fn are_drawn(source: &mut Source, wants: &[&str]) -> bool {
+    for (place, want) in wants.iter().enumerate() {
+        if source.place() != place as u128 || drawn(source, &BOTH, ZERO) != *want {
+            return false;
+        }
+    }
+    true
+}
+
+// Whether 40 draws are those of the words of the seed, and nothing is drawn behind them.
+fn draws_of_words<R: Abort>(rt: &R, alloc: Global) -> bool {
+    let asked = asked_by(7);
+    let mut source = source_of(rt, alloc, 7, &MIXED);
+    are_drawn(&mut source, &asked)
+        && drawn(&mut source, &BOTH, ZERO) == "done"
+        && source.place() == 40
 }
 
 // The low bit of each word says which child is asked first, and both always give an item.
 #[test]
 fn words_are_those_of_the_seed(rt: HostRuntime) {
-    assert!(rt; draws_of_words(rt.alloc()) == Ok(true));
+    assert!(rt; draws_of_words(&rt, rt.alloc()));
 }
 
 // Whether both draw the same, each at the same place.
@@ -208,18 +233,18 @@ fn draw_the_same(copy: &mut Source, source: &mut Source) -> bool {
     true
 }
 
-fn copy_draws_the_same(alloc: Global) -> Result<bool, AllocError> {
-    let mut source = source_of(alloc, 3, &MIXED)?;
+fn copy_draws_the_same<R: Abort>(rt: &R, alloc: Global) -> bool {
+    let mut source = source_of(rt, alloc, 3, &MIXED);
     for _ in 0..5 {
         drawn(&mut source, &BOTH, ZERO);
     }
-    let mut copy = source.copy()?;
-    Ok(draw_the_same(&mut copy, &mut source))
+    let mut copy = source.copy().expect(rt, MEMORY);
+    draw_the_same(&mut copy, &mut source)
 }
 
 #[test]
 fn copies_draw_the_same(rt: HostRuntime) {
-    assert!(rt; copy_draws_the_same(rt.alloc()) == Ok(true));
+    assert!(rt; copy_draws_the_same(&rt, rt.alloc()));
 }
 
 fn prepared(source: &mut Source, asker: Asker) -> &'static str {
@@ -249,20 +274,20 @@ fn is_seen_once(source: &mut Source, place: u128) -> bool {
     first == second && first.1 == place && once == place.saturating_add(1) && twice == once
 }
 
-fn is_seen_once_committed(alloc: Global) -> Result<bool, AllocError> {
-    let mut source = source_of(alloc, 5, &MIXED)?;
-    for before in 0..10u64 {
-        if !is_seen_once(&mut source, u128::from(before)) {
-            return Ok(false);
+fn is_seen_once_committed<R: Abort>(rt: &R, alloc: Global) -> bool {
+    let mut source = source_of(rt, alloc, 5, &MIXED);
+    for place in 0..10u128 {
+        if !is_seen_once(&mut source, place) {
+            return false;
         }
     }
-    Ok(true)
+    true
 }
 
 // A prepared draw is visible only after its commit, and a commit of nothing changes nothing.
 #[test]
 fn prepared_draw_changes_nothing(rt: HostRuntime) {
-    assert!(rt; is_seen_once_committed(rt.alloc()) == Ok(true));
+    assert!(rt; is_seen_once_committed(&rt, rt.alloc()));
 }
 
 // A write and a read, the first of which was given: one of them, and a copy of that.
@@ -275,21 +300,22 @@ const TURNED_COPY: [Form; 3] = [
 ];
 
 // How many items a cycle has after its first was given.
-fn turned_items(alloc: Global) -> Result<usize, AllocError> {
-    let mut cycle = cycle_of(alloc, &[Kind::Write, Kind::Read])?;
+fn turned_items<R: Abort>(rt: &R, alloc: Global) -> usize {
+    let mut cycle = cycle_of(rt, alloc, &[Kind::Write, Kind::Read]);
     cycle.turn();
-    Ok(cycle.items().len())
+    cycle.items().len()
 }
 
-fn is_over(alloc: Global, forms: &[Form]) -> Result<bool, AllocError> {
-    Ok(generator_of(alloc, forms)?.is_over())
+fn is_over<R: Abort>(rt: &R, alloc: Global, forms: &[Form]) -> bool {
+    generator_of(rt, alloc, forms).is_over()
 }
+
+const LEFT: [Row; 2] = [(BOTH, ZERO, "read"), (BOTH, ZERO, "done")];
 
 // A cycle has its items whatever was given, and a copy of a generator is as far as the generator.
 #[test]
 fn copies_of_generators(rt: HostRuntime) {
-    assert!(rt; turned_items(rt.alloc()) == Ok(2));
-    assert!(rt; is_over(rt.alloc(), &TURNED) == Ok(false));
-    let rows = &[(BOTH, ZERO, "read"), (BOTH, ZERO, "done")];
-    assert!(rt; follows(rt.alloc(), &TURNED_COPY, rows));
+    assert!(rt; turned_items(&rt, rt.alloc()) == 2);
+    assert!(rt; !is_over(&rt, rt.alloc(), &TURNED));
+    assert!(rt; follows(&rt, rt.alloc(), &TURNED_COPY, &LEFT));
 }

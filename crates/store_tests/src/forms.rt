@@ -2,7 +2,13 @@
 use events::Fault;
 use generators::{Cycle, Gen, Item};
 use models::{Name, Op, Part};
-use std::alloc::{AllocError, Global};
+use std::alloc::Global;
+use std::mem::replace;
+use std::panic::Expect;
+use std::process::Abort;
+
+/// What a test says if memory runs out.
+pub const MEMORY: &str = "no memory";
 
 /// An item: a write of 1 to key 0, a read of it, or a fault.
 #[derive(Clone, Copy)]
@@ -41,34 +47,34 @@ fn item_of(kind: Kind) -> Item {
 }
 
 /// The items in turn.
-pub fn cycle_of(alloc: Global, kinds: &[Kind]) -> Result<Cycle, AllocError> {
+pub fn cycle_of<R: Abort>(rt: &R, alloc: Global, kinds: &[Kind]) -> Cycle {
     let mut items = Vec::new(alloc);
     for kind in kinds {
-        items.push(item_of(*kind))?;
+        items.push(item_of(*kind)).expect(rt, MEMORY);
     }
-    Ok(Cycle::new(items))
+    Cycle::new(items)
 }
 
-fn turned(alloc: Global, kinds: &[Kind]) -> Result<Gen, AllocError> {
-    let mut cycle = cycle_of(alloc, kinds)?;
+fn turned<R: Abort>(rt: &R, alloc: Global, kinds: &[Kind]) -> Cycle {
+    let mut cycle = cycle_of(rt, alloc, kinds);
     cycle.turn();
-    Ok(Gen::Ops(cycle.copy()?))
+    cycle.copy().expect(rt, MEMORY)
+}
+
+fn boxed<R: Abort>(rt: &R, alloc: Global, child: Gen) -> Box<Gen> {
+    Box::new(alloc, child).expect(rt, MEMORY)
 }
 
 // The form of one generator.
-fn of_one(alloc: Global, form: Form, child: Gen) -> Result<Gen, AllocError> {
+fn of_one<R: Abort>(rt: &R, alloc: Global, form: Form, child: Gen) -> Gen {
     match form {
-        Form::EachOfTwo => return Gen::each_thread(alloc, 2, child),
-        Form::Copied => return child.copy(alloc),
-        _ => {}
+        Form::Limit(most) => Gen::Limit(most, boxed(rt, alloc, child)),
+        Form::Clients => Gen::Clients(boxed(rt, alloc, child)),
+        Form::Nemesis => Gen::Nemesis(boxed(rt, alloc, child)),
+        Form::EachOfTwo => Gen::each_thread(alloc, 2, child).expect(rt, MEMORY),
+        Form::Copied => child.copy(alloc).expect(rt, MEMORY),
+        _ => child,
     }
-    let child = Box::new(alloc, child)?;
-    Ok(match form {
-        Form::Clients => Gen::Clients(child),
-        Form::Nemesis => Gen::Nemesis(child),
-        Form::Limit(most) => Gen::Limit(most, child),
-        _ => Gen::Limit(u64::MAX, child),
-    })
 }
 
 // The form of all generators.
@@ -80,34 +86,22 @@ fn of_all(form: Form, children: Vec<Gen>) -> Gen {
     }
 }
 
-// The generators so far, and then those after this form.
-fn after(alloc: Global, made: Vec<Gen>, form: Form) -> Result<Vec<Gen>, AllocError> {
-    let mut made = made;
+// The generator that a form makes of those so far.
+fn made_of<R: Abort>(rt: &R, alloc: Global, form: Form, made: &mut Vec<Gen>) -> Gen {
     match form {
-        Form::Ops(kinds) => made.push(Gen::Ops(cycle_of(alloc, kinds)?))?,
-        Form::Turned(kinds) => made.push(turned(alloc, kinds)?)?,
-        Form::Phases | Form::Seq | Form::Mix => {
-            let all = of_all(form, made);
-            made = Vec::new(alloc);
-            made.push(all)?;
-        }
-        _ => {
-            if let Some(child) = made.pop() {
-                made.push(of_one(alloc, form, child)?)?;
-            }
-        }
+        Form::Ops(kinds) => Gen::Ops(cycle_of(rt, alloc, kinds)),
+        Form::Turned(kinds) => Gen::Ops(turned(rt, alloc, kinds)),
+        Form::Phases | Form::Seq | Form::Mix => of_all(form, replace(made, Vec::new(alloc))),
+        _ => of_one(rt, alloc, form, made.pop().expect(rt, "no generator")),
     }
-    Ok(made)
 }
 
 /// The generator of these forms: the last one that they make.
-pub fn generator_of(alloc: Global, forms: &[Form]) -> Result<Gen, AllocError> {
+pub fn generator_of<R: Abort>(rt: &R, alloc: Global, forms: &[Form]) -> Gen {
     let mut made = Vec::new(alloc);
     for form in forms {
-        made = after(alloc, made, *form)?;
+        let generator = made_of(rt, alloc, *form, &mut made);
+        made.push(generator).expect(rt, MEMORY);
     }
-    match made.pop() {
-        Some(generator) => Ok(generator),
-        None => Ok(Gen::Ops(Cycle::new(Vec::new(alloc)))),
-    }
+    made.pop().expect(rt, "no generator")
 }
