@@ -5,16 +5,18 @@ use crate::boards::Trial;
 use crate::lines::Line;
 use crate::parts::{Parts, played};
 use crate::shared::SharedBoard;
+use crate::waiting::TURNS;
 use std::sync::Wait;
 use std::sync::atomic::{AtomicU32, Ordering};
 use std::thread;
-use crate::waiting::TURNS;
 
 const CUTS: u32 = 50;
 
 // Refusals of a thread whose operation is open, and of an operation that is not open any more.
 const BUSY: Answer = Answer::Refused(1);
+
 const NOT_OPEN: Answer = Answer::Refused(3);
+
 const STALE: Answer = Answer::Refused(17);
 
 // What a client does after a draw: its next call, or its end, well or not.

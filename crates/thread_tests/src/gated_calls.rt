@@ -5,10 +5,10 @@ use crate::lines::Line;
 use crate::noted::Noted;
 use crate::parts::{Parts, played};
 use crate::shared::SharedBoard;
+use crate::waiting::{TURNS, comes};
 use edn::Gate;
 use std::sync::Wait;
 use std::sync::atomic::{AtomicBool, Ordering};
-use crate::waiting::{TURNS, comes};
 
 /// The turns for which a gate holds its call, if no other is answered meanwhile.
 const HELD: u32 = 20_000;

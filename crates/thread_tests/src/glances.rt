@@ -4,10 +4,10 @@ use crate::boards::NO_TRIAL;
 use crate::noted::Noted;
 use crate::parts::{Parts, played};
 use crate::shared::SharedBoard;
+use crate::waiting::{TURNS, comes};
 use edn::Gate;
 use std::sync::Wait;
 use std::sync::atomic::{AtomicBool, AtomicU32, Ordering};
-use crate::waiting::{TURNS, comes};
 
 // A moment of a call, which lasts until a glance was made, for some turns; the number of the calling seat, and the glance.
 #[derive(Drop)]

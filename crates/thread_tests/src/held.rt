@@ -71,10 +71,10 @@ fn held_by<B: Tag + Send + Sync, S: Session, R: Threads + Wait + Abort + Sync>(
     let (seats, said) = session.run(rt, alloc, &board, seats);
     let has_all_seats = seats.len() == count;
     let core = board.end(rt, seats);
-    (said, ended(alloc, &core, has_all_seats))
+    (said, what_ended(alloc, &core, has_all_seats))
 }
 
-fn ended(alloc: Global, core: &Core, has_all_seats: bool) -> Ended {
+fn what_ended(alloc: Global, core: &Core, has_all_seats: bool) -> Ended {
     let (events, first_faults) = counts(core);
     Ended {
         has_all_seats,

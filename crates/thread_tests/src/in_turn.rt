@@ -80,7 +80,12 @@ const MEMORY: [Row; 6] = [
     (0, Act::CallTwice(Line::WriteBegins), 1, Answer::Legal),
     (0, Act::CallTwice(Line::WriteEnds), 2, Answer::Legal),
     (0, Act::CallTwice(Line::ReadBegins), 3, Answer::Legal),
-    (0, Act::CallTwice(Line::ReadEnds(4)), 4, Answer::Illegal(7, 3)),
+    (
+        0,
+        Act::CallTwice(Line::ReadEnds(4)),
+        4,
+        Answer::Illegal(7, 3),
+    ),
     (0, Act::CallTwice(Line::ReadEnds(4)), 5, Answer::Refused(3)),
 ];
 

@@ -79,6 +79,11 @@ impl Session for Across {
 /// A seat that learns news in another thread sees by its next glance what the caller had seen, and its next call comes after that.
 #[test]
 fn news_between_threads(rt: HostRuntime) {
-    let (told, ended) = held(&rt, rt.alloc(), blank(&rt, rt.alloc(), 2, NO_TRIAL), &Across);
+    let (told, ended) = held(
+        &rt,
+        rt.alloc(),
+        blank(&rt, rt.alloc(), 2, NO_TRIAL),
+        &Across,
+    );
     assert!(rt; ended.has_all_seats && told == Some((2, 2, 3)));
 }

@@ -27,12 +27,16 @@ fn play_all<M: SharedBoard + Sync, P: Parts + Sync, R: Threads + Wait + Sync>(
     seats: &mut [M::Seat],
     threads: usize,
     parts: &P,
-) where
+)
+where
     M::Seat: Send,
 {
-    for_each_mut(rt, seats, threads.max(1), &|number, seat: &mut M::Seat| {
-        parts.play(rt, board, number, seat)
-    });
+    for_each_mut(
+        rt,
+        seats,
+        threads.max(1),
+        &|number, seat: &mut M::Seat| { parts.play(rt, board, number, seat) },
+    );
 }
 
 impl<P: Parts + Sync> Session for InThreads<'_, P> {
