@@ -7,8 +7,6 @@ mod counted;
 #[cfg(test)]
 mod draws;
 #[cfg(test)]
-mod forms;
-#[cfg(test)]
 mod outcomes;
 #[cfg(test)]
 mod schedules;

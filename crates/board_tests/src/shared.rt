@@ -1,0 +1,46 @@
+//! A board, as threads see it that share it.
+use crate::answers::{Answer, answer_of, seen_of};
+use board::{Board, Seat, Tag};
+use edn::Gate;
+use harness::Command;
+use std::sync::Wait;
+
+/// A board that threads share, each by a seat of its own. A call asks for the verdict.
+pub trait SharedBoard {
+    type Seat;
+
+    /// The number of the entry, and what was said.
+    fn call<R: Wait>(&self, rt: &R, seat: &mut Self::Seat) -> (u64, Answer);
+
+    /// A call that has a gate.
+    fn call_with_gate<G: Gate, R: Wait>(
+        &self,
+        rt: &R,
+        seat: &mut Self::Seat,
+        gate: &G,
+    ) -> (u64, Answer);
+
+    /// How many calls had been made, and the verdict after them.
+    fn glance(&self, seat: &mut Self::Seat) -> Option<(u64, Answer)>;
+}
+
+impl<B: Tag> SharedBoard for Board<B> {
+    type Seat = Seat<B>;
+
+    fn call<R: Wait>(&self, rt: &R, seat: &mut Seat<B>) -> (u64, Answer) {
+        answer_of(&Board::call(self, rt, seat, Command::Verdict))
+    }
+
+    fn call_with_gate<G: Gate, R: Wait>(
+        &self,
+        rt: &R,
+        seat: &mut Seat<B>,
+        gate: &G,
+    ) -> (u64, Answer) {
+        answer_of(&Board::call_with_gate(self, rt, seat, Command::Verdict, gate))
+    }
+
+    fn glance(&self, seat: &mut Seat<B>) -> Option<(u64, Answer)> {
+        seen_of(Board::glance(self, seat))
+    }
+}
