@@ -132,7 +132,7 @@ pub count-more : (vs : Values) (v : Value) → count_of (joined vs (more v none)
 count-more none v = refl
 count-more (more w vs) v = ap (λ n. n + 1) (count-more vs v)
 
-joined-assoc : (us vs ws : Values) → joined (joined us vs) ws ≡ joined us (joined vs ws)
+pub joined-assoc : (us vs ws : Values) → joined (joined us vs) ws ≡ joined us (joined vs ws)
 joined-assoc none vs ws = refl
 joined-assoc (more u us) vs ws = ap (more u) (joined-assoc us vs ws)
 

@@ -1,4 +1,5 @@
 pub mod ExitStatus
 pub mod Reading
+pub mod ReadInPart
 pub mod Recorded
 pub mod Checks

@@ -4,12 +4,13 @@ ghost use Rattle.check_command.specs.declared.recorded.Findings.{Findings};
 ghost use Rattle.harness.specs.Setups.{setup_of};
 ghost use Rattle.check_command.specs.Checks.{Checks, ChecksFile, IsTold, StandsFor};
 
+use crate::from_reader::judge_reader;
 use crate::opening::Opens;
-use crate::recorded::{Findings, event_text, judge_text};
+use crate::recorded::{Findings, event_text};
 use crate::telling::{put_refusal, put_refused, put_text, status_of_verdict};
 use edn::Refusal;
 use harness::Config;
-use line_loop::{Failed, Flushes, Watched, read_whole};
+use line_loop::{Failed, Flushes, Watched};
 use observers::Observer;
 use std::alloc::Global;
 use std::io;
@@ -24,9 +25,9 @@ use std::thread::Threads;
 /// else those of [`Config::check`], `Unreadable` with its place, `NoMemory`. The status is the verdict's if there is a report and the
 /// writer has not failed, else 3.
 ///
-/// The bytes are held once, and one element at a time. So many workers, 1 to 64, judge the keys, and what is written is the same by any
-/// number of them. It waits for the reader, the workers and the writer. The observer gets the number of accepted events on the way, and the
-/// moment when they are judged.
+/// Some 65,536 bytes are held at a time, and from the first element that is not a plain event on all others. So many workers, 1 to 64, judge the keys,
+/// and what is written is the same by any number of them. It waits for the reader, the workers and the writer. The observer gets the number
+/// of accepted events on the way, and the moment when they are judged.
 pub fn check_text<
     X: Wait + Threads + Sync,
     R: Read + Failed,
@@ -49,13 +50,7 @@ pub fn check_text<
         (W.contents writer.old) (W.contents writer.new)
         (W.has_failed writer.new) (W.is_flushed writer.new) result }
 {
-    let findings = match read_whole(rt, alloc, reader) {
-        Ok(bytes) => judge_text(rt, alloc, config, workers, bytes.as_slice(), observer),
-        Err(refusal) => {
-            observer.refused(&refusal);
-            Findings::Refused(refusal)
-        }
-    };
+    let findings = judge_reader(rt, alloc, config, workers, reader, observer);
     tell(rt, alloc, &findings, writer)
 }
 

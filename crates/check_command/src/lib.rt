@@ -1,18 +1,21 @@
 //! A recorded history, from its bytes to its text: the report, or the line of a refusal.
 //!
-//! The bytes are read whole, and then element by element: `plain_events` reads an element that is spelled plainly, and `edn` and `events`
-//! read any other. Each event is pushed on a history, and the whole history is loaded into a monitor. This crate also writes the final text
-//! and returns the exit status for `confirm_command` and `run_command`.
+//! The bytes are read by windows: `plain_events` reads the events that are spelled plainly, each is pushed on a history, and its bytes are
+//! dropped. From the first other element on, the rest is read whole, and then element by element by `edn` and `events`. The whole history
+//! is loaded into a monitor. This crate also writes the final text and returns the exit status for `confirm_command` and `run_command`.
 //!
 //! A call allocates only if its result can be `AllocError`, or a refusal because memory ran out.
 #![tactic(auto)]
 
 mod check;
+mod from_reader;
 mod laws;
 mod opening;
+mod pieces;
 mod reading;
 mod recorded;
 mod telling;
+mod windows;
 
 pub use check::{SeenFile, check_file, check_text};
 pub use laws::one_report;

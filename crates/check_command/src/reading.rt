@@ -18,7 +18,7 @@ use std::alloc::Global;
 /// events before it, and the reason.
 ///
 /// The text is read once, also behind a refused element, since an unreadable place comes first. One element is held at a time. The observer
-/// gets the number of pushed events.
+/// gets the number of the history's events.
 ///
 /// # Errors
 ///
@@ -44,7 +44,7 @@ pub fn read_events<L: Observer>(
         match push_spelled(history, spelled) {
             Ok(()) => {
                 pushed += 1;
-                observer.taken(pushed);
+                observer.taken(history.len() as usize);
             }
             Err(refusal) => return refused_at(alloc, elements, pushed, refusal),
         }

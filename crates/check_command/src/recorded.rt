@@ -93,8 +93,8 @@ fn found_in<X: Threads + Sync, L: Observer>(
     }
 }
 
-// The findings about a whole history. It is then known to have a verdict at each of its lengths.
-fn judge_history<X: Threads + Sync, L: Observer>(
+/// The findings about a whole history. It is then known to have a verdict at each of its lengths.
+pub(crate) fn judge_history<X: Threads + Sync, L: Observer>(
     rt: &X,
     alloc: Global,
     history: History,

@@ -29,7 +29,11 @@ pub trait Observer {
     /// The line that came is refused; or the next event of a recorded history, or the whole of it.
     fn refused(&self, refusal: &Refusal);
 
-    /// These bytes of a recorded history are refused as a text.
+    /// These further bytes of a recorded history were taken as events.
+    fn passed(&self, bytes: &[u8]);
+
+    /// The bytes of a recorded history that follow those that [`passed`](Observer::passed) got are refused as a text. The place that the
+    /// refusal names is one of theirs.
     fn refused_text(&self, bytes: &[u8], refusal: &Refusal);
 
     /// The refusal of the line that came has closed the script, which is strict.

@@ -62,6 +62,8 @@ pub struct OnStandardError<'a, X> {
     // How far a check has come.
     line: MovingLine<'a, X>,
     bytes: Cell<usize>,
+    // Line feeds of a recorded history that was taken so far.
+    feeds: Cell<u64>,
     tally: Tally,
     remark: Cell<Option<Remark>>,
 }
@@ -75,6 +77,7 @@ impl<'a, X: Clock + Eprint> OnStandardError<'a, X> {
             is_terminal,
             line: MovingLine::new(rt, is_terminal),
             bytes: Cell::new(0),
+            feeds: Cell::new(0),
             tally: Tally::new(),
             remark: Cell::new(None),
         }
@@ -131,14 +134,25 @@ impl<'a, X: Clock + Eprint> OnStandardError<'a, X> {
     }
 }
 
-// The number of the line that has the byte at this place.
-fn line_of(bytes: &[u8], place: usize) -> u64 {
-    let feeds = bytes
-        .iter()
-        .take(place)
-        .filter(|byte| **byte == b'\n')
-        .count();
-    (feeds as u64).saturating_add(1)
+// Bytes whose line feeds are counted in one byte, sixteen or more of them at a time.
+const RUN: usize = 192;
+
+// The number of line feeds.
+fn line_feeds(bytes: &[u8]) -> u64 {
+    let mut feeds: u64 = 0;
+    for run in bytes.chunks(RUN) {
+        feeds = feeds.saturating_add(u64::from(line_feeds_in_run(run)));
+    }
+    feeds
+}
+
+// The number of line feeds of at most 255 bytes.
+fn line_feeds_in_run(run: &[u8]) -> u8 {
+    let mut feeds: u8 = 0;
+    for byte in run {
+        feeds = feeds.wrapping_add(u8::from(*byte == b'\n'));
+    }
+    feeds
 }
 
 impl<'a, X: Clock + Eprint> Observer for OnStandardError<'a, X> {
@@ -189,12 +203,19 @@ impl<'a, X: Clock + Eprint> Observer for OnStandardError<'a, X> {
         }
     }
 
+    fn passed(&self, bytes: &[u8]) {
+        let feeds = self.feeds.get().saturating_add(line_feeds(bytes));
+        self.feeds.set(feeds);
+    }
+
     fn refused_text(&self, bytes: &[u8], refusal: &Refusal) {
         self.refused(refusal);
         if let Refusal::Unreadable(place) = refusal {
+            let before = &bytes[..bytes.len().min(*place)];
+            let feeds = self.feeds.get().saturating_add(line_feeds(before));
             self.tally
                 .first
-                .set(Some((line_of(bytes, *place), *refusal)));
+                .set(Some((feeds.saturating_add(1), *refusal)));
         }
     }
 

@@ -12,3 +12,5 @@ mod readers_and_writers;
 mod runs;
 #[cfg(test)]
 mod streams;
+#[cfg(test)]
+mod windows;

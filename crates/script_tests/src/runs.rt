@@ -1,15 +1,15 @@
 //! The result of a script or a check as plain data.
 ghost use Rattle.std.specs.Prelude.{◌≡◌, false};
 
-use crate::streams::{Drip, LINES, Narrow, broken_reader, config, drip_reader, narrow_writer};
+use crate::streams::{LINES, Narrow, broken_reader, config, drip_reader, narrow_writer};
 use check_command::check_text;
 use edn::Refusal;
-use line_loop::{ReadsWithWriter, Watched};
+use line_loop::{Failed, ReadsWithWriter, Watched};
 use linspec::Verdict;
 use observers::OnStandardError;
 use script_command::run_script;
 use std::alloc::Global;
-use std::io::Eprint;
+use std::io::{Eprint, Read};
 use std::rt::Clock;
 use std::sync::Wait;
 use std::thread::Threads;
@@ -68,14 +68,14 @@ pub fn script_of_broken<X: Wait + Clock + Eprint>(
 
 /// The status of a check by this reader and this writer; whether the writer then holds these bytes at its end; and how many it
 /// holds.
-pub fn check_by<X: Wait + Threads + Sync + Clock + Eprint>(
+pub fn check_by<X: Wait + Threads + Sync + Clock + Eprint, R: Read + Failed>(
     rt: &X,
     alloc: Global,
-    reader: &mut Watched<Drip<'_>>,
+    reader: &mut R,
     writer: Watched<Narrow>,
     end: &[u8],
 ) -> (u8, bool, usize)
-    requires reads { reader.old.has_failed ≡ false }
+    requires reads { R.has_failed reader.old ≡ false }
     requires writes { writer.has_failed ≡ false }
 {
     let mut writer = writer;

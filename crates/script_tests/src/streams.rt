@@ -63,6 +63,44 @@ pub fn broken_reader<'a>(rest: &'a [u8], size: usize) -> Watched<Drip<'a>>
     })
 }
 
+/// A reader that has an error before each read, and has never failed.
+#[derive(Drop)]
+pub struct Hesitant<'a> {
+    drip: Drip<'a>,
+    hesitates: bool,
+}
+
+/// One that gives at most `size` of these bytes a read.
+pub fn hesitant_reader<'a>(rest: &'a [u8], size: usize) -> Hesitant<'a> {
+    Hesitant {
+        drip: Drip {
+            rest,
+            size,
+            fails: false,
+        },
+        hesitates: true,
+    }
+}
+
+impl<'a> Read for Hesitant<'a> {
+    fn read(&mut self, buf: &mut [u8]) -> io::Result<usize> {
+        let hesitates = self.hesitates;
+        self.hesitates = !hesitates;
+        if hesitates {
+            return Err(ErrorKind::Interrupted.into());
+        }
+        self.drip.read(buf)
+    }
+}
+
+impl<'a> Failed for Hesitant<'a> {
+    ghost has_failed = { λ _. false };
+
+    fn failed(&self) -> bool {
+        false
+    }
+}
+
 /// A reader that looks at the writer before each read: whether it has as many lines as were read, all of them flushed.
 #[derive(Drop)]
 pub struct Witness<'a> {
