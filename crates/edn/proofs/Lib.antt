@@ -15,8 +15,11 @@ mod Rising
 pub mod Scalars
 pub mod Deciding
 pub mod Views
-pub mod Digests
-pub mod Told
+pub mod Weights
+pub mod Framed
+pub mod SameTexts
+pub mod Written
+pub mod Collections
 pub mod Extend
 pub mod Prefixes
 pub mod OneByOne

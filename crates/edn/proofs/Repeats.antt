@@ -66,7 +66,7 @@ module _ {T : Type 0} (key : T → Value) where
   keys_more xs i x l e =
       ap keys_in (take_more xs i x l ∙ ap (λ y. take i xs ++ y ∷ []) (sym e)) ∙ keys-append (take i xs) (x ∷ [])
 
-  keys_at : (xs : List T) (i : ℕ) (x : T) → i < length xs → x ≡ get_or xs i x → (rest : List T) × (keys_in xs ≡ joined (keys_in (take i xs)) (more (key x) (keys_in rest)))
+  pub keys_at : (xs : List T) (i : ℕ) (x : T) → i < length xs → x ≡ get_or xs i x → (rest : List T) × (keys_in xs ≡ joined (keys_in (take i xs)) (more (key x) (keys_in rest)))
   keys_at [] i x l e = absurd (omega arith)
   keys_at (y ∷ xs) zero x l e = (xs, ap (λ z. more (key z) (keys_in xs)) (sym e))
   keys_at (y ∷ xs) (suc i) x l e = let k = keys_at xs i x (omega arith) e in (k.0, ap (more (key y)) k.1)

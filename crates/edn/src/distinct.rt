@@ -1,14 +1,16 @@
 //! Whether keys and members are all different by [`same`].
 
 ghost use Rattle.std.specs.Prelude.{◌≡◌, ◌↔◌, ℤ, ◌<ℤ◌, Some, IsTrue, IfOk, OnOk, IfSome, MatchOption, map};
-ghost use Rattle.edn.specs.Value.{Value, more, IsNotAmong, AreDistinct};
-ghost use Rattle.edn.specs.Digest.{HasDigests};
+ghost use Rattle.edn.specs.Value.{Value, IsNotAmong, AreDistinct};
+ghost use Rattle.edn.specs.Weight.{HasRepeats};
+ghost use Rattle.edn.specs.Collections.{IsNoted, IsEntered};
 ghost use Rattle.edn.specs.Scalar.{scalar_value, IsCollection};
 ghost use Rattle.edn.specs.View.{value_of, list_of};
 
-use crate::digest::digest;
+use crate::canonical::canonical;
 use crate::equality::same;
 use crate::value::Edn;
+use crate::weight::weight;
 use std::alloc::{AllocError, Global};
 use std::collections::BTreeSet;
 
@@ -101,45 +103,96 @@ fn rise<T: Keyed>(items: &[T]) -> bool
     true
 }
 
-// Whether none of the items has the same key, a collection. Its number is put into the set, and only a known number needs a search.
-fn is_new_collection<T: Keyed>(
-    digests: &mut BTreeSet<u64>,
-    key: &Edn,
-    items: &[T],
-) -> Result<bool, AllocError>
-    requires key { IsCollection (value_of key.now) }
-    requires had { HasDigests digests.old (list_of (map T.key_value items.now)) }
-    ensures is { IfOk result (λ yes. IsTrue yes
-        ↔ IsNotAmong (value_of key.now) (list_of (map T.key_value items.now))) }
-    ensures has { OnOk result (HasDigests digests.new
-        (more (value_of key.now) (list_of (map T.key_value items.now)))) }
+// Whether the element is a vector, a map or a set.
+fn is_collection(element: &Edn) -> bool
+    ensures { IsTrue result ↔ IsCollection (value_of element.now) }
 {
-    let is_first = digests.insert(digest(key))?;
-    Ok(is_first || is_not_among(key, items))
+    matches!(element, Edn::Vector(_) | Edn::Map(_) | Edn::Set(_))
+}
+
+// Whether at most one of the keys is a collection, so that no two collections are compared.
+fn has_few_collections<T: Keyed>(items: &[T]) -> bool {
+    let mut found = false;
+    for item in items {
+        if is_collection(item.key()) {
+            if found {
+                return false;
+            }
+            found = true;
+        }
+    }
+    true
+}
+
+// Notes the weight of a collection: in the first set, or in both if the first one has it.
+fn note(
+    once: &mut BTreeSet<u64>,
+    several: &mut BTreeSet<u64>,
+    weight: u64,
+) -> Result<(), AllocError>
+    ensures { OnOk result (IsNoted once.old several.old weight once.new several.new) }
+{
+    if !once.insert(weight)? {
+        several.insert(weight)?;
+    }
+    Ok(())
+}
+
+// The weights that two or more collections have among the keys.
+fn weights_of_several<T: Keyed>(alloc: Global, items: &[T]) -> Result<BTreeSet<u64>, AllocError>
+    ensures { IfOk result (λ several. HasRepeats several (list_of (map T.key_value items.now))) }
+{
+    let mut once = BTreeSet::new(alloc);
+    let mut several = BTreeSet::new(alloc);
+    for item in items {
+        let key = item.key();
+        if is_collection(key) {
+            note(&mut once, &mut several, weight(key))?;
+        }
+    }
+    Ok(several)
+}
+
+// Whether no earlier key is the same as this collection. Its text is needed, and put into the set, only if others have its weight.
+fn is_new_collection(
+    alloc: Global,
+    several: &BTreeSet<u64>,
+    texts: &mut BTreeSet<Vec<u64>>,
+    key: &Edn,
+) -> Result<bool, AllocError>
+    ensures { IfOk result (λ is_new.
+        IsEntered several.now texts.old (value_of key.now) texts.new is_new) }
+{
+    if !several.contains(&weight(key)) {
+        return Ok(true);
+    }
+    Ok(texts.insert(canonical(alloc, key)?)?)
 }
 
 // Up to this number of items each key is compared with those before it, which takes no memory.
 const FEW: usize = 8;
 
-/// Whether no two of the items have the same key. Costs O(log n) for each item, and O(n) for a collection whose number ([`digest`]) an
-/// earlier one has. Up to 8 items are compared in pairs. Rising integers are read once, without memory.
+/// Whether no two of the items have the same key. Costs O(log n) for each item, and a sort of all that is inside collections of the same
+/// weight ([`canonical`]). Up to 8 items are compared in pairs if at most one key is a collection. Rising integers are read once, without
+/// memory.
 pub fn are_distinct<T: Keyed>(alloc: Global, items: &[T]) -> Result<bool, AllocError>
     ensures { IfOk result
         (λ yes. IsTrue yes ↔ AreDistinct (list_of (map T.key_value items.now))) }
 {
-    if items.len() <= FEW {
+    if items.len() <= FEW && has_few_collections(items) {
         return Ok(all_differ(items));
     }
     if rise(items) {
         return Ok(true);
     }
+    let several = weights_of_several(alloc, items)?;
     let mut scalars = BTreeSet::new(alloc);
-    let mut digests = BTreeSet::new(alloc);
-    for (i, item) in items.iter().enumerate() {
+    let mut texts = BTreeSet::new(alloc);
+    for item in items {
         let key = item.key();
         let is_new = match scalar_of(key) {
             Some(scalar) => scalars.insert(scalar)?,
-            None => is_new_collection(&mut digests, key, &items[..i])?,
+            None => is_new_collection(alloc, &several, &mut texts, key)?,
         };
         if !is_new {
             return Ok(false);

@@ -8,8 +8,8 @@
 #![tactic(auto)]
 
 mod atom;
+mod canonical;
 mod collection;
-mod digest;
 mod distinct;
 mod elements;
 mod equality;
@@ -22,6 +22,7 @@ mod reader;
 mod refusal;
 mod string;
 mod value;
+mod weight;
 
 pub use atom::is_keyword_name;
 pub use distinct::{Keyed, all_differ};

@@ -149,7 +149,8 @@ fn text_of(alloc: Global, bytes: &[u8]) -> Result<Vec<Edn>, ReadError>
 /// The elements of a text, in order. A text is a profile of EDN: `nil`, `true`, `false`, integers of 64 bits, keywords without a namespace,
 /// strings, vectors, maps and sets. At most 32 collections are open at once. White space, comments and discards may come between elements.
 /// The keys of a map and the members of a set are distinct by [`same`](crate::same). Costs one pass over the input, two if it is
-/// refused. The search for repeated keys and members costs O(n log n) for n atoms and strings, and O(m n) for m collections among them.
+/// refused. The search for repeated keys and members costs O(n log n) for the n atoms and bytes inside a collection, once for each level at
+/// most.
 ///
 /// # Errors
 /// [`Refusal::Unreadable`] with the length in bytes of the longest prefix that is a text; [`Refusal::NoMemory`] if an allocation fails.

@@ -1,62 +1,67 @@
 use Rattle.std.proofs.Common.{◌∙◌, ◌+◌, sym, subst, take, arith}
 use Rattle.edn.specs.Value.{more, IsNotAmong}
 use Rattle.edn.specs.Scalar.{IsCollection}
-use Rattle.edn.specs.Digest.{HasDigests}
 use Rattle.edn.specs.View.{value_of}
-use Rattle.edn.proofs.Deciding.{off, none_here, all_here}
-use Rattle.edn.proofs.Repeats.{keys_in, keys_none, keys_more, distinct_start, distinct_more, distinct_all, distinct_fail}
+use Rattle.edn.specs.Weight.{HasRepeats}
+use Rattle.edn.specs.Collections.{IsEntered}
+use Rattle.edn.proofs.Deciding.{none_here, all_here}
+use Rattle.edn.proofs.Repeats.{keys_in, keys_none, keys_more, keys_at, distinct_start, distinct_more, distinct_all, distinct_fail}
 use Rattle.edn.proofs.Scalars.{Holds, no_collection, holds_none, holds_collection, holds_scalar, scalar_new, scalar_repeated}
-use Rattle.edn.proofs.Told.{told_push}
+use Rattle.edn.proofs.Collections.{Knows, knows_none, knows_scalar, knows_collection, collection_new, collection_repeated}
 use Rattle.edn.proofs.distinct.are_distinct.Goals as goal
 use Rattle.edn.proofs.distinct.are_distinct.Goals.{in-Some+in_ok-is_new-in-Some, in-None+in_ok-is_new-in-None}
 
-pub loop-i-init : goal.loop-i-init
-loop-i-init g c = record {
+pub loop-item-init : goal.loop-item-init
+loop-item-init g c = record {
   distinct = distinct_start g.T.Keyed.key_value c.args.items.now;
-  told = subst (HasDigests c.new-digests.result) (sym (keys_none g.T.Keyed.key_value c.args.items.now)) tt;
+  known = subst (Knows c.in_ok-several.several c.new-texts.result) (sym (keys_none g.T.Keyed.key_value c.args.items.now)) (knows_none _ _ c.new-texts.ensures.empty);
   held = subst (Holds c.new-scalars.result) (sym (keys_none g.T.Keyed.key_value c.args.items.now)) (holds_none _ c.new-scalars.ensures.empty);
 }
 
 pub returns-then-not-is_new : goal.returns-then-not-is_new
 returns-then-not-is_new g c =
     let f = g.T.Keyed.key_value in
-    let vs = keys_in f (take c.loop-i.i c.args.items.now) in
-    let repeated : IsNotAmong (f c.index-items-i.result) vs → ⊥ =
+    let vs = keys_in f (take c.loop-item.item-index c.args.items.now) in
+    let repeated : IsNotAmong (f c.item-item.result) vs → ⊥ =
     elim c.match-scalar_of.branch [
       | in-Some+in_ok-is_new-in-Some w ↦
-          scalar_repeated c.loop-i.scalars vs w.in-Some.scalar _ _ (sym c.key-key.ensures ∙ w.in-Some.ensures) w.in_ok-is_new-in-Some.ensures.added (sym w.is_new-is ∙ c.if-not-is_new.true) c.loop-i.invariant.held
+          scalar_repeated c.loop-item.scalars vs w.in-Some.scalar _ _ (sym c.key-key.ensures ∙ w.in-Some.ensures) w.in_ok-is_new-in-Some.ensures.added (sym w.is_new-is ∙ c.if-not-is_new.true) c.loop-item.invariant.held
       | in-None+in_ok-is_new-in-None w ↦
-          λ n. off w.in_ok-is_new-in-None.is_new (IsNotAmong (value_of c.key-key.result.now) vs) (sym w.is_new-is ∙ c.if-not-is_new.true) w.in_ok-is_new-in-None.ensures.is.1 (subst (λ v. IsNotAmong v vs) (sym c.key-key.ensures) n)
+          λ n. collection_repeated c.in_ok-several.several c.loop-item.texts w.is_new_collection.new.texts vs (value_of c.key-key.result.now) w.in_ok-is_new-in-None.is_new w.in_ok-is_new-in-None.ensures (sym w.is_new-is ∙ c.if-not-is_new.true) c.loop-item.invariant.known (subst (λ v. IsNotAmong v vs) (sym c.key-key.ensures) n)
     ] in
-    none_here _ (λ d. distinct_fail f c.args.items.now c.loop-i.i c.index-items-i.result c.loop-i-test.true c.index-items-i.is repeated d)
+    none_here _ (λ d. distinct_fail f c.args.items.now c.loop-item.item-index c.item-item.result c.loop-item-test.true c.item-item.is repeated d)
 
-pub loop-i-preserved : goal.loop-i-preserved
-loop-i-preserved g c =
+pub loop-item-preserved : goal.loop-item-preserved
+loop-item-preserved g c =
     let f = g.T.Keyed.key_value in
-    let x = c.index-items-i.result in
-    let seen = take c.loop-i.i c.args.items.now in
-    let vs = keys_in f seen in
-    let next = keys_more f c.args.items.now c.loop-i.i x c.loop-i-test.true c.index-items-i.is in
+    let x = c.item-item.result in
+    let vs = keys_in f (take c.loop-item.item-index c.args.items.now) in
+    let next = keys_more f c.args.items.now c.loop-item.item-index x c.loop-item-test.true c.item-item.is in
+    let at = keys_at f c.args.items.now c.loop-item.item-index x c.loop-item-test.true c.item-item.is in
     elim c.match-scalar_of.branch [
       | in-Some+in_ok-is_new-in-Some w ↦
           let is = sym c.key-key.ensures ∙ w.in-Some.ensures in
-          let new = scalar_new c.loop-i.scalars vs w.in-Some.scalar _ _ is w.in_ok-is_new-in-Some.ensures.added (sym w.is_new-is ∙ c.if-not-is_new.false) c.loop-i.invariant.held in
-          let held = holds_scalar c.loop-i.scalars w.insert.new.self vs w.in-Some.scalar (f x) is w.in_ok-is_new-in-Some.ensures.updates.0 c.loop-i.invariant.held in
+          let new = scalar_new c.loop-item.scalars vs w.in-Some.scalar _ _ is w.in_ok-is_new-in-Some.ensures.added (sym w.is_new-is ∙ c.if-not-is_new.false) c.loop-item.invariant.held in
+          let held = holds_scalar c.loop-item.scalars w.insert.new.self vs w.in-Some.scalar (f x) is w.in_ok-is_new-in-Some.ensures.updates.0 c.loop-item.invariant.held in
+          let known = knows_scalar c.in_ok-several.several c.loop-item.texts vs (f x) (λ i. no_collection w.in-Some.scalar (f x) i is) c.loop-item.invariant.known in
           record {
-            told = subst (λ s. HasDigests s (keys_in f (take (c.loop-i.i + 1) c.args.items.now))) (sym w.digests-is) (subst (HasDigests c.loop-i.digests) (sym next) (told_push c.loop-i.digests vs (f x) c.loop-i.invariant.told (λ i. absurd (no_collection w.in-Some.scalar (f x) i is))));
-            distinct = distinct_more f c.args.items.now c.loop-i.i x c.loop-i-test.true c.index-items-i.is c.loop-i.invariant.distinct new;
-            held = subst (λ s. Holds s (keys_in f (take (c.loop-i.i + 1) c.args.items.now))) (sym w.scalars-is) (subst (Holds w.insert.new.self) (sym next) held);
+            known = subst (λ s. Knows c.in_ok-several.several s (keys_in f (take (c.loop-item.item-index + 1) c.args.items.now))) (sym w.texts-is) (subst (Knows c.in_ok-several.several c.loop-item.texts) (sym next) known);
+            distinct = distinct_more f c.args.items.now c.loop-item.item-index x c.loop-item-test.true c.item-item.is c.loop-item.invariant.distinct new;
+            held = subst (λ s. Holds s (keys_in f (take (c.loop-item.item-index + 1) c.args.items.now))) (sym w.scalars-is) (subst (Holds w.insert.new.self) (sym next) held);
           }
       | in-None+in_ok-is_new-in-None w ↦
-          let new = subst (λ v. IsNotAmong v vs) c.key-key.ensures (w.in_ok-is_new-in-None.ensures.is.0 (sym w.is_new-is ∙ c.if-not-is_new.false)) in
-          let has = subst (λ v. HasDigests w.is_new_collection.new.digests (more v vs)) c.key-key.ensures w.in_ok-is_new-in-None.ensures.has in
-          let held = holds_collection c.loop-i.scalars vs (f x) (subst IsCollection c.key-key.ensures w.in-None.ensures) c.loop-i.invariant.held in
+          let i = subst IsCollection c.key-key.ensures w.in-None.ensures in
+          let has = subst (HasRepeats c.in_ok-several.several) at.1 c.in_ok-several.ensures in
+          let entered = subst (λ v. IsEntered c.in_ok-several.several c.loop-item.texts v w.is_new_collection.new.texts w.in_ok-is_new-in-None.is_new) c.key-key.ensures w.in_ok-is_new-in-None.ensures in
+          let new = collection_new c.in_ok-several.several c.loop-item.texts w.is_new_collection.new.texts vs (keys_in f at.0) (f x) w.in_ok-is_new-in-None.is_new i has entered (sym w.is_new-is ∙ c.if-not-is_new.false) c.loop-item.invariant.known in
+          let known = knows_collection c.in_ok-several.several c.loop-item.texts w.is_new_collection.new.texts vs (f x) w.in_ok-is_new-in-None.is_new entered c.loop-item.invariant.known in
+          let held = holds_collection c.loop-item.scalars vs (f x) i c.loop-item.invariant.held in
           record {
-            told = subst (λ s. HasDigests s (keys_in f (take (c.loop-i.i + 1) c.args.items.now))) (sym w.digests-is) (subst (HasDigests w.is_new_collection.new.digests) (sym next) (told_push w.is_new_collection.new.digests vs (f x) has.1 has.0));
-            distinct = distinct_more f c.args.items.now c.loop-i.i x c.loop-i-test.true c.index-items-i.is c.loop-i.invariant.distinct new;
-            held = subst (λ s. Holds s (keys_in f (take (c.loop-i.i + 1) c.args.items.now))) (sym w.scalars-is) (subst (Holds c.loop-i.scalars) (sym next) held);
+            known = subst (λ s. Knows c.in_ok-several.several s (keys_in f (take (c.loop-item.item-index + 1) c.args.items.now))) (sym w.texts-is) (subst (Knows c.in_ok-several.several w.is_new_collection.new.texts) (sym next) known);
+            distinct = distinct_more f c.args.items.now c.loop-item.item-index x c.loop-item-test.true c.item-item.is c.loop-item.invariant.distinct new;
+            held = subst (λ s. Holds s (keys_in f (take (c.loop-item.item-index + 1) c.args.items.now))) (sym w.scalars-is) (subst (Holds c.loop-item.scalars) (sym next) held);
           }
     ]
 
 pub returns : goal.returns
-returns g c = all_here _ (distinct_all g.T.Keyed.key_value c.args.items.now c.loop-i.i (omega arith) c.loop-i.invariant.distinct)
+returns g c = all_here _ (distinct_all g.T.Keyed.key_value c.args.items.now c.loop-item.item-index (omega arith) c.loop-item.invariant.distinct)
