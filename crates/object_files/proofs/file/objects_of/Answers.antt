@@ -1,0 +1,54 @@
+use Rattle.std.proofs.Common.{◌≡◌, ◌+◌, List, [], sym, ap, ◌∙◌, subst, arith, rules}
+use Rattle.std.specs.List.{All}
+use Rattle.std.proofs.lemmas.List.Elements.{All-push}
+use Rattle.edn.specs.View.{value_of, values_of}
+use Rattle.object_names.specs.Names.{own_names, texts_of}
+use Rattle.object_files.specs.declared.fault.Place.TheVariants.{Element}
+use Rattle.object_files.specs.declared.object.Object.{Object}
+use Rattle.object_files.specs.Faults.{HaveFault}
+use Rattle.object_files.specs.Measures.{IsMeasured}
+use Rattle.object_files.specs.Spelling.{SpellsObject, FirstSpell}
+use Rattle.object_files.proofs.Objects.{element_of, objects_more}
+use Rattle.object_files.proofs.Refusing.{of_place}
+use Rattle.object_files.proofs.file.objects_of.Goals as goal
+
+abbrev AreMeasured : List Object → Type 0
+AreMeasured objects = All (λ (object : Object). IsMeasured object.rules) objects
+
+pub loop-place-init : goal.loop-place-init
+loop-place-init c = record {
+  many = c.new-objects.ensures.len;
+  measured = subst AreMeasured (sym c.new-objects.ensures.items) (search rules);
+  spelled = subst (FirstSpell (values_of c.args.elements.now) (own_names (values_of c.args.elements.now)) [] (values_of c.args.elements.now)) (sym c.new-objects.ensures.items) tt;
+}
+
+pub loop-place-preserved : goal.loop-place-preserved
+loop-place-preserved c =
+    let all = values_of c.args.elements.now in
+    let elements = c.args.elements.now in
+    let objects = c.loop-place.objects.items in
+    let object = c.in_ok-object.object in
+    let place = c.loop-place.place in
+    let element = c.index-elements-place.result in
+    record {
+      many = omega (arith, c.in_ok-push.ensures.len);
+      measured = subst AreMeasured (sym c.in_ok-push.ensures.items)
+          (All-push (λ (x : Object). IsMeasured x.rules) objects object c.loop-place.invariant.measured c.in_ok-object.ensures.measured);
+      spelled = subst (FirstSpell all (own_names all) [] all) (sym c.in_ok-push.ensures.items)
+          (objects_more all (own_names all) elements place element objects object c.loop-place-test.true c.index-elements-place.is c.loop-place.invariant.many c.loop-place.invariant.spelled
+          (subst (λ own. SpellsObject all own objects place (value_of element) object) c.requires
+          (subst (λ before. SpellsObject all (texts_of c.args.names.now) before place (value_of element) object) c.as_slice.ensures.value c.in_ok-object.ensures.spelled)));
+    }
+
+pub returns-in_err-object : goal.returns-in_err-object
+returns-in_err-object c =
+    let all = values_of c.args.elements.now in
+    let place = c.loop-place.place in
+    let element = c.index-elements-place.result in
+    of_place c.in_err-object.error (Element place) (HaveFault all) c.in_err-object.ensures.refused (record {
+      element = value_of element;
+      objects = c.loop-place.objects.items;
+      is_there = element_of c.args.elements.now place element c.loop-place-test.true c.index-elements-place.is;
+      many = c.loop-place.invariant.many;
+      spelled = c.loop-place.invariant.spelled;
+    })
