@@ -4,7 +4,7 @@ use Rattle.kinds.specs.declared.model_kind.ModelKind.{ModelKind}
 use Rattle.kinds.specs.declared.model_kind.ModelKind.TheVariants as kinds
 use Rattle.frontier.specs.declared.any_frontier.AnyFrontier.{AnyFrontier}
 use Rattle.frontier.specs.declared.any_frontier.AnyFrontier.TheVariants.{Register, CasRegister, Mutex, FifoQueue, Set, UnorderedQueue, WideRegister, WideCasRegister, WideSet, WideFifoQueue, WideUnorderedQueue}
-use Rattle.frontier.specs.Kept.{view_of}
+use Rattle.frontier.specs.Frontiers.{view_of}
 use Rattle.judging.specs.Meaning.{FrontierView}
 use Rattle.wide_register.specs.Views as wide_register
 use Rattle.wide_cas_register.specs.Views as wide_cas_register

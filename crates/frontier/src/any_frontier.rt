@@ -4,7 +4,7 @@ ghost use Rattle.models.specs.Objects.{of_table};
 ghost use Rattle.kinds.specs.Kinds.{object_of};
 ghost use Rattle.linspec.specs.Counts.{CountsMoreThan};
 ghost use Rattle.frontier.specs.AnyFrontier.{any_view_of, kind_of_frontier};
-ghost use Rattle.frontier.specs.Kept.{view_of};
+ghost use Rattle.frontier.specs.Frontiers.{view_of};
 ghost use Rattle.judging.specs.Meaning.{Commits, IsCopy, IsStart, Observes, Prepares, mark_by};
 
 use crate::frontier::Frontier;

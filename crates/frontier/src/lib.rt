@@ -10,10 +10,12 @@
 
 pub mod any_frontier;
 mod change;
+pub mod configurations;
 pub mod frontier;
 mod product_form;
 mod wide;
 
 pub use any_frontier::AnyFrontier;
+pub use configurations::Configurations;
 pub use frontier::Frontier;
 pub use judging::Step;
