@@ -10,7 +10,8 @@ ghost use Rattle.ends.specs.Oks.{AreMarksOf, IsLeft, asked_by};
 
 use crate::returning::Returning;
 use interner::FoundTable;
-use models::{Answer, SeqObject, finding};
+use models::{Answer, finding};
+use objects::Specification;
 use moves::{KeptEnd, PendingOp, Table, copy_of};
 use rows::RowSet;
 use std::alloc::{AllocError, Global};
@@ -123,7 +124,7 @@ pub fn failed<S: Hash + Drop>(
 /// The ends after the operation has crashed, in the same order. If it counts it is among the crashed ones of an end that it is in, and else
 /// it is in no end any more. Ends that differed before may be the same then. Costs O(ends), with a copy of the state and of the operations
 /// of each.
-pub fn crashed_ends<M: SeqObject>(
+pub fn crashed_ends<M: Specification>(
     alloc: Global,
     ends: &[KeptEnd<M::State>],
     id: u32,

@@ -12,7 +12,7 @@ ghost use Rattle.ends.specs.Oks.{asked_by, most_steps};
 
 use crate::after;
 use crate::returning::Returning;
-use models::SeqObject;
+use objects::Specification;
 use moves::table::{self, Table};
 use moves::{Attempt, Move, Moves, PendingOp};
 use rows::{Row, RowSet};
@@ -117,7 +117,8 @@ fn put_led<S: Hash + Drop>(
 }
 
 // Adds a row for each end that the call leads to from the end of the row at `from`, which is this row, and in which the call is not.
-fn grow_at<M: SeqObject>(
+fn grow_at<M: Specification>(
+    specification: M,
     table: &mut Table<M::State>,
     moves: &mut Moves<M::State>,
     from: usize,
@@ -132,9 +133,9 @@ fn grow_at<M: SeqObject>(
     requires row { row.now ≡ get_or (rows_of table.old) from [] }
     requires number { attempt.number ≡ get_or row.now 0 0 }
     requires zero_there { slice_get row.now (attempt.at + 1) ≡ Some 0 }
-    ensures moves { OnOk result (KeepMoves M.apply_to calls.now table.old table.new moves.old moves.new) }
-    ensures adds { let object = of_table M.State M.start_state M.apply_to in
-        AreMoves M.apply_to table.old calls.now moves.old.known moves.old.targets.items
+    ensures moves { OnOk result (KeepMoves (M.outcomes_of specification) calls.now table.old table.new moves.old moves.new) }
+    ensures adds { let object = of_table M.State (M.start_of specification) (M.outcomes_of specification) in
+        AreMoves (M.outcomes_of specification) table.old calls.now moves.old.known moves.old.targets.items
         → IsAlike calls.now attempt.at attempt.representative → HasEachOnce calls.now
         → (c : PendingOp) (e : End M.State) (ends : List (End M.State))
         → slice_get calls.now attempt.at ≡ Some c → Shows table.old calls.now row.now e
@@ -143,7 +144,7 @@ fn grow_at<M: SeqObject>(
     ensures only_adds { OnlyAdds table.old table.new applied.old applied.new }
     ensures cost { applied.new ≤ applied.old + 1 }
 {
-    let to = table::led_to::<M>(table, moves, row, calls, attempt, applied)?;
+    let to = table::led_to::<M>(specification, table, moves, row, calls, attempt, applied)?;
     if let Move::Nowhere = to {
         return Ok(());
     }
@@ -151,7 +152,8 @@ fn grow_at<M: SeqObject>(
 }
 
 // Adds a row for each end that a call from the first place on leads to from the end of the row at `from`, which is this row.
-fn grow_from<M: SeqObject>(
+fn grow_from<M: Specification>(
+    specification: M,
     table: &mut Table<M::State>,
     moves: &mut Moves<M::State>,
     from: usize,
@@ -162,9 +164,9 @@ fn grow_from<M: SeqObject>(
 ) -> Result<(), AllocError>
     requires here { from < length (rows_of table.old) }
     requires row { row.now ≡ get_or (rows_of table.old) from [] }
-    ensures moves { OnOk result (KeepMoves M.apply_to calls.now table.old table.new moves.old moves.new) }
-    ensures adds { let object = of_table M.State M.start_state M.apply_to in
-        AreMoves M.apply_to table.old calls.now moves.old.known moves.old.targets.items
+    ensures moves { OnOk result (KeepMoves (M.outcomes_of specification) calls.now table.old table.new moves.old moves.new) }
+    ensures adds { let object = of_table M.State (M.start_of specification) (M.outcomes_of specification) in
+        AreMoves (M.outcomes_of specification) table.old calls.now moves.old.known moves.old.targets.items
         → AreAlike calls.now moves.old.likes.items → HasEachOnce calls.now
         → (e : End M.State) (ends : List (End M.State))
         → Shows table.old calls.now row.now e → AreShown table.old calls.now ends
@@ -188,6 +190,7 @@ fn grow_from<M: SeqObject>(
         }
         let representative = like.representative;
         grow_at::<M>(
+            specification,
             table,
             moves,
             from,
@@ -215,7 +218,8 @@ fn first_for(from: usize, kept: usize, tried: usize) -> usize
 
 // Whether some call from that place on leads from the end of the row to more ends than the budget. Such a call is not in that end, and has
 // more outcomes in its state.
-fn leads_beyond<M: SeqObject>(
+fn leads_beyond<M: Specification>(
+    specification: M,
     table: &Table<M::State>,
     row: &Row,
     calls: &[PendingOp],
@@ -223,19 +227,19 @@ fn leads_beyond<M: SeqObject>(
     budget: u32,
 ) -> bool
     requires some { 1 ≤ budget }
-    ensures beyond { let object = of_table M.State M.start_state M.apply_to in
+    ensures beyond { let object = of_table M.State (M.start_of specification) (M.outcomes_of specification) in
         result ≡ true → (e : End M.State) → Shows table.now calls.now row.now e
         → ReachesMoreThan object calls.now (e ∷ []) budget }
     ensures within { result ≡ false → (at : ℕ) (c : PendingOp) (e : End M.State)
         → first ≤ at
         → slice_get calls.now at ≡ Some c → Shows table.now calls.now row.now e
-        → is_in e c.id c.crashed ≡ false → length (M.apply_to c.op e.state) ≤ budget }
+        → is_in e c.id c.crashed ≡ false → length (M.outcomes_of specification c.op e.state) ≤ budget }
 {
     let Some(state) = table::state_numbered(table, row.first()) else {
         return false;
     };
     for at in first..calls.len() {
-        if M::has_more_outcomes(state, &calls[at].op, budget as usize) && row.has_zero(at + 1) {
+        if specification.has_more_outcomes(state, &calls[at].op, budget as usize) && row.has_zero(at + 1) {
             return true;
         }
     }
@@ -245,21 +249,22 @@ fn leads_beyond<M: SeqObject>(
 // Adds the ends to which the calls lead. Goes once through the rows, which grow at their end, up to the budget. Calls that were tried
 // before are tried on new rows alone. Returns false if there are more ends than the budget; then some ends may be missing. Also returns
 // false before it tries a call that has more outcomes in a state than the budget.
-fn grow<M: SeqObject>(
+fn grow<M: Specification>(
+    specification: M,
     table: &mut Table<M::State>,
     moves: &mut Moves<M::State>,
     row: &mut Row,
     returning: &Returning,
     applied: &mut u64,
 ) -> Result<bool, AllocError>
-    ensures grows { let object = of_table M.State M.start_state M.apply_to in
+    ensures grows { let object = of_table M.State (M.start_of specification) (M.outcomes_of specification) in
         let calls = returning.now.calls.now in
         HasEachOnce calls → (ends : List (End M.State)) → AreShown table.old calls ends
         → AreClosed object (take returning.now.tried calls) ends
         → IfOk result (ShownGrown object table.new calls ends) }
     ensures within { IfOk result (λ within_budget. within_budget ≡ true
         → length (rows_of table.new) ≤ returning.now.budget) }
-    ensures over { let object = of_table M.State M.start_state M.apply_to in
+    ensures over { let object = of_table M.State (M.start_of specification) (M.outcomes_of specification) in
         ReachesOver object table.old (asked_by returning.now) result }
     ensures only_adds { OnlyAdds table.old table.new applied.old applied.new }
     ensures cost { applied.new ≤ applied.old + most_steps (asked_by returning.now) }
@@ -279,10 +284,10 @@ fn grow<M: SeqObject>(
             continue;
         }
         table.rows.look(from, row)?;
-        if leads_beyond::<M>(table, row, returning.calls, first, returning.budget) {
+        if leads_beyond::<M>(specification, table, row, returning.calls, first, returning.budget) {
             return Ok(false);
         }
-        grow_from::<M>(table, moves, from, row, returning.calls, first, applied)?;
+        grow_from::<M>(specification, table, moves, from, row, returning.calls, first, applied)?;
     }
     Ok(table.rows.len() <= returning.budget as usize)
 }
@@ -294,19 +299,20 @@ fn grow<M: SeqObject>(
 ///
 /// `AllocError` if there is no memory for them: the rows of the table stay then too, and the steps that were made stay counted. It makes at
 /// most one step for each call and each end that is extended, and looks the row of each end that comes of one up among the others.
-pub fn advance<M: SeqObject>(
+pub fn advance<M: Specification>(
+    specification: M,
     table: &mut Table<M::State>,
     room: &mut Workspace<M::State>,
     returning: &Returning,
     applied: &mut u64,
 ) -> Result<bool, AllocError>
-    ensures found { let object = of_table M.State M.start_state M.apply_to in
+    ensures found { let object = of_table M.State (M.start_of specification) (M.outcomes_of specification) in
         FindsLeft object table.old (with_rows table.new room.new.rows) (asked_by returning.now) result }
     ensures tries { OnlyTries table.old table.new applied.old applied.new }
     ensures cost { applied.new ≤ applied.old + most_steps (asked_by returning.now) }
 {
     let kept = table.rows.len();
-    let within_budget = grow::<M>(table, &mut room.moves, &mut room.row, returning, applied);
+    let within_budget = grow::<M>(specification, table, &mut room.moves, &mut room.row, returning, applied);
     let left = match within_budget {
         Ok(true) => after::put_left_by_ok(table, returning, &mut room.marks, &mut room.rows),
         _ => Ok(()),

@@ -15,7 +15,7 @@ use Rattle.frontier.specs.declared.change.AfterCrash.{AfterCrash}
 use Rattle.frontier.specs.declared.change.Fresh.{Fresh}
 use Rattle.frontier.specs.declared.change.Change.{Change}
 use Rattle.frontier.specs.declared.change.Change.TheVariants.{Nothing, Crashed, Done, Invoked as ToInvoked}
-use Rattle.frontier.specs.declared.frontier.Frontier.{Frontier}
+use Rattle.frontier.specs.declared.configurations.Configurations.{Configurations}
 use Rattle.judging.specs.declared.step.Step.{Step}
 use Rattle.judging.specs.declared.step.Step.TheVariants.{Alive, Dead, Over}
 use Rattle.moves.specs.KeptEnds.{IsWellKept}
@@ -38,15 +38,15 @@ left_by None rows = rows
 left_by (Some those) rows = rows_in those.value.room.left.1
 
 -- the table with the rows in force
-abbrev pub table_of : {M S : Type 0} → Frontier M S → Table S
+abbrev pub table_of : {M S : Type 0} → Configurations M S → Table S
 table_of f = with_rows f.table (rows_by f.products (rows_of f.table))
 
 -- the rows that are left
-abbrev pub left_of : {M S : Type 0} → Frontier M S → List (List ℕ)
+abbrev pub left_of : {M S : Type 0} → Configurations M S → List (List ℕ)
 left_of f = left_by f.products f.room.rows
 
 -- the question of an ok with this answer
-abbrev pub asked_of : {M S : Type 0} → Frontier M S → ℕ → Answer → Asked
+abbrev pub asked_of : {M S : Type 0} → Configurations M S → ℕ → Answer → Asked
 asked_of f id answer = record {
   calls = f.calls.items;
   tried = f.tried;
@@ -57,13 +57,13 @@ asked_of f id answer = record {
 
 -- a frontier that keeps these ends represents the end: operations that may still take place lead to
 -- it, one after another, from an end that is kept (Lowe 2017)
-abbrev pub Represents : {M : Type 0} (o : Object) → Frontier M o.State → List (End o.State)
+abbrev pub Represents : {M : Type 0} (o : Object) → Configurations M o.State → List (End o.State)
     → End o.State → Type 0
 Represents o f kept e = IsReached o f.calls.items kept e
 
 -- its rows say some ends, and by these it represents exactly the ends of the history. The calls that
 -- were tried already lead from the kept ends to no others
-pub record Lists {M : Type 0} (o : Object) (f : Frontier M o.State) (marks : List Mark)
+pub record Lists {M : Type 0} (o : Object) (f : Configurations M o.State) (marks : List Mark)
     : Type 0 where
   pub kept : List (End o.State)
   pub shown : AreShown (table_of f) f.calls.items kept
@@ -73,36 +73,36 @@ pub record Lists {M : Type 0} (o : Object) (f : Frontier M o.State) (marks : Lis
   pub closed : AreClosed o (take f.tried f.calls.items) kept
 
 -- its rows and calls are those of the history without its last event, which invoked this operation
-pub record ListsBut {M : Type 0} (o : Object) (f : Frontier M o.State) (fresh : Fresh)
+pub record ListsBut {M : Type 0} (o : Object) (f : Configurations M o.State) (fresh : Fresh)
     (marks : List Mark) : Type 0 where
   pub before : List Mark
   pub is : marks ≡ before ++ Invoked fresh.id fresh.op ∷ []
   pub may : MayFollow before (Invoked fresh.id fresh.op)
   pub lists : Lists o f before
 
-abbrev pub StandsWith : {M : Type 0} (o : Object) → Frontier M o.State → Option Fresh → List Mark
+abbrev pub StandsWith : {M : Type 0} (o : Object) → Configurations M o.State → Option Fresh → List Mark
     → Type 0
 StandsWith o f None marks = Lists o f marks
 StandsWith o f (Some fresh) marks = ListsBut o f fresh marks
 
 -- the frontier stands for the history
-pub record StandsFor {M : Type 0} (o : Object) (f : Frontier M o.State) (marks : List Mark)
+pub record StandsFor {M : Type 0} (o : Object) (f : Configurations M o.State) (marks : List Mark)
     : Type 0 where
   pub stands : StandsWith o f f.fresh marks
 
 -- these rows, calls, tried calls and fresh operation are the frontier's
-abbrev pub IsOf : {M S : Type 0} → Frontier M S → Table S → List PendingOp → ℕ → Option Fresh
+abbrev pub IsOf : {M S : Type 0} → Configurations M S → Table S → List PendingOp → ℕ → Option Fresh
     → Type 0
 IsOf g table calls tried fresh =
     (table_of g ≡ table) × (g.calls.items ≡ calls) × (g.tried ≡ tried) × (g.fresh ≡ fresh)
 
 -- the budget and the count of steps stay
-pub record HasCountsOf {M S : Type 0} (f g : Frontier M S) : Type 0 where
+pub record HasCountsOf {M S : Type 0} (f g : Configurations M S) : Type 0 where
   pub budget : g.budget ≡ f.budget
   pub applied : g.applied ≡ f.applied
 
 -- the frontier is this one except for its working memory
-pub record IsAlike {M S : Type 0} (f g : Frontier M S) : Type 0 where
+pub record IsAlike {M S : Type 0} (f g : Configurations M S) : Type 0 where
   pub same : IsOf g (table_of f) f.calls.items f.tried f.fresh
   pub next : g.next ≡ f.next
   pub counts : HasCountsOf f g
@@ -112,7 +112,7 @@ abbrev pub call_of : Fresh → PendingOp
 call_of fresh = record { id = fresh.id; op = fresh.op; crashed = false }
 
 -- the change makes the other frontier of this one
-abbrev pub Makes : {M S : Type 0} → Change → Frontier M S → Frontier M S → Type 0
+abbrev pub Makes : {M S : Type 0} → Change → Configurations M S → Configurations M S → Type 0
 Makes Nothing f g = IsOf g (table_of f) f.calls.items f.tried f.fresh
 Makes ToInvoked f g = IsOf g (table_of f) f.calls.items f.tried f.coming
 Makes (Done id tried) f g =
@@ -122,9 +122,9 @@ Makes {M} {S} Crashed f g =
     → IsOf g after.value.table after.value.calls.items 0 f.fresh
 
 -- with the prepared change the frontier will stand for the history
-pub record WillStandFor {M : Type 0} (o : Object) (f : Frontier M o.State) (marks : List Mark)
+pub record WillStandFor {M : Type 0} (o : Object) (f : Configurations M o.State) (marks : List Mark)
     : Type 0 where
-  pub will : (g : Frontier M o.State) → Makes f.next f g → StandsFor o g marks
+  pub will : (g : Configurations M o.State) → Makes f.next f g → StandsFor o g marks
 
 -- the step by whether some end is left: Alive if there is one, else Dead
 pub record IsStepOf (some_left : Bool) (step : Step) : Type 0 where
@@ -133,20 +133,20 @@ pub record IsStepOf (some_left : Bool) (step : Step) : Type 0 where
   pub never_over : step ≢ Over
 
 -- the frontier stands for the history, and nothing is prepared
-pub record IsIdle {M : Type 0} (o : Object) (f : Frontier M o.State) (marks : List Mark)
+pub record IsIdle {M : Type 0} (o : Object) (f : Configurations M o.State) (marks : List Mark)
     : Type 0 where
   pub nothing : f.next ≡ Nothing
   pub stands : StandsFor o f marks
 
 -- its rows and calls are those of the whole history, and nothing is prepared
-pub record IsListed {M : Type 0} (o : Object) (f : Frontier M o.State) (marks : List Mark)
+pub record IsListed {M : Type 0} (o : Object) (f : Configurations M o.State) (marks : List Mark)
     : Type 0 where
   pub nothing : f.next ≡ Nothing
   pub none : f.fresh ≡ None
   pub lists : Lists o f marks
 
 -- the state of the frontier
-abbrev pub view_of : {M : Type 0} (o : Object) → Frontier M o.State → FrontierView
+abbrev pub view_of : {M : Type 0} (o : Object) → Configurations M o.State → FrontierView
 view_of o f = record {
   stands = StandsFor o f;
   will_stand = WillStandFor o f;
@@ -154,7 +154,7 @@ view_of o f = record {
   applied = f.applied;
 }
 
-module _ {M : Type 0} (o : Object) (f g : Frontier M o.State) where
+module _ {M : Type 0} (o : Object) (f g : Configurations M o.State) where
   -- the fresh operation has its place in the rows; if there is no memory all stands as before, and
   -- nothing is prepared
   pub record ListsFresh (before : List Mark → Type 0) (result : Result (Unit {0}) AllocError)

@@ -4,9 +4,13 @@ ghost use Rattle.models.specs.Objects.{of_table};
 ghost use Rattle.kinds.specs.Kinds.{object_of};
 ghost use Rattle.linspec.specs.Counts.{CountsMoreThan};
 ghost use Rattle.frontier.specs.AnyFrontier.{any_view_of, kind_of_frontier};
-ghost use Rattle.frontier.specs.Kept.{view_of};
+ghost use Rattle.frontier.specs.Frontiers.{view_of};
 ghost use Rattle.judging.specs.Meaning.{Commits, IsCopy, IsStart, Observes, Prepares, mark_by};
 
+use crate::by_rules::{
+    commit_by_rules, copy_by_rules, observe_by_rules, prepare_by_rules, start_by_rules,
+};
+use crate::configurations::Configurations;
 use crate::frontier::Frontier;
 use crate::wide::{
     observe_wide_cas_register, observe_wide_fifo_queue, observe_wide_register, observe_wide_set,
@@ -17,6 +21,7 @@ use events::EventKind;
 use judging::Step;
 use kinds::{ModelKind, each_kind_with_ends};
 use models::{CasRegister, FifoQueue, Mutex, Op, Register, SeqObject, Set, UnorderedQueue};
+use objects::{Own, OwnObject};
 use std::alloc::{AllocError, Global};
 use wide_cas_register::WideCasRegister;
 use wide_fifo_queue::WideFifoQueue;
@@ -50,6 +55,8 @@ pub enum AnyFrontier {
     WideFifoQueue(Box<WideFifoQueue>),
     /// For a queue without an order: it counts nothing.
     WideUnorderedQueue(Box<WideUnorderedQueue>),
+    /// For an object by rules.
+    Own(&'static OwnObject, Box<Configurations<Own>>),
 }
 
 // The bodies below, for each kind of the list, and for the wide ones.
@@ -72,6 +79,7 @@ macro_rules! start_of {
             ModelKind::WideUnorderedQueue => {
                 Ok(AnyFrontier::WideUnorderedQueue(Box::new($alloc, WideUnorderedQueue::start($alloc, $budget))?))
             }
+            ModelKind::Own(object) => Ok(AnyFrontier::Own(object, start_by_rules($alloc, object, $budget)?)),
         }
     };
 }
@@ -95,6 +103,7 @@ macro_rules! copy_of {
             AnyFrontier::WideUnorderedQueue(judge) => {
                 Ok(AnyFrontier::WideUnorderedQueue(Box::new(*Box::allocator(judge), judge.copy()?)?))
             }
+            AnyFrontier::Own(object, frontier) => Ok(AnyFrontier::Own(*object, copy_by_rules(*object, frontier)?)),
         }
     };
 }
@@ -108,6 +117,7 @@ macro_rules! applied_of {
             AnyFrontier::WideSet(judge) => judge.applied(),
             AnyFrontier::WideFifoQueue(judge) => judge.applied(),
             AnyFrontier::WideUnorderedQueue(judge) => judge.applied(),
+            AnyFrontier::Own(_, frontier) => frontier.applied(),
         }
     };
 }
@@ -121,6 +131,7 @@ macro_rules! observe_of {
             AnyFrontier::WideSet(judge) => observe_wide_set(judge, $id, $event, $op),
             AnyFrontier::WideFifoQueue(judge) => observe_wide_fifo_queue(judge, $id, $event, $op),
             AnyFrontier::WideUnorderedQueue(judge) => observe_wide_unordered_queue(judge, $id, $event, $op),
+            AnyFrontier::Own(object, frontier) => observe_by_rules(*object, frontier, $id, $event, $op),
         }
     };
 }
@@ -134,6 +145,7 @@ macro_rules! prepare_of {
             AnyFrontier::WideSet(judge) => prepare_wide_set(judge, $id, $event, $op),
             AnyFrontier::WideFifoQueue(judge) => prepare_wide_fifo_queue(judge, $id, $event, $op),
             AnyFrontier::WideUnorderedQueue(judge) => prepare_wide_unordered_queue(judge, $id, $event, $op),
+            AnyFrontier::Own(object, frontier) => prepare_by_rules(*object, frontier, $id, $event, $op),
         }
     };
 }
@@ -147,6 +159,7 @@ macro_rules! commit_of {
             AnyFrontier::WideSet(judge) => judge.commit(),
             AnyFrontier::WideFifoQueue(judge) => judge.commit(),
             AnyFrontier::WideUnorderedQueue(judge) => judge.commit(),
+            AnyFrontier::Own(object, frontier) => commit_by_rules(*object, frontier),
         }
     };
 }

@@ -9,11 +9,14 @@
 #![tactic(auto)]
 
 pub mod any_frontier;
+mod by_rules;
 mod change;
+pub mod configurations;
 pub mod frontier;
 mod product_form;
 mod wide;
 
 pub use any_frontier::AnyFrontier;
+pub use configurations::Configurations;
 pub use frontier::Frontier;
 pub use judging::Step;

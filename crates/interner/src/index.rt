@@ -4,10 +4,10 @@ ghost use Rattle.buckets.specs.Hashes.{hash_by};
 ghost use Rattle.buckets.specs.Index.{Indexes, hash_bucket};
 
 use buckets::{Index, find};
-use models::SeqObject;
+use objects::Specification;
 
 // Whether the state at place `at` is this one. Its hash is given, and compared first.
-fn stands_at<M: SeqObject>(
+fn stands_at<M: Specification>(
     items: &[M::State],
     hashes: &[u64],
     at: usize,
@@ -29,7 +29,7 @@ fn stands_at<M: SeqObject>(
 
 /// The place of the state, if it is there. Its hash and the bucket of the hash are given, and all hashes are indexed. Compares the hashes
 /// of one bucket, and the states of the same hash.
-pub fn place_of<M: SeqObject>(
+pub fn place_of<M: Specification>(
     items: &[M::State],
     hashes: &[u64],
     index: &Index,

@@ -7,7 +7,7 @@ ghost use Rattle.interner.specs.Numbers.{IsOnceIn};
 
 use crate::index::place_of;
 use buckets::{Bucketed, Index, hash_of, index_hashes, put_behind};
-use models::SeqObject;
+use objects::Specification;
 use std::alloc::{AllocError, Global};
 use std::hash::Hash;
 use std::marker::Model;
@@ -118,7 +118,7 @@ fn make_rooms<S>(
 
 // The number of the state, which has this hash. All hashes are indexed.
 #[inline(always)]
-fn numbered<M: SeqObject>(
+fn numbered<M: Specification>(
     items: &mut Vec<M::State>,
     hashes: &mut Vec<u64>,
     index: &mut Index,
@@ -150,7 +150,7 @@ fn numbered<M: SeqObject>(
 /// bits: then the states are as they were. Costs a hash of the state, and a comparison with the states of the same hash. If there are as
 /// many states as buckets, all are indexed again.
 #[inline(always)]
-pub fn number_of<M: SeqObject>(
+pub fn number_of<M: Specification>(
     states: &mut States<M::State>,
     state: M::State,
 ) -> Result<usize, AllocError>
@@ -174,7 +174,7 @@ pub fn number_of<M: SeqObject>(
 }
 
 // A copy of each state.
-fn copies<M: SeqObject>(alloc: Global, items: &[M::State]) -> Result<Vec<M::State>, AllocError>
+fn copies<M: Specification>(alloc: Global, items: &[M::State]) -> Result<Vec<M::State>, AllocError>
     ensures { IfOk result (λ copies. copies.items ≡ items.now) }
 {
     let mut copies = Vec::with_capacity(alloc, items.len())?;
@@ -185,7 +185,7 @@ fn copies<M: SeqObject>(alloc: Global, items: &[M::State]) -> Result<Vec<M::Stat
 }
 
 /// The same states, with the same numbers. Costs a copy of each state. They are indexed when one is looked up.
-pub fn copied<M: SeqObject>(
+pub fn copied<M: Specification>(
     alloc: Global,
     states: &States<M::State>,
 ) -> Result<States<M::State>, AllocError>

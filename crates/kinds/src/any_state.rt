@@ -1,5 +1,5 @@
 //! A state of an object of any kind.
-ghost use Rattle.std.specs.Prelude.{◌≡◌, ◌↔◌, IsTrue, IfOk};
+ghost use Rattle.std.specs.Prelude.{◌≡◌, IfOk};
 ghost use Rattle.kinds.specs.declared.model_kind.ModelKind.{ModelKind};
 ghost use Rattle.kinds.specs.Kinds.{object_of};
 ghost use Rattle.kinds.specs.AnyState.{any, kind_of_state, outcomes_of, AreOwnOutcomes};
@@ -11,6 +11,8 @@ use crate::wide_register::WideRegister;
 use crate::wide_set::WideSet;
 use crate::wide_unordered_queue::WideUnorderedQueue;
 use crate::{each_kind, of_kind};
+use objects::{Own, OwnObject, Specification};
+use rules::State;
 use models::{CasRegister, FifoQueue, Found, Mutex, Op, Register, SeqObject, Set, UnorderedQueue};
 use std::alloc::{AllocError, Global};
 use values::{Items, Multiset, Spans};
@@ -28,12 +30,15 @@ pub enum AnyState {
     WideSet(Spans),
     WideFifoQueue(Items),
     WideUnorderedQueue(Multiset),
+    /// Of an object by rules, with the object.
+    Own(&'static OwnObject, State),
 }
 
 macro_rules! drop_of {
     ($state:expr; $($K:ident $name:literal),*) => {
         match $state {
             $(AnyState::$K(_state) => {})*
+            AnyState::Own(_object, _state) => {}
         }
     };
 }
@@ -42,6 +47,7 @@ macro_rules! start_of {
     ($alloc:expr, $kind:expr; $($K:ident $name:literal),*) => {
         match $kind {
             $(ModelKind::$K => AnyState::$K($K::start($alloc)),)*
+            ModelKind::Own(object) => AnyState::Own(object, Own { object }.start($alloc)),
         }
     };
 }
@@ -50,6 +56,7 @@ macro_rules! state_kind {
     ($state:expr; $($K:ident $name:literal),*) => {
         match $state {
             $(AnyState::$K(_) => ModelKind::$K,)*
+            AnyState::Own(object, _) => ModelKind::Own(*object),
         }
     };
 }
@@ -58,15 +65,7 @@ macro_rules! copy_of_state {
     ($state:expr, $alloc:expr; $($K:ident $name:literal),*) => {
         match $state {
             $(AnyState::$K(state) => Ok(AnyState::$K($K::copy($alloc, state)?)),)*
-        }
-    };
-}
-
-macro_rules! same_state {
-    ($a:expr, $b:expr; $($K:ident $name:literal),*) => {
-        match ($a, $b) {
-            $((AnyState::$K(a), AnyState::$K(b)) => $K::same(a, b),)*
-            _ => false,
+            AnyState::Own(object, state) => Ok(AnyState::Own(*object, *state)),
         }
     };
 }
@@ -75,6 +74,7 @@ macro_rules! outcomes_of_state {
     ($state:expr, $alloc:expr, $op:expr; $($K:ident $name:literal),*) => {
         match $state {
             $(AnyState::$K(state) => of_kind::outcomes_in::<$K>($alloc, state, $op),)*
+            AnyState::Own(object, state) => of_kind::outcomes_by_rules($alloc, *object, state, $op),
         }
     };
 }
@@ -107,13 +107,6 @@ impl AnyState {
         ensures { IfOk result (λ other. other ≡ self.now) }
     {
         each_kind!(copy_of_state; self, alloc)
-    }
-
-    /// Whether both are the same state of the same kind.
-    pub fn same(&self, other: &AnyState) -> bool
-        ensures { IsTrue result ↔ (self.now ≡ other.now) }
-    {
-        each_kind!(same_state; self, other)
     }
 
     /// The outcomes of the operation in the state, each once and in the order of the kind's table: the state after it and what it finds.

@@ -1,11 +1,13 @@
 //! The kinds of sequential object.
 ghost use Rattle.std.specs.Prelude.{◌≡◌};
 ghost use Rattle.models.specs.Names.{Finds};
-ghost use Rattle.kinds.specs.Kinds.{name_of};
+ghost use Rattle.kinds.specs.Kinds.{IsBuiltIn, name_of};
+
+use objects::OwnObject;
 
 /// The kinds of sequential object, named as in Knossos. The table of each is this project's own (`table_of` of the crate's definitions);
 /// nothing depends on Knossos's models.
-#[derive(Clone, Copy, Debug, PartialEq, Eq)]
+#[derive(Clone, Copy, Debug)]
 pub enum ModelKind {
     /// Holds a value, nil at first: read, write.
     Register,
@@ -29,14 +31,16 @@ pub enum ModelKind {
     WideFifoQueue,
     /// A queue without an order. Nothing is counted.
     WideUnorderedQueue,
+    /// An object by rules, such as one that a user declares in a file.
+    Own(&'static OwnObject),
 }
 
-/// The list of the kinds: `each_kind!(callback; args)` is `callback!(args; KIND "name", ..)`. KIND is the kind's variant in
+/// The list of the built-in kinds: `each_kind!(callback; args)` is `callback!(args; KIND "name", ..)`. KIND is the kind's variant in
 /// each enum that has one for each kind, and its [`SeqObject`](models::SeqObject).
 ///
-/// Each function that tells the kinds apart, here and in the crates above, is such a callback. So a further kind is a line here,
-/// implementations of `SeqObject` and `OfKind`, and a variant in each of these enums. Its name and its table are cases of `name_of` and
-/// `table_of` in the crate's definitions. Proofs that go by kinds have a case too.
+/// Each function that tells the kinds apart, here and in the crates above, is such a callback, with a line for [`ModelKind::Own`] in addition.
+/// So a further kind is a line here, implementations of `SeqObject` and `OfKind`, and a variant in each of these enums. Its name and its table
+/// are cases of `name_of` and `table_of` in the crate's definitions. Proofs that go by kinds have a case too.
 #[macro_export]
 macro_rules! each_kind {
     ($callback:ident; $($args:tt)*) => {
@@ -75,6 +79,7 @@ macro_rules! name_of_kind {
     ($kind:expr; $($K:ident $name:literal),*) => {
         match $kind {
             $(ModelKind::$K => $name,)*
+            ModelKind::Own(object) => object.name.as_str(),
         }
     };
 }
@@ -96,9 +101,9 @@ impl ModelKind {
         each_kind!(name_of_kind; self)
     }
 
-    /// The kind of this name, or `None` if there is none.
+    /// The built-in kind of this name, or `None` if there is none.
     pub fn of_name(text: &str) -> Option<ModelKind>
-        ensures { Finds result (λ kind. text.now ≡ name_of kind) }
+        ensures { Finds result (λ kind. IsBuiltIn kind × (text.now ≡ name_of kind)) }
     {
         each_kind!(kind_of_name; text)
     }

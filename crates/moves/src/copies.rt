@@ -5,12 +5,14 @@ ghost use Rattle.moves.specs.Tables.{IsSameTable, SayTheSame, ShowTheSame, rows_
 use crate::pending_op::PendingOp;
 use crate::table::Table;
 use interner::{States, founds, states};
-use models::SeqObject;
+use objects::Specification;
 use rows::RowSet;
 use std::alloc::AllocError;
 
 /// The same table, with memory of its own. Costs O(rows + states + answers).
-pub fn copied_whole<M: SeqObject>(table: &Table<M::State>) -> Result<Table<M::State>, AllocError>
+pub fn copied_whole<M: Specification>(
+    table: &Table<M::State>,
+) -> Result<Table<M::State>, AllocError>
     ensures { IfOk result (IsSameTable table.now) }
 {
     let states = states::copied::<M>(table.alloc, &table.states)?;
@@ -26,7 +28,7 @@ pub fn copied_whole<M: SeqObject>(table: &Table<M::State>) -> Result<Table<M::St
 
 // Appends the row at this place to the other table, with the number that its state has there. Returns false if the row has no state, or is
 // there already.
-fn put_again<M: SeqObject>(
+fn put_again<M: Specification>(
     table: &Table<M::State>,
     from: usize,
     other: &mut Table<M::State>,
@@ -51,7 +53,7 @@ fn put_again<M: SeqObject>(
 
 // The table with the states of its rows alone, if it has more states than rows. None if it has no more, and if two
 // rows are one, or one has no state: such rows say no ends.
-fn narrowed<M: SeqObject>(
+fn narrowed<M: Specification>(
     table: &Table<M::State>,
     calls: &[PendingOp],
 ) -> Result<Option<Table<M::State>>, AllocError>
@@ -78,7 +80,7 @@ fn narrowed<M: SeqObject>(
 
 /// A table that shows the same ends, with no more states than it has rows. It has copies of the rows and states, and shares the items of
 /// queues and the found members. Costs O(rows + states + answers).
-pub fn copied<M: SeqObject>(
+pub fn copied<M: Specification>(
     table: &Table<M::State>,
     calls: &[PendingOp],
 ) -> Result<Table<M::State>, AllocError>

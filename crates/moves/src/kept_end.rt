@@ -4,7 +4,8 @@ ghost use Rattle.moves.specs.KeptEnds.{end_kept, found_at, has_crashed};
 ghost use Rattle.moves.specs.EndSteps.{settled, after_crash, is_in, with_call};
 
 use crate::pending_op::PendingOp;
-use models::{Found, SeqObject};
+use models::Found;
+use objects::Specification;
 use std::alloc::{AllocError, Global};
 
 /// The result of a legal order: the state, the answer of each open operation in it, and the crashed operations in it.
@@ -47,7 +48,7 @@ fn copied(alloc: Global, pending: &[(u32, Found)]) -> Result<Vec<(u32, Found)>, 
 }
 
 /// The same end. The items of queues and the members that were found are shared. Costs a copy of its state, and O(the operations in it).
-pub fn copy_of<M: SeqObject>(
+pub fn copy_of<M: Specification>(
     alloc: Global,
     kept: &KeptEnd<M::State>,
 ) -> Result<KeptEnd<M::State>, AllocError>

@@ -11,7 +11,8 @@ use crate::pending_op::PendingOp;
 use crate::table::{self, Table};
 use interner::founds;
 use interner::states::number_of;
-use models::{Found, SeqObject};
+use models::Found;
+use objects::Specification;
 use std::alloc::{AllocError, Global};
 
 // More moves than these are not remembered.
@@ -160,7 +161,7 @@ fn remember(
 }
 
 // The target that is this outcome.
-fn target_of<M: SeqObject>(
+fn target_of<M: Specification>(
     table: &mut Table<M::State>,
     crashed: bool,
     state: M::State,
@@ -175,7 +176,7 @@ fn target_of<M: SeqObject>(
 }
 
 // Puts the targets that are these outcomes behind the others.
-fn put_targets<M: SeqObject>(
+fn put_targets<M: Specification>(
     table: &mut Table<M::State>,
     targets: &mut Vec<(usize, usize)>,
     crashed: bool,
@@ -224,7 +225,7 @@ fn move_to_one(
 }
 
 // The move to these outcomes, whose targets are put behind the others. If there is one, it mostly needs no place there.
-fn move_to<M: SeqObject>(
+fn move_to<M: Specification>(
     table: &mut Table<M::State>,
     targets: &mut Vec<(usize, usize)>,
     crashed: bool,
@@ -385,7 +386,8 @@ pub fn recalled<S>(moves: &Moves<S>, number: usize, at: usize, call_count: usize
 
 /// Tries the call in the state with this number, and remembers its move. `AllocError` if there is no memory for the outcomes or for the
 /// move. Takes one step. Costs a look-up of each outcome, and O(moves) if the list of moves grows.
-pub fn try_call<M: SeqObject>(
+pub fn try_call<M: Specification>(
+    specification: M,
     table: &mut Table<M::State>,
     moves: &mut Moves<M::State>,
     number: usize,
@@ -394,10 +396,10 @@ pub fn try_call<M: SeqObject>(
     applied: &mut u64,
 ) -> Result<Move, AllocError>
     requires within { at < length calls.now }
-    ensures moves { OnOk result (KeepMoves M.apply_to calls.now table.old table.new moves.old moves.new) }
+    ensures moves { OnOk result (KeepMoves (M.outcomes_of specification) calls.now table.old table.new moves.old moves.new) }
     ensures does { (s : M.State) (c : PendingOp) → slice_get table.old.states number ≡ Some s
         → slice_get calls.now at ≡ Some c
-        → IfOk result (λ to. AreTo table.new c.crashed (M.apply_to c.op s)
+        → IfOk result (λ to. AreTo table.new c.crashed (M.outcomes_of specification c.op s)
         (targets_of to moves.new.targets.items)) }
     ensures known { IfOk result (λ to. IsKnown to moves.new.targets.items) }
     ensures tries { OnlyTries table.old table.new applied.old applied.new }
@@ -408,7 +410,14 @@ pub fn try_call<M: SeqObject>(
     let Some(state) = table.states.get(number) else {
         return Ok(Move::Nowhere);
     };
-    table::step::<M>(table.alloc, state, &call.op, &mut moves.outcomes, applied)?;
+    table::step::<M>(
+        specification,
+        table.alloc,
+        state,
+        &call.op,
+        &mut moves.outcomes,
+        applied,
+    )?;
     let to = move_to::<M>(table, &mut moves.targets, call.crashed, &mut moves.outcomes)?;
     remember(&mut moves.known, number, at, calls.len(), to)?;
     Ok(to)

@@ -15,7 +15,8 @@ use crate::kept_end::{KeptEnd, found_in, has};
 use crate::moves::{self, Attempt, Move, Moves};
 use crate::pending_op::PendingOp;
 use interner::{FoundTable, States, founds, states};
-use models::{Found, Op, SeqObject};
+use models::{Found, Op};
+use objects::Specification;
 use rows::{Row, RowSet};
 use std::alloc::{AllocError, Global};
 use std::hash::Hash;
@@ -76,7 +77,7 @@ fn found_by<S>(kept: &KeptEnd<S>, call: &PendingOp) -> Result<Option<Found>, All
 }
 
 // The row of the end.
-fn row_of<M: SeqObject>(
+fn row_of<M: Specification>(
     table: &mut Table<M::State>,
     kept: &KeptEnd<M::State>,
     calls: &[PendingOp],
@@ -96,21 +97,22 @@ fn row_of<M: SeqObject>(
 }
 
 /// Writes the outcomes of the operation in the state: one step, which is counted. No other function tries an operation. `AllocError` if
-/// there is no memory for them; the step is counted then too. Costs what [`SeqObject::append_outcomes`] costs.
-pub fn step<M: SeqObject>(
+/// there is no memory for them; the step is counted then too. Costs what [`Specification::append_outcomes`] costs.
+pub fn step<M: Specification>(
+    specification: M,
     alloc: Global,
     state: &M::State,
     op: &Op,
     outcomes: &mut Vec<(M::State, Found)>,
     applied: &mut u64,
 ) -> Result<(), AllocError>
-    ensures outcomes { OnOk result (outcomes.new.items ≡ M.apply_to op.now state.now) }
+    ensures outcomes { OnOk result (outcomes.new.items ≡ M.outcomes_of specification op.now state.now) }
     ensures counted { applied.new ≡ min (applied.old + 1) (2 ^ 64 - 1) }
     ensures never_falls { applied.old ≤ applied.new }
 {
     *applied = applied.saturating_add(1);
     outcomes.clear();
-    M::append_outcomes(alloc, state, op, outcomes)
+    specification.append_outcomes(alloc, state, op, outcomes)
 }
 
 /// The state with this number. It is the state of each row whose first number this is. Takes constant time.
@@ -140,7 +142,8 @@ pub fn told_by(crashed: bool, found: Found) -> Found
 
 /// Where the call, which is not in it, leads from the end of the row; the row itself is for the contract alone. Takes constant time
 /// if that is known, and else one step, and the time of looking its outcomes up.
-pub fn led_to<M: SeqObject>(
+pub fn led_to<M: Specification>(
+    specification: M,
     table: &mut Table<M::State>,
     moves: &mut Moves<M::State>,
     row: &Row,
@@ -152,9 +155,9 @@ pub fn led_to<M: SeqObject>(
     requires before { attempt.representative ≤ attempt.at }
     requires number { attempt.number ≡ get_or row.now 0 0 }
     requires zero_there { slice_get row.now (attempt.at + 1) ≡ Some 0 }
-    ensures moves { OnOk result (KeepMoves M.apply_to calls.now table.old table.new moves.old moves.new) }
-    ensures next { let object = of_table M.State M.start_state M.apply_to in
-        AreMoves M.apply_to table.old calls.now moves.old.known moves.old.targets.items
+    ensures moves { OnOk result (KeepMoves (M.outcomes_of specification) calls.now table.old table.new moves.old moves.new) }
+    ensures next { let object = of_table M.State (M.start_of specification) (M.outcomes_of specification) in
+        AreMoves (M.outcomes_of specification) table.old calls.now moves.old.known moves.old.targets.items
         → IsAlike calls.now attempt.at attempt.representative → HasEachOnce calls.now
         → (c : PendingOp) (e : End M.State) → slice_get calls.now attempt.at ≡ Some c
         → Shows table.old calls.now row.now e
@@ -167,7 +170,15 @@ pub fn led_to<M: SeqObject>(
     let number = attempt.number;
     match moves::recalled(moves, number, attempt.representative, calls.len()) {
         Some(to) => Ok(to),
-        None => moves::try_call::<M>(table, moves, number, calls, attempt.representative, applied),
+        None => moves::try_call::<M>(
+            specification,
+            table,
+            moves,
+            number,
+            calls,
+            attempt.representative,
+            applied,
+        ),
     }
 }
 
@@ -194,7 +205,7 @@ pub fn clear<S: Hash + Drop>(table: &mut Table<S>)
 
 /// Replaces the rows of the table by the rows of these ends, in order. Equal ends become one row. `AllocError` if there is no memory: then
 /// some of the rows are there. Costs a copy of each end's state, and a search for each call in each end.
-pub fn refill<M: SeqObject>(
+pub fn refill<M: Specification>(
     table: &mut Table<M::State>,
     ends: &[KeptEnd<M::State>],
     calls: &[PendingOp],
@@ -214,7 +225,7 @@ pub fn refill<M: SeqObject>(
 
 /// The ends as rows, in order; ends that are the same become one row. Costs a copy of each end's state, and a search for each call in each
 /// end.
-pub fn table_of_ends<M: SeqObject>(
+pub fn table_of_ends<M: Specification>(
     alloc: Global,
     ends: &[KeptEnd<M::State>],
     calls: &[PendingOp],
@@ -274,7 +285,7 @@ fn include_at<S: Hash + Drop>(
 }
 
 // The row at `row_at` as an end. `None` if the row has no state; each row of an end has one.
-fn kept_of<M: SeqObject>(
+fn kept_of<M: Specification>(
     table: &Table<M::State>,
     row_at: usize,
     calls: &[PendingOp],
@@ -298,7 +309,7 @@ fn kept_of<M: SeqObject>(
 }
 
 /// The ends that the rows say, in order. Costs O(all numbers of the rows), and a copy of each row's state.
-pub fn ends_of_table<M: SeqObject>(
+pub fn ends_of_table<M: Specification>(
     table: &Table<M::State>,
     calls: &[PendingOp],
 ) -> Result<Vec<KeptEnd<M::State>>, AllocError>

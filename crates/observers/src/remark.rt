@@ -49,6 +49,8 @@ fn has_operation(kind: ModelKind, name: Name) -> bool {
         | ModelKind::WideFifoQueue
         | ModelKind::WideUnorderedQueue => { matches!(name, Name::Enqueue | Name::Dequeue) }
         ModelKind::Set | ModelKind::WideSet => matches!(name, Name::Add | Name::Read),
+        // A file of objects has its own remarks.
+        ModelKind::Own(_) => true,
     }
 }
 

@@ -13,7 +13,7 @@ ghost use Rattle.product_ends.specs.Transitions.{IsAlone};
 
 use ends::{PendingOp, Table};
 use interner::{FoundTable, States, founds, states};
-use models::SeqObject;
+use objects::Specification;
 use products::number_set::{HIGH, has, singleton, union};
 use products::{Products, Scratch};
 use rows::RowSet;
@@ -197,7 +197,7 @@ fn renumber_sets(
 /// A table with the states and the answers of these products alone, and without rows, and the products by its numbers. None if a state or
 /// an answer is not in the table, or if a number above 62 would be in a set of several. Costs a copy of each product's state and of its
 /// numbers, and [`Products::put`] for each product.
-pub fn renumbered<M: SeqObject>(
+pub fn renumbered<M: Specification>(
     table: &Table<M::State>,
     kept: &Products,
 ) -> Result<Option<(Table<M::State>, Products)>, AllocError>

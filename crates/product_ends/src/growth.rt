@@ -10,7 +10,7 @@ use crate::target::{Target, put_widened};
 use crate::transitions::{Transition, forget, transitions_in};
 use crate::workspace::{Source, Work};
 use ends::{PendingOp, Table};
-use models::SeqObject;
+use objects::Specification;
 use products::Products;
 use products::appending::append;
 use products::number_set::{has, intersection};
@@ -31,7 +31,8 @@ fn take_source(source: &mut Source, products: &Products, at: usize) -> Result<()
 
 // Adds the ends that the call at this place leads to from the source, whose place is before `growable_from`: products before that place
 // were gone through, and get no more rows. False if all rows are more than the budget.
-fn grow_at<M: SeqObject>(
+fn grow_at<M: Specification>(
+    specification: M,
     table: &mut Table<M::State>,
     work: &mut Work<M::State>,
     calls: &[PendingOp],
@@ -40,15 +41,15 @@ fn grow_at<M: SeqObject>(
     budget: u32,
     applied: &mut u64,
 ) -> Result<bool, AllocError>
-    requires may_grow { MayGrow M.apply_to table.old calls.now budget work.old }
+    requires may_grow { MayGrow (M.outcomes_of specification) table.old calls.now budget work.old }
     requires source { HasSource work.old }
     requires call { at < length calls.now }
     requires place { at < length work.old.source.sets.items }
     ensures grown { IfOk result
-        (AreGrown M.apply_to table.new calls.now growable_from budget work.old.all.1 work.new applied.old applied.new) }
-    ensures reached { let object = of_table M.State M.start_state M.apply_to in OnOk result
+        (AreGrown (M.outcomes_of specification) table.new calls.now growable_from budget work.old.all.1 work.new applied.old applied.new) }
+    ensures reached { let object = of_table M.State (M.start_of specification) (M.outcomes_of specification) in OnOk result
         (StaysReached object table.old table.new calls.now work.old.all.1 work.new.all.1) }
-    ensures leads { let object = of_table M.State M.start_state M.apply_to in
+    ensures leads { let object = of_table M.State (M.start_of specification) (M.outcomes_of specification) in
         AreReached object table.old calls.now work.old.all.1
         → OnOk result (LeadsAt object table.new calls.now work.new.all.1 (product_in work.old.source) at) }
     ensures source { KeepsSource work.old work.new }
@@ -70,7 +71,7 @@ fn grow_at<M: SeqObject>(
                 place: at,
                 set: found,
             };
-            put_widened::<M>(table, work, calls, target, growable_from, budget, applied)
+            put_widened::<M>(specification, table, work, calls, target, growable_from, budget, applied)
         }
         _ => Ok(true),
     }
@@ -78,7 +79,8 @@ fn grow_at<M: SeqObject>(
 
 // Adds what the calls lead to from the product at this place. False if all rows are more than the budget, and then there may be
 // more to add.
-fn grow_from<M: SeqObject>(
+fn grow_from<M: Specification>(
+    specification: M,
     table: &mut Table<M::State>,
     work: &mut Work<M::State>,
     calls: &[PendingOp],
@@ -86,14 +88,14 @@ fn grow_from<M: SeqObject>(
     budget: u32,
     applied: &mut u64,
 ) -> Result<bool, AllocError>
-    requires may_grow { MayGrow M.apply_to table.old calls.now budget work.old }
+    requires may_grow { MayGrow (M.outcomes_of specification) table.old calls.now budget work.old }
     requires here { source_index < length work.old.all.1 }
     requires before { source_index < 2 ^ 64 - 1 }
     ensures grown { IfOk result
-        (AreGrown M.apply_to table.new calls.now (source_index + 1) budget work.old.all.1 work.new applied.old applied.new) }
-    ensures reached { let object = of_table M.State M.start_state M.apply_to in OnOk result
+        (AreGrown (M.outcomes_of specification) table.new calls.now (source_index + 1) budget work.old.all.1 work.new applied.old applied.new) }
+    ensures reached { let object = of_table M.State (M.start_of specification) (M.outcomes_of specification) in OnOk result
         (StaysReached object table.old table.new calls.now work.old.all.1 work.new.all.1) }
-    ensures closed { let object = of_table M.State M.start_state M.apply_to in
+    ensures closed { let object = of_table M.State (M.start_of specification) (M.outcomes_of specification) in
         AreReached object table.old calls.now work.old.all.1 → AreClosedTo object table.old calls.now work.old.all.1 source_index
         → IfOk result (λ within_budget. within_budget ≡ true → AreClosedTo object table.new calls.now work.new.all.1 (source_index + 1)) }
     ensures steps { TriesAtMost (length calls.now * (budget + 1 - length (rows_in work.old.all.1)))
@@ -101,7 +103,7 @@ fn grow_from<M: SeqObject>(
 {
     take_source(&mut work.source, &work.all, source_index)?;
     for at in 0..work.source.sets.len().min(calls.len()) {
-        if !grow_at::<M>(table, work, calls, at, source_index + 1, budget, applied)? {
+        if !grow_at::<M>(specification, table, work, calls, at, source_index + 1, budget, applied)? {
             return Ok(false);
         }
     }
@@ -109,7 +111,8 @@ fn grow_from<M: SeqObject>(
 }
 
 // Replaces the products by the kept ones, widened. Returns false if they have more rows than the budget.
-fn begin<M: SeqObject>(
+fn begin<M: Specification>(
+    specification: M,
     table: &mut Table<M::State>,
     kept: &Products,
     work: &mut Work<M::State>,
@@ -117,9 +120,9 @@ fn begin<M: SeqObject>(
     budget: u32,
     applied: &mut u64,
 ) -> Result<bool, AllocError>
-    requires single { HasOneOutcome M.apply_to }
-    ensures grown { IfOk result (AreGrown M.apply_to table.new calls.now 0 budget [] work.new applied.old applied.new) }
-    ensures reached { let object = of_table M.State M.start_state M.apply_to in OnOk result
+    requires single { HasOneOutcome (M.outcomes_of specification) }
+    ensures grown { IfOk result (AreGrown (M.outcomes_of specification) table.new calls.now 0 budget [] work.new applied.old applied.new) }
+    ensures reached { let object = of_table M.State (M.start_of specification) (M.outcomes_of specification) in OnOk result
         (StaysReached object table.old table.new calls.now kept.now.1 work.new.all.1) }
     ensures all { IfOk result (λ within_budget. within_budget ≡ true → LosesNoRow kept.now.1 work.new.all.1) }
     ensures steps { TriesAtMost (length calls.now * (budget + 1)) table.old table.new applied.old applied.new }
@@ -134,7 +137,7 @@ fn begin<M: SeqObject>(
             place: work.source.sets.len(),
             set: 0,
         };
-        if !put_widened::<M>(table, work, calls, itself, 0, budget, applied)? {
+        if !put_widened::<M>(specification, table, work, calls, itself, 0, budget, applied)? {
             return Ok(false);
         }
     }
@@ -143,7 +146,8 @@ fn begin<M: SeqObject>(
 
 /// Adds the products to which the calls lead. Goes once through the products while they grow. Returns false if there are more rows than the
 /// budget; then some rows may be missing.
-pub fn grow<M: SeqObject>(
+pub fn grow<M: Specification>(
+    specification: M,
     table: &mut Table<M::State>,
     kept: &Products,
     work: &mut Work<M::State>,
@@ -151,17 +155,17 @@ pub fn grow<M: SeqObject>(
     budget: u32,
     applied: &mut u64,
 ) -> Result<bool, AllocError>
-    requires single { HasOneOutcome M.apply_to }
-    ensures found { let object = of_table M.State M.start_state M.apply_to in IfOk result
+    requires single { HasOneOutcome (M.outcomes_of specification) }
+    ensures found { let object = of_table M.State (M.start_of specification) (M.outcomes_of specification) in IfOk result
         (AreFound object table.old table.new calls.now budget kept.now.1 work.new.all.1) }
     ensures steps { TriesAtMost (length calls.now * (budget + 1)) table.old table.new applied.old applied.new }
 {
-    if !begin::<M>(table, kept, work, calls, budget, applied)? {
+    if !begin::<M>(specification, table, kept, work, calls, budget, applied)? {
         return Ok(false);
     }
     let mut at = 0;
     while at < work.all.len() {
-        if !grow_from::<M>(table, work, calls, at, budget, applied)? {
+        if !grow_from::<M>(specification, table, work, calls, at, budget, applied)? {
             return Ok(false);
         }
         at += 1;

@@ -7,7 +7,8 @@ ghost use Rattle.product_ends.specs.Transitions.{AreSound, AreStays, AreTriedToo
 use ends::{PendingOp, Table, step, told_by};
 use interner::founds::slot_at;
 use interner::states::number_of;
-use models::{Found, SeqObject};
+use models::Found;
+use objects::Specification;
 use products::number_set::singleton;
 use std::alloc::{AllocError, Global};
 
@@ -107,23 +108,24 @@ pub fn stays_in<S>(transitions: &Transitions<S>, number: usize, call_count: usiz
 }
 
 // The transition of the call in the state with this number: one step.
-fn try_call<M: SeqObject>(
+fn try_call<M: Specification>(
+    specification: M,
     table: &mut Table<M::State>,
     outcomes: &mut Vec<(M::State, Found)>,
     number: usize,
     call: &PendingOp,
     applied: &mut u64,
 ) -> Result<Transition, AllocError>
-    requires single { HasOneOutcome M.apply_to }
+    requires single { HasOneOutcome (M.outcomes_of specification) }
     ensures transition { IfOk result (λ transition. (s : M.State) × (slice_get table.new.states number ≡ Some s)
-        × IsTransition table.new call.now (M.apply_to call.now.op s) transition) }
+        × IsTransition table.new call.now (M.outcomes_of specification call.now.op s) transition) }
     ensures tries { OnlyTries table.old table.new applied.old applied.new }
     ensures cost { applied.new ≤ applied.old + 1 }
 {
     let Some(state) = table.states.get(number) else {
         return Err(AllocError);
     };
-    step::<M>(table.alloc, state, &call.op, outcomes, applied)?;
+    step::<M>(specification, table.alloc, state, &call.op, outcomes, applied)?;
     match outcomes.pop() {
         Some((state, found)) => {
             let to = number_of::<M>(&mut table.states, state)?;
@@ -163,22 +165,23 @@ fn note_order(order: &mut Vec<usize>, number: usize, first: usize) -> Result<(),
 /// Tries each call in the state with this number, and remembers what it does. `AllocError` if there is no memory for it, or no
 /// such state. Takes one step for each call.
 #[inline(never)]
-pub fn try_each<M: SeqObject>(
+pub fn try_each<M: Specification>(
+    specification: M,
     table: &mut Table<M::State>,
     transitions: &mut Transitions<M::State>,
     number: usize,
     calls: &[PendingOp],
     applied: &mut u64,
 ) -> Result<(), AllocError>
-    requires single { HasOneOutcome M.apply_to }
-    ensures sound { AreSound M.apply_to table.old calls.now transitions.old
-        → OnOk result (AreSound M.apply_to table.new calls.now transitions.new) }
+    requires single { HasOneOutcome (M.outcomes_of specification) }
+    ensures sound { AreSound (M.outcomes_of specification) table.old calls.now transitions.old
+        → OnOk result (AreSound (M.outcomes_of specification) table.new calls.now transitions.new) }
     ensures tried { OnOk result (AreTriedToo number transitions.old transitions.new) }
     ensures steps { TriesAtMost (length calls.now) table.old table.new applied.old applied.new }
 {
     let before = transitions.transitions.len();
     for call in calls {
-        let transition = try_call::<M>(table, &mut transitions.outcomes, number, call, applied)?;
+        let transition = try_call::<M>(specification, table, &mut transitions.outcomes, number, call, applied)?;
         transitions.transitions.push(transition)?;
         transitions.stays.push(stay(transition, number))?;
     }

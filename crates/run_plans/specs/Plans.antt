@@ -5,7 +5,7 @@ use Rattle.models.specs.declared.operation.Name.TheVariants.{Read, Write, Cas, A
 use Rattle.models.specs.declared.operation.Part.{Part}
 use Rattle.models.specs.declared.operation.Part.TheVariants.{Nil, Int, Pair}
 use Rattle.kinds.specs.declared.model_kind.ModelKind.{ModelKind}
-use Rattle.kinds.specs.declared.model_kind.ModelKind.TheVariants.{Register, CasRegister, Mutex, FifoQueue, UnorderedQueue, WideRegister, WideCasRegister, WideSet, WideFifoQueue, WideUnorderedQueue, Set}
+use Rattle.kinds.specs.declared.model_kind.ModelKind.TheVariants.{Register, CasRegister, Mutex, FifoQueue, UnorderedQueue, WideRegister, WideCasRegister, WideSet, WideFifoQueue, WideUnorderedQueue, Set, Own}
 use Rattle.events.specs.declared.event.Fault.{Fault}
 use Rattle.events.specs.declared.event.Fault.TheVariants.{Partition, Heal, LoseReplies, Crash, Restart}
 use Rattle.generators.specs.declared.item.Item.TheVariants.{Op}
@@ -41,6 +41,7 @@ on_key WideCasRegister key =
 on_key WideSet key = in_turn Add key numbers ∷ in_turn Read key nothing ∷ []
 on_key WideFifoQueue key = in_turn Enqueue key numbers ∷ in_turn Dequeue key nothing ∷ []
 on_key WideUnorderedQueue key = in_turn Enqueue key numbers ∷ in_turn Dequeue key nothing ∷ []
+on_key (Own object) key = []
 
 -- that of the first n keys, 0 and on, in turn
 abbrev pub on_keys : ModelKind → ℕ → List Generator

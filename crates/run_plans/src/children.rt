@@ -55,6 +55,8 @@ fn add_children(
             children.push(numbers(alloc, key, Name::Add)?)?;
             children.push(plain(alloc, key, Name::Read)?)?;
         }
+        // A run has the built-in kinds alone.
+        ModelKind::Own(_) => {}
     }
     Ok(())
 }

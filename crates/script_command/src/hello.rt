@@ -4,11 +4,11 @@ ghost use Rattle.script_command.specs.Hello.{hello_line};
 
 use kinds::{ModelKind, each_kind};
 
-/// The program's version: `with_version!(callback; args)` is `callback!(args; "1.6.1")`.
+/// The program's version: `with_version!(callback; args)` is `callback!(args; "1.7.0")`.
 #[macro_export]
 macro_rules! with_version {
     ($callback:ident; $($args:tt)*) => {
-        $callback! { $($args)*; "1.6.1" }
+        $callback! { $($args)*; "1.7.0" }
     };
 }
 

@@ -3,6 +3,7 @@ ghost use Rattle.std.specs.Prelude.{◌≡◌, ◌↔◌, ◌<◌, ◌≤◌, �
 ghost use Rattle.edn.specs.Value.{Value};
 ghost use Rattle.models.specs.Objects.{IsOneOf};
 ghost use Rattle.kinds.specs.declared.model_kind.ModelKind.{ModelKind};
+ghost use Rattle.kinds.specs.Kinds.{IsBuiltIn};
 ghost use Rattle.events.specs.declared.event.Event.{Event};
 ghost use Rattle.events.specs.Spelling.{number_in};
 ghost use Rattle.history.specs.WellFormed.{IsConcurrency, HasRoom};
@@ -41,5 +42,5 @@ pub fn hello_law()
     ensures keys { (value : Value) → key_in value ≡ number_in key_limit value }
     ensures events { (events : List Event) → HasRoom events ↔ (length events < event_limit) }
     ensures budgets { (n : ℕ) → IsBudget n ↔ ((1 ≤ n) × (n ≤ budget_limit)) }
-    ensures kinds { (kind : ModelKind) → IsOneOf KINDS.now kind }
+    ensures kinds { (kind : ModelKind) → IsBuiltIn kind → IsOneOf KINDS.now kind }
 {}

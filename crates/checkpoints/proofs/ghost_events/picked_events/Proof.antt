@@ -17,8 +17,8 @@ use Rattle.checkpoints.specs.contracts.ghost_events.GhostEvents as made
 use Rattle.checkpoints.proofs.ghost_events.picked_events.Statement.{statement}
 use Rattle.checkpoints.proofs.ghost_events.picked_events.Code as code
 
-pub tell_spec : {M : Type 1} → statement M
-tell_spec 𝓤 𝓛 𝓜 𝓡 wired =
+pub picked_events_spec : {M : Type 1} → statement M
+picked_events_spec 𝓤 𝓛 𝓜 𝓡 wired =
     let c = f.clauses 𝓛 𝓜.mem 𝓡.returns in let W = walk_of 𝓛 f.ended tt c in
     proved 𝓛 f.ended tt c 𝓜 𝓡 tt f.Key.name code.function (code.unfolded 𝓤 𝓛.H 𝓜 𝓡 wired) (λ κs. tt) (λ κs. tt) (λ κs qs bounds a picked are.
     let y : W.Ghost = ((tt, tt, tt, tt, tt), picked) in

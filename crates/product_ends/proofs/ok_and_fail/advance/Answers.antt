@@ -12,7 +12,7 @@ counted before after calls ends cost = subst (λ steps. after ≤ before + steps
 
 pub returns-then-not-branch-clause-found : goal.returns-then-not-branch-clause-found
 returns-then-not-branch-clause-found g c =
-    let o = of_table g.row.M-State.Denot g.M.SeqObject.start_state g.M.SeqObject.apply_to in
+    let o = of_table g.row.M-State.Denot (g.M.Specification.start_of c.args.specification) (g.M.Specification.outcomes_of c.args.specification) in
     let found = c.in_ok-grow.ensures.found in
     record {
       all = search rules;
@@ -23,7 +23,7 @@ returns-then-not-branch-clause-found g c =
 
 pub returns-clause-found : goal.returns-clause-found
 returns-clause-found g c =
-    let o = of_table g.row.M-State.Denot g.M.SeqObject.start_state g.M.SeqObject.apply_to in
+    let o = of_table g.row.M-State.Denot (g.M.Specification.start_of c.args.specification) (g.M.Specification.outcomes_of c.args.specification) in
     let found = c.in_ok-grow.ensures.found in
     record {
       all = λ once ends shown closed _.
