@@ -63,6 +63,9 @@ fn is_replied_so<X: Wait + Clock + Eprint>(
 #[test]
 fn cut_off_at_each_byte(rt: HostRuntime) {
     for n in 0..=LINES.len() {
-        assert!(rt; is_replied_so(&rt, rt.alloc(), &LINES[..n]), "cut off after {n} bytes");
+        assert!(rt;
+            is_replied_so(&rt, rt.alloc(), &LINES[..n]),
+            "cut off after {n} bytes"
+        );
     }
 }

@@ -61,45 +61,44 @@ const ECHOED: Setup = Setup {
     ..WELL
 };
 
-// How many lines close the machine; the reader and the writer. Then the results: the lines at the end or the refusal's number, the output,
-// and the number of flushes: once for each read behind which there was output.
-type Row = (u32, Setup, Result<u32, u8>, &'static [u8], u32);
+// How many lines close the machine; where the reader has an error, and whether that is a failure; how much the writer takes, and whether it
+// then fails. Then the results: the lines at the end or the refusal's number, the output, and the number of flushes: once for each read
+// behind which there was output.
+type Row = (
+    u32,
+    usize,
+    bool,
+    usize,
+    bool,
+    Result<u32, u8>,
+    &'static [u8],
+    u32,
+);
 
 const WHOLE: &[u8] = b"a\nb\nlast\n";
 
-// An error at this place that is none, or a failure.
-const fn erring(good: usize, is_failure: bool) -> Setup {
-    Setup {
-        good,
-        is_failure,
-        ..ECHOED
-    }
-}
-
-// A writer that takes so many bytes, and then fails or takes none.
-const fn narrow(room: usize, fails: bool) -> Setup {
-    Setup {
-        room,
-        fails,
-        ..ECHOED
-    }
-}
-
 const ROWS: [Row; 9] = [
-    (99, ECHOED, Ok(4), WHOLE, 3),
-    (99, erring(3, false), Ok(4), WHOLE, 3),
-    (99, erring(7, true), Err(20), b"a\nb\n", 2),
-    (99, narrow(3, true), Err(21), b"a\nb", 1),
-    (99, narrow(3, false), Err(21), b"a\nb", 1),
-    (99, narrow(0, false), Err(21), b"", 0),
+    (99, 99, false, 99, false, Ok(4), WHOLE, 3),
+    (99, 3, false, 99, false, Ok(4), WHOLE, 3),
+    (99, 7, true, 99, false, Err(20), b"a\nb\n", 2),
+    (99, 99, false, 3, true, Err(21), b"a\nb", 1),
+    (99, 99, false, 3, false, Err(21), b"a\nb", 1),
+    (99, 99, false, 0, false, Err(21), b"", 0),
     // It is closed by the third line, and what the reader has behind it is not read, nor its failure met.
-    (3, erring(5, true), Ok(3), b"a\nb\n", 2),
-    (1, erring(2, true), Ok(1), b"a\n", 1),
-    (4, ECHOED, Ok(4), WHOLE, 3),
+    (3, 5, true, 99, false, Ok(3), b"a\nb\n", 2),
+    (1, 2, true, 99, false, Ok(1), b"a\n", 1),
+    (4, 99, false, 99, false, Ok(4), WHOLE, 3),
 ];
 
 fn goes<X: Wait>(rt: &X, alloc: Global, row: &Row) -> bool {
-    let (most, setup, want, written, flushes) = *row;
+    let (most, good, is_failure, room, fails, want, written, flushes) = *row;
+    let setup = Setup {
+        good,
+        is_failure,
+        room,
+        fails,
+        ..ECHOED
+    };
     let mut reader = drip_of(&setup, 0);
     let mut writer = narrow_of(alloc, &setup);
     let echo = Echo { lines: 0, most };

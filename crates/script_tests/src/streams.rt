@@ -68,12 +68,7 @@ impl<'a> Read for Drip<'a> {
             self.has_failed = self.is_failure;
             return Err(ErrorKind::Other.into());
         }
-        let n = self
-            .rest
-            .len()
-            .min(self.size)
-            .min(self.good)
-            .min(buf.len());
+        let n = self.rest.len().min(self.size).min(self.good).min(buf.len());
         let (piece, rest) = self.rest.split_at(n);
         buf[..n].copy_from_slice(piece);
         self.rest = rest;

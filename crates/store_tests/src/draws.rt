@@ -276,8 +276,8 @@ fn is_seen_once(source: &mut Source, place: u128) -> bool {
 
 fn is_seen_once_committed<R: Abort>(rt: &R, alloc: Global) -> bool {
     let mut source = source_of(rt, alloc, 5, &MIXED);
-    for place in 0..10u128 {
-        if !is_seen_once(&mut source, place) {
+    for place in 0..10u64 {
+        if !is_seen_once(&mut source, u128::from(place)) {
             return false;
         }
     }

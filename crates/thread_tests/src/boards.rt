@@ -18,7 +18,7 @@ pub struct Trial {
     /// The number of operations on key 0 that clients draw: reads, or writes of 1 and reads in turn.
     pub operations: u64,
     pub has_writes: bool,
-    /// The number of faults that are due before the first event. They change nothing.
+    /// 0, or 3: the number of faults that are due before the first event. They change nothing.
     pub faults: u32,
 }
 
@@ -44,10 +44,10 @@ fn generator(alloc: Global, trial: Trial) -> Result<Gen, AllocError> {
 }
 
 fn schedule(alloc: Global, trial: Trial) -> Result<Schedule, AllocError> {
-    let mut faults = Vec::new(alloc);
-    for _ in 0..trial.faults {
-        faults.push((0, Fault::Heal))?;
+    if trial.faults == 0 {
+        return Ok(Schedule::new(Vec::new(alloc)));
     }
+    let faults = vec![in alloc; (0, Fault::Heal), (0, Fault::Heal), (0, Fault::Heal)]?;
     Ok(Schedule::new(faults))
 }
 
