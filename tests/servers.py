@@ -30,6 +30,8 @@ PATIENCE = 1800.0  # seconds, on a busy machine
 COUNTED = [("rabbitmq", "early")]
 # Found only if a client reads at a server that is cut off and does not know it yet: seldom, where operations are slow.
 SELDOM = [("zookeeper", "own")]
+# Once in some fifty runs a node has diverged for good, after a loss of power beside other strikes: the verdict was right.
+DIVERGES = [("zookeeper", "register")]
 # beanstalkd syncs by its wall clock: once that was set back, it acknowledges what it has not synced, and a loss of power loses it.
 CLOCKED = {"beanstalkd": "kill,pause,cut,slow,bump,strobe"}
 FILES = {"redis": {"failover": "examples/python/redis_failover.py"}}  # servers that are wrong
@@ -93,9 +95,9 @@ def missing(server: str) -> Optional[str]:
 
 def passes(test: Test) -> bool:
     """Whether it is as it should be. A run without a verdict, as of a server that did not start in time, and a fault that was not met are
-    tried once more, and the output says so. A wrong verdict is not."""
+    tried once more, and the output says so. A wrong verdict is not, but of a server that diverges by itself."""
     good, status, text = run(test)
-    if status not in test.statuses and status != 1:
+    if status not in test.statuses and (status != 1 or (test.server, test.what) in DIVERGES):
         print(f"{test.name}: once more, after\n{text}", flush=True)
         good, status, text = run(test)
     print(f"{test.name}: {text}", flush=True)
