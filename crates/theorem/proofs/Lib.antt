@@ -2,6 +2,8 @@ pub mod Verdicts
 pub mod Commands
 pub mod Lines
 pub mod Scripts
+pub mod InParts
+pub mod Closing
 pub mod Sessions
 pub mod Listed
 pub mod Statuses

@@ -1,5 +1,5 @@
 //! Laws that lead from the clauses of the calls to the definitions of the page.
-ghost use Rattle.std.specs.Prelude.{◌≡◌, ℕ, Bool, List, [], Option, Result, Ok, Err, Some, None};
+ghost use Rattle.std.specs.Prelude.{◌≡◌, ℕ, Bool, true, false, List, [], ◌++◌, Option, Result, Ok, Err, Some, None};
 ghost use mathlib.Core.List.{IsPrefix};
 ghost use Rattle.edn.specs.declared.refusal.Refusal.{Refusal};
 ghost use Rattle.kinds.specs.declared.model_kind.ModelKind.{ModelKind};
@@ -31,7 +31,8 @@ use clients::laws::no_false_alarm_in_a_run;
 
 /// The bytes of a script. `script_command::run_script` promises its reply text over the one-thread object; this law promises the same over
 /// histories alone, by `Answers`. Each verdict in the text is right by the definition of Herlihy and Wing. Its history is well-formed: whatever
-/// lines lead to it, each event is well-formed after those before it.
+/// lines lead to it, each event is well-formed after those before it. A reply text of all lines begins
+/// with a reply text of each prefix of the lines. A script that is not strict stays open, and a closed script replies nothing.
 pub fn script_law()
     ensures replies { (setup : Setup) (is_strict : Bool) (input text : List ℕ) (end : Script) →
         IsReplyText MayReply (script setup is_strict) input text end
@@ -53,12 +54,22 @@ pub fn script_law()
     ensures well_formed { (setup : Setup) (is_strict : Bool) (lines : List (List ℕ)) (text : List ℕ) (end : Session) →
         Replies Answers (opened setup.concurrency setup.kind setup.budget is_strict) lines text end
         → IsHistoryOf setup.concurrency end.history.events }
+    ensures in_parts { (setup : Setup) (is_strict : Bool) (first later : List (List ℕ)) (text : List ℕ) (end : Session) →
+        Replies Answers (opened setup.concurrency setup.kind setup.budget is_strict) (first ++ later) text end
+        → (mid : Session) × (front : List ℕ) × (back : List ℕ)
+        × Replies Answers (opened setup.concurrency setup.kind setup.budget is_strict) first front mid
+        × Replies Answers mid later back end × (text ≡ front ++ back) }
+    ensures stays_open { (setup : Setup) (is_strict : Bool) (lines : List (List ℕ)) (text : List ℕ) (end : Session) →
+        Replies Answers (opened setup.concurrency setup.kind setup.budget is_strict) lines text end
+        → (end.is_strict ≡ is_strict) × (is_strict ≡ false → end.is_closed ≡ false) }
+    ensures silent { (old end : Session) (lines : List (List ℕ)) (text : List ℕ) → old.is_closed ≡ true
+        → Replies Answers old lines text end → (text ≡ []) × (end ≡ old) }
 {}
 
 /// The bytes of a recorded history. If they come to a verdict, it is right by the definition of Herlihy and Wing on the events that they
-/// spell. If they come to a refused event, they spell the events before it, and the process rule or a limit forbids the next one. In both
-/// cases each event is well-formed after those before it. So the exit status 0 of a check means that the history is linearizable, and 1 that
-/// it is not.
+/// spell. If they come to a refused element, they spell the events before it, and the element spells no event, or one that is refused after
+/// them. In both cases each event is well-formed after those before it. So the exit status 0 of a check means that the history is linearizable,
+/// and 1 that it is not.
 pub fn check_law()
     ensures judged { (setup : Setup) (bytes : List ℕ) (found : Findings) (verdict : Verdict) (text : List ℕ) →
         ComesTo setup bytes found → SaysOf found verdict text

@@ -1,5 +1,9 @@
+use Rattle.std.proofs.Common.{refl}
+use Rattle.theorem.specs.Theorem.{opened}
 use Rattle.theorem.proofs.Scripts.{reply_text, finishes, ends, keeps_up, stops, live}
 use Rattle.theorem.proofs.Sessions.{well_formed}
+use Rattle.theorem.proofs.InParts.{in_parts}
+use Rattle.theorem.proofs.Closing.{stays_open, silent}
 use Rattle.theorem.proofs.laws.script_law.Goals as goal
 
 pub returns-clause-replies : goal.returns-clause-replies
@@ -22,3 +26,12 @@ returns-clause-live c = live
 
 pub returns-clause-well_formed : goal.returns-clause-well_formed
 returns-clause-well_formed c = well_formed
+
+pub returns-clause-in_parts : goal.returns-clause-in_parts
+returns-clause-in_parts c = λ setup is_strict first later text end. in_parts first later (opened setup.concurrency setup.kind setup.budget is_strict) text end
+
+pub returns-clause-stays_open : goal.returns-clause-stays_open
+returns-clause-stays_open c = λ setup is_strict lines text end. stays_open is_strict lines (opened setup.concurrency setup.kind setup.budget is_strict) text end refl (λ _. refl)
+
+pub returns-clause-silent : goal.returns-clause-silent
+returns-clause-silent c = silent

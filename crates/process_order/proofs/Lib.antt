@@ -1,0 +1,4 @@
+pub mod Moves
+pub mod InTurn
+pub mod Once
+pub mod Legal
