@@ -195,7 +195,7 @@ def sentences(browser: Browser) -> List[str]:
 
 
 def smallest(browser: Browser) -> List[str]:
-    """The switch shows the smallest illegal part alone, and what it could hold; and all again."""
+    """The switch shows only the smallest illegal part, with the values that the object could hold, and then all operations again."""
     opened(browser, "register")
     count = len(MADE["register"]().smallest) // 2
     faults = differing("operations that fade", browser.count(".operation.other") > 0, True)

@@ -1,10 +1,10 @@
 #!/usr/bin/env python3
 """Runs examples/from-jepsen on recorded histories, and the built program on its output. Ends with 'N passed, M failed'.
 
-A case is a folder of tests/from-jepsen: input.edn, or instead input.py, which prints it; args, one word a line; stdout, stderr and status
-(0 where left out), which must agree to the byte. The file verdict has the last line of the program on that output, judged as the output's
-own advice says. The script gives refused outputs to jepmon check too, which must refuse them. With words, it runs the cases of these names
-alone.
+A case is a folder of tests/from-jepsen. It has input.edn, or input.py, which prints the input. It has args, one word a line. The output
+must agree to the byte with stdout, stderr and status (0 if there is no such file). The file verdict has the last line of the program on
+that output, judged as the output's own advice says. The script gives refused outputs to jepmon check too, which must refuse them. With
+words, it runs the cases of these names alone.
 """
 import functools
 import pathlib

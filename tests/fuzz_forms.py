@@ -91,7 +91,7 @@ def words() -> argparse.Namespace:
     parser.add_argument("--form", choices=tuple(PRINTERS))
     parser.add_argument("--jobs-of", type=int, default=JOBS_OF, metavar="N", help="judge one case of N by --jobs too")
     parser.add_argument("--out", type=pathlib.Path, help="a folder for the smallest case of each class")
-    parser.add_argument("--shares", action="store_true", help="what came of each variation")
+    parser.add_argument("--shares", action="store_true", help="the results of each variation")
     return parser.parse_args()
 
 

@@ -3,10 +3,10 @@
 wide one, and by both in turn (`[:model k kind]`).
 
 If both kinds decide, their replies must be the same. A key that changes its kind must get the reply of its new kind. A wide set and a wide
-unordered queue must never be unknown. By a small budget each reply of a wide register must be the one that the definition of lean ends gives,
-and each reply of a wide cas-register the one that the definition of fronts gives. Each reply of a wide fifo queue must follow its definition:
-unknown from the first ok on before which two enqueues of one value have not failed. A history of a right store must never be illegal, also if it has many clients and the plain kind does not
-decide it. JEPMON names the program.
+unordered queue must never be unknown. With a small budget each reply of a wide register must follow the definition of lean ends. Each reply
+of a wide cas-register must follow the definition of fronts. Each reply of a wide fifo queue must follow its definition: unknown from the
+first ok on before which two enqueues of one value have not failed. A history of a right store must never be illegal, also if it has many
+clients and the plain kind does not decide it. JEPMON names the program.
 """
 import argparse
 import collections

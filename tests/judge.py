@@ -65,7 +65,7 @@ def run_case(case: pathlib.Path) -> List[str]:
 
 
 def fits(shown: bytes, got: bytes) -> bool:
-    """Whether these lines came, where one of three dots stands for any."""
+    """Whether these lines came. A line of three dots stands for any lines."""
     lines = (b"(?s:.*)" if line == b"...\n" else re.escape(line) for line in shown.splitlines(True))
     return re.fullmatch(b"".join(lines), got) is not None
 

@@ -61,7 +61,7 @@ def package() -> pathlib.Path:
 
 @functools.lru_cache(maxsize=None)
 def installed() -> pathlib.Path:
-    """A folder in which dpkg has installed the package; who may not do so unpacks it."""
+    """A folder in which dpkg has installed the package. Without root, dpkg-deb unpacks the package into it."""
     root = room() / "root"
     for part in ("info", "updates", "triggers"):
         (root / "var/lib/dpkg" / part).mkdir(parents=True)

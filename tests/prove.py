@@ -1,6 +1,6 @@
 #!/usr/bin/env python3
-"""Runs `rt ci` as the gate does, passes its output on, and says how much was proved again, where the processor time went, and how much
-memory the checks took.
+"""Runs `rt ci` as the gate does, and passes its output on. Then it says how much was proved again, where the processor time went, and how
+much memory the checks took.
 
 It reads the time and the memory of the checks that `rt ci` starts once a second from /proc: those of proofs, and those of tests. The time
 of shorter processes counts as other. The last line is that of `rt ci`.

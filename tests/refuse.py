@@ -1,8 +1,8 @@
 """Runs a built program with one of its allocations refused: `run(program, words, stdin, nth)`.
 
-Every growth of a program goes through its functions `rattle_alloc` and `rattle_realloc`. The program is traced, their calls are
-counted over all its threads, and the nth one answers that there is no memory, as it does where there is none. Everything else runs
-as it stands, at its full speed. It wants Linux on x86-64, a machine that lets a parent trace its child, and a program with its
+Every growth of a program goes through its functions `rattle_alloc` and `rattle_realloc`. This module traces the program and counts the
+calls of the two functions over all threads. The nth call answers that there is no memory, as it does if memory has run out. Everything else
+runs as it stands, at its full speed. It wants Linux on x86-64, a machine that lets a parent trace its child, and a program with its
 symbols, as the toolchain builds it.
 """
 import ctypes
@@ -122,7 +122,7 @@ class Growths:
             return  # a new thread, or its parent
         self.count += 1
         if self.count == self.nth:
-            # Back to the caller with what both answer where there is no memory.
+            # returns to the caller with the value that both functions give if there is no memory
             registers[RAX], registers[RDX] = 0, self.nothing
             registers[RIP] = ptrace(PEEKTEXT, thread, registers[RSP]) % 2**64
             registers[RSP] += 8

@@ -1,15 +1,15 @@
 #!/usr/bin/env python3
 """Refuses each allocation of the program in turn, and looks at what is left of the run.
 
-For each n from 1 to the last allocation a run is made again in which the nth one is refused (tests/refuse.py). `script` has then written a
-beginning of the replies and ended with status 3. `check`, `confirm` and `run` have written the line of out of memory, or nothing if even
-that line had none. Or the run was as with memory, where the program can do without.
+For each n from 1 to the last allocation a run is made again in which the nth one is refused (tests/refuse.py). Then `script` must have
+written a beginning of the replies and ended with status 3. `check`, `confirm` and `run` must have written the line of out of memory, or
+nothing if there was no memory for this line. Or the run was as with memory, if the program does not need the allocation.
 
 The program `allocation_failure_tests` makes the calls that the program does not make one by one. After a refused allocation it makes the call once more,
 compares the visible state, and goes on. So it writes the same as with memory, and one line more.
 
-No run ends otherwise, and where fewer were refused than is known of the case it has failed. The last line is how many passed and
-failed.
+No run may end otherwise. A case has failed if fewer allocations were refused than are known of this case. The last line says how many
+passed and failed.
 """
 import concurrent.futures
 import os

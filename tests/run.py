@@ -1,12 +1,12 @@
 #!/usr/bin/env python3
 """Runs the black-box cases on the built program.
 
-A case is a folder of tests/cases: args (one word a line), stdin, stdout (the bytes that must come), status (0 where
-left out), and for what goes to standard error a file stderr (each of its lines must be among those that came; with no
-such file nothing may come), or a file terminal: then standard error is a terminal, and this is what it must show. In place of
-stdin a case may have stdin.py, which prints it. Words that name files are read from the top of the repository: a case of check
-has its history.edn beside them. A file memory is the limit on the program's memory, in KiB.
-The other cases are in tests/black_box. With words, it runs the cases of these names alone.
+A case is a folder of tests/cases. It has the files args (one word a line), stdin, stdout (the bytes that must come) and status (0 if there
+is no such file). It may have a file stderr: each line of this file must be among the lines that come on standard error. Or it may have a
+file terminal: then standard error is a terminal, and must show this text. Without both files nothing may come on standard error. In place
+of stdin a case may have stdin.py, which prints the input. Words that name files are read from the top of the repository: a case of check
+has its history.edn beside them. A file memory is the limit on the program's memory, in KiB. The other cases are in tests/black_box. With
+words, it runs the cases of these names alone.
 """
 import sys
 

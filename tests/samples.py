@@ -1,8 +1,8 @@
 #!/usr/bin/env python3
 """Judges the samples of tests/samples and compares the verdicts with the tables there. Ends with 'N passed, M failed'.
 
-`smallest` has the smallest inputs by which a translator once said something wrong, `own_tests` has histories as people's own tests print
-them, `other_tools` as other tools do. In each folder expected.txt is the table: rows of
+`smallest` has the smallest inputs for which a translator once had a wrong result. `own_tests` has histories as people's own tests print
+them, and `other_tools` has histories as other tools print them. In each folder expected.txt is the table: rows of
 
     the words of jepmon-judge
       legal, illegal or refused; behind a colon what a line of standard error must have, in any case of letters

@@ -53,8 +53,8 @@ class Test(NamedTuple):
 
 
 def tests(server: str) -> List[Test]:
-    """Each object of the server under faults, in network namespaces where they can be had, its first one by the proxy, and each fault
-    that is planted in it."""
+    """Three sorts: each object of the server under faults, in network namespaces if the machine allows them; the first object by the proxy;
+    and each planted fault of the server."""
     kind, file = kind_of(server), OWN.get(server, "")
     found = [Test(server, model, ["--object", model, "--time", str(SECONDS)], GOOD, file) for model in kind.objects]
     planted = [Test(server, plant, ["--inject-bug", plant, "--time", str(seconds(server, plant))], (1,), file) for plant in kind.plants]
@@ -94,8 +94,8 @@ def missing(server: str) -> Optional[str]:
 
 
 def passes(test: Test) -> bool:
-    """Whether it is as it should be. A run without a verdict, as of a server that did not start in time, and a fault that was not met are
-    tried once more, and the output says so. A wrong verdict is not, but of a server that diverges by itself."""
+    """Whether the result is right. A run without a verdict, for example of a server that did not start in time, is tried once more. So is a
+    run that did not meet its fault. The output says so. A wrong verdict is tried once more only for a server that diverges by itself."""
     good, status, text = run(test)
     if status not in test.statuses and (status != 1 or (test.server, test.what) in DIVERGES):
         print(f"{test.name}: once more, after\n{text}", flush=True)
@@ -114,7 +114,7 @@ def run(test: Test) -> Tuple[bool, int, str]:
 
 
 def tried(test: Test, room: pathlib.Path) -> Tuple[bool, int, str]:
-    """Runs it, and gives whether it is as it should be, its status, and what it said."""
+    """Runs the test. Gives whether the result is right, the status, and the output."""
     words = [sys.executable, "-m", "jepmon", "test", test.file or test.server, *test.words, "--out", str(room / "runs"), *PATIENT]
     environment = {**os.environ, "JEPMON": str(PROGRAM), "PYTHONPATH": str(TOP / "python"), "TMPDIR": str(room)}
     try:

@@ -1,7 +1,7 @@
 """Builds the Python package (PEP 517 and 660) by the standard library alone, so that `pip install .` needs no network.
 
-A wheel has the module jepmon, the commands of pyproject.toml, and among its scripts the released program dist/jepmon as it is. So
-it is for the machines on which that program runs.
+A wheel has the module jepmon, the commands of pyproject.toml, and, among its scripts, the released program dist/jepmon. So a wheel is for
+the machines on which this program runs.
 """
 import base64
 import hashlib
@@ -12,7 +12,7 @@ import tarfile
 import zipfile
 from typing import Any, Dict, Iterator, NoReturn, Optional, Tuple
 
-# The program is for Linux on x86-64, and needs of libc.so.6 no symbol later than GLIBC_2.34: pip installs it where glibc is as new.
+# The program is for Linux on x86-64, and needs no symbol of libc.so.6 later than GLIBC_2.34. pip installs it if glibc is that new.
 TAG = "py3-none-manylinux_2_34_x86_64"
 TOP = pathlib.Path(__file__).resolve().parents[2]
 RESTORE = "restore dist/ (git checkout dist)"
@@ -35,7 +35,7 @@ def name_and_version() -> str:
 
 
 def program() -> bytes:
-    """The released program, which must be the one that dist/jepmon.from tells of."""
+    """The released program. It must be the program that dist/jepmon.from describes."""
     released, origin = TOP / "dist" / "jepmon", TOP / "dist" / "jepmon.from"
     for file in (released, origin):
         if not file.is_file():
@@ -63,8 +63,8 @@ def metadata() -> bytes:
 
 
 def page(text: str, repository: Optional[str], tag: str) -> str:
-    """The page of the package on an index, if no file lies beside it. Links and pictures lead to this version in the repository that
-    pyproject.toml names. If it names none, a link is its words, and there are no pictures."""
+    """The page of the package on an index, which has no files beside it. Links and pictures lead to this version in the repository that
+    pyproject.toml names. If it names no repository, a link becomes its words, and there are no pictures."""
 
     def absolute(match: "re.Match[str]") -> str:
         is_picture, words, target = match.groups()
@@ -81,7 +81,7 @@ def page(text: str, repository: Optional[str], tag: str) -> str:
 
 
 def described() -> Files:
-    """The program among the scripts, and what a wheel says of itself."""
+    """The program among the scripts, and the metadata of a wheel."""
     scripts = "".join(f"{name} = {call}\n" for name, call in project("project.scripts").items())
     folder = f"{name_and_version()}.dist-info"
     yield f"{name_and_version()}.data/scripts/jepmon", program(), 0o755
@@ -91,7 +91,7 @@ def described() -> Files:
 
 
 def write_wheel(folder: str, *parts: Files) -> str:
-    """Writes a wheel of these files, and of the record of their checksums. The same files make the same bytes."""
+    """Writes a wheel with these files and the record of their checksums. The same files always make the same bytes."""
     name, record = f"{name_and_version()}-{TAG}.whl", f"{name_and_version()}.dist-info/RECORD"
     lines = []
     files = [file for part in parts for file in part]  # all of them, before a wheel is begun

@@ -6,7 +6,7 @@ the live Monitor, causes in words, pages) is tested, and not proved.
 import os
 import sys
 
-if sys.version_info < (3, 9):  # so this file and __main__.py have no word that an older one can't read
+if sys.version_info < (3, 9):  # so an older Python must be able to read this file and __main__.py
     _SAID = "jepmon needs Python 3.9 or later, and this is {}.{}: {}".format(sys.version_info[0], sys.version_info[1], sys.executable)
     _CALLED = os.path.basename(sys.argv[0])  # that of `python -m` is "-m", and "-c" in Python 2
     if _CALLED in ("-m", "-c", "explain", "from-jepsen") or _CALLED.startswith("jepmon"):
@@ -27,7 +27,7 @@ if TYPE_CHECKING:
 __version__ = "1.7.0"
 __all__ = ["ABSENT", "Failed", "Illegal", "JepmonError", "Keys", "LongMonitor", "Monitor", "NotLegal", "Operation", "Refused", "Unknown"]
 
-# Where each name is; its module is loaded at first use, so that the tools begin fast.
+# The module of each name. A module is loaded at first use, so that the tools start fast.
 _MODULES = {"ABSENT": "history.kinds", "Keys": "live.keys", "LongMonitor": "long", "Monitor": "live.monitor", "Operation": "live.operation"}
 _MODULES.update(dict.fromkeys(("Failed", "Illegal", "JepmonError", "NotLegal", "Refused", "Unknown"), "live.verdicts"))
 

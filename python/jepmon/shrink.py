@@ -4,8 +4,8 @@
     part.text    # a history, which `jepmon check` with the key's model and budget calls illegal at its last event
 
 The tool removes only operations whose absence can't make a legal history illegal (docs/guide/SHRINKING.md has the rules and reasons), and
-the program judges each try. So the part is illegal by itself, and what is illegal in it is so in the whole history. It is smallest in that
-no more of it may be removed; there may be smaller ones.
+the program judges each try. So the part is illegal by itself, and the whole history is illegal because of it. The part is smallest in the
+sense that nothing more of it may be removed. There may be smaller parts.
 """
 from __future__ import annotations
 
@@ -23,7 +23,7 @@ from .shrinking.units import Unit, dragging, with_dragged
 class Part(NamedTuple):
     """An illegal part of a history, of one key."""
 
-    events: List[Event]  # with the indices, lines and processes of the history; sets without the values that were taken out
+    events: List[Event]  # with the indices, lines and processes of the history; sets without the removed values
     text: str  # the same as a history by itself: `jepmon check` with these options calls it illegal at its last event
     options: Options  # the key's own model and budget, and the history's concurrency
     of: int  # how many operations of the key had begun by the fatal event
@@ -35,10 +35,10 @@ class Part(NamedTuple):
 
 def smallest(events: Sequence[Event], report: Report, options: Options, program: Optional[str] = None, effort: Optional[Effort] = None,
              hints: Collection[int] = ()) -> Optional[Part]:
-    """The smallest illegal part that is found with so much effort. The events are those of the whole history, and the report is the
-    program's on them, with these options. Hints are indices of events that may be the cause: the tool first tries whether their operations
-    are illegal alone. None if the verdict is not illegal, or the effort did not suffice to take anything out. A ProgramError comes where
-    the program can't be asked."""
+    """The smallest illegal part that the tool finds with this effort. `events` are those of the whole history, and `report` is the
+    program's report on them, with these options. `hints` are indices of events that may be the cause: the tool first tries whether their
+    operations are illegal alone. None if the verdict is not illegal, or if the effort was too small to remove anything. Raises a
+    ProgramError if the program can't be asked."""
     line = next((line for line in report.keys if report.word == "illegal" and line.key == report.key), None)
     if line is None or line.index is None:
         return None
@@ -70,7 +70,7 @@ class Search:
         self.is_spent = False  # whether there was no effort left for a check
 
     def run(self, whole: List[Operation]) -> Optional[Left]:
-        """The rest of the operations when no more may be removed, or no effort is left."""
+        """The remaining operations when no more may be removed, or no effort is left."""
         some = self.without_idle(whole)
         left = self.hinted_alone(some) or next((Left(each, frozenset()) for each in (some, whole) if self.is_illegal(each)), None)
         if left is None:
@@ -84,7 +84,7 @@ class Search:
         return left
 
     def hinted_alone(self, whole: List[Operation]) -> Optional[Left]:
-        """The rest if everything except the hints is removed: None if that is not illegal, or there are no hints."""
+        """The operations of the hints alone. None if they are not illegal, or if there are no hints."""
         if not self.hints:
             return None
         for units in ways(self.options.model, whole):
@@ -109,15 +109,15 @@ class Search:
         return {*kept(self.options.model, whole, fatal), *failed}
 
     def free(self, whole: List[Operation], units: List[Unit]) -> List[int]:
-        """The units that may be removed, in the order of the tries: values of sets first, since a set of few is judged fast, and else the
-        oldest."""
+        """The units that may be removed, in the order of the tries: first values of sets, since a small set is judged fast, and then the
+        oldest units."""
         staying = self.staying(whole)
         blocked = dragging(units, [number for number, unit in enumerate(units) if staying & set(unit.operations)])
         return sorted((number for number in range(len(units)) if number not in blocked),
                       key=lambda number: (not units[number].values, max(units[number].operations, default=-1)))
 
     def round(self, whole: List[Operation], units: List[Unit]) -> Left:
-        """Removes as many units as it may: tries all, then halves, and ever smaller pieces, down to one by one."""
+        """Removes as many units as possible: tries all, then halves, and smaller and smaller pieces, down to single units."""
         free = self.free(whole, units)
         best, out = Left(whole, frozenset()), set()  # type: Left, Set[int]
         size = len(free)
@@ -135,7 +135,7 @@ class Search:
         return any(event is not None and event.index in self.hints for event in (operation.invocation, operation.completion))
 
     def is_illegal(self, part: List[Operation]) -> bool:
-        """Whether the program calls it illegal at its last event. No, if there is no effort left for that."""
+        """Whether the program says `illegal` at its last event. False if there is no effort left for this question."""
         events = events_of(part)
         text = text_of(events, self.options.concurrency)
         if not self.effort.may_ask(text, len(events)):

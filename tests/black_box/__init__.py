@@ -1,1 +1,1 @@
-"""The black-box cases of the program, by what they try: tests/run.py runs them."""
+"""The black-box cases of the program. Each module has the cases of one topic. tests/run.py runs them."""

@@ -64,7 +64,7 @@ def by_bytes(command, text):
 
 
 def is_script(case):
-    """Whether a case is one of `script` alone, whose input is not too long to be given byte by byte."""
+    """Whether a case is of the command `script`, with an input that is short enough to be given byte by byte."""
     plain = not any((case / name).exists() for name in ("memory", "terminal"))
     return plain and words(case / "args")[:1] in ([], ["script"]) and 0 < len(given(case / "stdin")) < 200_000
 

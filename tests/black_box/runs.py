@@ -100,8 +100,8 @@ def run_is_struck():
 
 
 def told_of_run(lines, kind, events):
-    """The faults in the lines of a run that drew keys of this kind: each line but the last is of a key, each once, and together they have
-    this number of events."""
+    """The faults in the lines of a run that drew keys of this kind. Each line except the last must be of a key, and each key has one line.
+    Together the lines must have this number of events."""
     rows = [ROW.fullmatch(line) for line in lines[:-1]]
     if None in rows:
         return [f"a line is none of a key: {lines!r}"]

@@ -129,8 +129,8 @@ class Examiner:
         return self.judged(case._replace(ways={**case.ways, "said": 1})).word == case.right
 
     def is_within_errors(self, case: Case) -> bool:
-        """Whether an illegal history may have been legal by the printed times: by the stated errors of clocks, or by times so coarse that a
-        call and a return have the same one."""
+        """Whether an illegal history may have been legal by the printed times. This is so for stated errors of clocks, and for times so
+        coarse that a call and a return have the same time."""
         ways = settled(case.ways)
         if case.right == "legal" or not ("error" in ways or ways.get("times") == "coarse"):
             return False

@@ -55,7 +55,8 @@ class CasRegister(Register):
         return there
 
     def layer(self, there: List[Front], layer: List[Front]) -> List[Front]:
-        """The fronts that one more operation makes of a layer, except for those that are less than a front that is there, or than another one."""
+        """The fronts that one more operation makes of a layer. A front that is less than a front in `there`, or than another new one, is
+        left out."""
         new: List[Front] = []
         for front in [made for before in layer for op in self.changes for made in self.next_by(before, op)]:
             if not any(self.is_less(front, other) for other in there + new):

@@ -44,7 +44,7 @@ Client 1 acquired lock 4, which client 0 had acquired and not released.
 Client 0 had acquired it (events 0 to 1), and no release had begun since.
 Asked of jepmon: a :fail would have been legal.""",
     ("mutex-held-twice.edn", "register"): """\
-Key 4 is judged by the model register, which has no acquire: it can take place nowhere.
+Key 4 is judged by the model register, which has no acquire. So it never takes place.
 Was --model mutex meant?""",
     ("queue-out-of-order.edn", "fifo-queue"): """\
 Client 1 took 6 from queue 1 before 5, which had been put in earlier.

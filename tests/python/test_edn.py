@@ -28,7 +28,7 @@ class Reading(unittest.TestCase):
         for text, profile, want in (
             ("1\n}", False, "line 2: '}' closes nothing"),
             ("1\n}", True, "line 2: } closes nothing that is open"),
-            ("1\n{:a 2.5}", True, "line 2: 2.5 is a number that is no integer, which jepmon does not read"),
+            ("1\n{:a 2.5}", True, "line 2: 2.5 is a number that is not an integer, which jepmon does not read"),
             ("1\n{:a {:b 2\n}", False, "line 2: the text ends within the '{' that begins here: was the file cut off?"),
             ("1\n{:a 2\n", True, "line 3: the text ends within an element: was the file cut off?"),
             ("[" * 33, True, "line 1: here more than 32 collections are open in one another"),

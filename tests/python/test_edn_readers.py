@@ -1,4 +1,4 @@
-"""The reader of all tools, with the profile of the program, and the one by which shards are read exactly take the same texts, with the same
+"""The reader of all tools, with the profile of the program, takes exactly the same texts as the reader of shards. Both give the same
 values."""
 from __future__ import annotations
 

@@ -112,8 +112,8 @@ class Drains(unittest.TestCase):
         self.assertGreater(min(count.values()), 80, count)
 
     def history(self, chance: random.Random) -> Tuple[str, List[Interval]]:
-        """A history of a queue by three clients, mostly of a queue that is right, and its operations with the drains' dequeues open
-        from a drain's invocation to its completion."""
+        """A history of a queue by three clients, and its operations. Most histories are of a queue that is right. A drain's dequeues are
+        open from the drain's invocation to its completion."""
         lines: List[str] = []
         operations: List[Interval] = []
         opened: Dict[int, Tuple[int, str, Optional[int]]] = {}

@@ -131,7 +131,7 @@ class Order(Turned):
     def test_times_that_are_none(self) -> None:
         for time in ('"09:00"', ":noon", "[1]", "x"):
             given = text(*HOLD[:3], f"0 ok release nil {time}")
-            self.assertRegex(self.refused(given), f"line 4: .*; --order lines takes the events as they stand")
+            self.assertRegex(self.refused(given), f"line 4: .*; --order lines takes the events in the order of their lines")
             self.assertEqual(self.turned(given, order="lines"), self.want(list(HOLD[:4])))
         self.assertEqual(self.turned(text("0 invoke read nil nil", "0 ok read 1 nil")), ["0 invoke read", "0 ok read"])
 
@@ -143,7 +143,7 @@ class Order(Turned):
             given = text(*first, *second)
             for way in (given, given.replace("{:process", "{:x 1.5, :process")):
                 self.assertIn("line 5: the events of each client stand together, as in files put one behind the other, and have no times: which came "
-                              "first? say --order lines if they stand in their order", self.refused(way))
+                              "first? say --order lines if the order of the lines is the order of the events", self.refused(way))
             self.assertEqual([event.split(" ", 1)[1] for event in self.turned(given, order="lines")[3:5]], ["ok write", "invoke read"])
             self.assertEqual(self.guesses(), [])
         self.turned(text(*first[:2], *second[:2]))
@@ -175,7 +175,7 @@ class Order(Turned):
         events = [f"{process} {kind} write 1" for first in (0, 2) for kind in ("invoke", "ok") for process in (first, first + 1)]
         self.turned(text(*events))
         self.assertEqual(self.assumed(), ["the events of some clients stand behind those of all others, as in files put one behind the other, and "
-                                          "have no times: they are taken in the order in which they stand"])
+                                          "have no times: they are taken in the order of their lines"])
         self.turned(text(*(f"{event} {place}" for place, event in enumerate(events))))
         self.assertEqual(self.assumed(), [ONE_CLOCK])
         self.turned(text(*(f"{event} {place}" for place, event in enumerate([*events, "1 invoke write 1", "1 ok write 1"]))))

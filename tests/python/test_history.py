@@ -31,9 +31,9 @@ class Reading(unittest.TestCase):
     def test_what_is_refused(self):
         for text, want in (
             ("\n{:type :ok}", "line 2: it has no :process and no :f and no :value"),
-            ("{:type :ok, :process 0, :f :read, :value 7}", "line 1: its :value is no [key part]; where the history has no keys, jepmon-from-jepsen --key 0 makes each value one"),
+            ("{:type :ok, :process 0, :f :read, :value 7}", "line 1: its :value is not [key part]; where the history has no keys, jepmon-from-jepsen --key 0 makes each value one"),
             ("{:type :ok, :process 0, :f :read, :value [7 :x]}", "line 1: the part of :ok of read is nil, an integer or a set of integers"),
-            ("7", "line 1: it is not a map, so not an event; commands as [:model k m] are of jepmon script"),
+            ("7", "line 1: it is not a map, so not an event; commands such as [:model k m] are of jepmon script"),
         ):
             with self.subTest(text=text), self.assertRaises(history.HistoryError) as caught:
                 history.read_history(text)

@@ -1,4 +1,4 @@
-"""Where a recorded history lies, and where what came of it is written."""
+"""The places of a recorded history, and of the results."""
 from __future__ import annotations
 
 import bz2
@@ -67,7 +67,7 @@ class Found(InAFolder):
         self.assertEqual(self.found("json"), "json/history.jsonl.gz")
         self.assertRegex(self.refused("two"), "there are 2 histories in this folder, name one: two/[ab].edn, two/[ab].edn$")
         for name in ("none", "results"):
-            self.assertEqual(self.refused(name), f"{name}: there is no history in this folder: name a file, as history.edn of a Jepsen store")
+            self.assertEqual(self.refused(name), f"{name}: there is no history in this folder: name a file, such as history.edn of a Jepsen store")
 
     def test_a_history_beside_what_is_none(self) -> None:
         self.make({"s/test.jepsen": b"JEPSEN\0", "s/history.edn": EVENT, "t/test.jepsen": b"JEPSEN\0"})

@@ -176,7 +176,7 @@ class Rows(unittest.TestCase):
             ('[{"process":0,"type":"invoke","f":"write","key":1,"value":1}] {}', "line 1: more follows the array"),
             ('{"process":0}\n17', "line 1: this event has no type"),
             ('{"a":1}\n17', "line 2: this is not an object"),
-            ('{"process":0,"type":"invoke","f":"write","value":1e}', "line 1: this is no JSON"),
+            ('{"process":0,"type":"invoke","f":"write","value":1e}', "line 1: this is not JSON"),
             ('{"a":' + "[" * 100_000, "line 1: "),
             ("client,op,key,call\n0,read,1\n", "line 2: it has 3 cells for 4 columns"),
         ):

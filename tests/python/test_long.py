@@ -167,7 +167,7 @@ class Long(Monitored):
             self.assertEqual((given.outcome, given.told, taken.outcome), ("ok", False, "fail"))
             self.assertNotIn(op.object, lock.objects)
         self.assertEqual(monitor.unjudged, 3)
-        said = "not judged: 3 operations, which began on an object when it was judged no more"
+        said = "not judged: 3 operations, which began on an object after its judging had ended"
         self.assertEqual(monitor.close(), f"legal\n{said}")
         self.assertEqual(str(caught.exception), f"unknown: not all was judged ({monitor.folder})\n{said}")
         assert monitor.folder is not None
@@ -190,7 +190,7 @@ class Long(Monitored):
         said = monitor.close().split("\n")
         self.assertRegex(said[0], "^unknown key [0-9]+ index [0-9]+ of part-0001$")
         self.assertEqual(caught.exception.reply.split("\n"), said)
-        self.assertRegex(said[1], f"^not judged to their end: 3 objects that were over their budget, as {said[0]}: ")
+        self.assertRegex(said[1], f"^not judged to their end: 3 objects that were over their budget, such as {said[0]}: ")
         self.assertIsNone(monitor.failure)
         assert monitor.folder is not None
         self.assertEqual(self.verdict_by(monitor.folder), said[0])
@@ -288,7 +288,7 @@ class Long(Monitored):
             while monitor.parts < 4:
                 with queue.enqueue(monitor.length):
                     pass
-        self.assertEqual(monitor.close(), "legal\nnot judged to their end: 2 queues that may hold messages yet; let consumers keep up")
+        self.assertEqual(monitor.close(), "legal\nnot judged to their end: 2 queues that may still hold messages; let consumers keep up")
 
     def test_hundreds_of_clients(self) -> None:
         """More operations are open at once than one program takes."""

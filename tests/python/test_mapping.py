@@ -72,7 +72,7 @@ class Files(Case):
         text = "0,put,x,1,1,2\n1,get,x,-,3,4\n"
         found = events(text, **mapped(columns=["client", "op", "key", "value", "start", "end"], absent=["-"]))
         self.assertEqual(found[-1], "ok 1 read [0 nil]")
-        self.refused(text, "its columns have no names. Say what they are, as --map 1=key, or in a --mapping FILE")
+        self.refused(text, "its columns have no names. Say what they are, for example by --map 1=key, or in a --mapping FILE")
 
     def test_examples(self) -> None:
         """The worked examples of docs/FORMATS.md, all of which tell of one read of an old value."""

@@ -1,4 +1,4 @@
-"""Notes of faults: in the log and in the run's folder, and that they are judged nowhere."""
+"""Notes of faults are in the log and in the folder of the run. No verdict depends on them."""
 from __future__ import annotations
 
 import contextlib

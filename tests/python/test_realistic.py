@@ -22,7 +22,7 @@ OBJECTS = {
     "from-jepsen/set_answered_by_a_list": "legal", "from-jepsen/string_keys": "legal", "from-jepsen/string_values": "legal",
     "from-jepsen/keyword_keys": "legal", "from-jepsen/tagged_tuples": "legal", "from-jepsen/records_over_several_lines": "legal",
     "from-jepsen/one_vector": "legal", "from-jepsen/without_keys": "legal", "judge/faults_of_the_nemesis": "illegal",
-    "judge/swapped_cas_tuple": "the part of a :cas is [0 3 4], and no [old new]",
+    "judge/swapped_cas_tuple": "the part of a :cas is [0 3 4], which is not [old new]",
     # what Jepsen, Maelstrom, Porcupine and etcd's tests write beside it
     "judge/history_txt": "illegal", "judge/jepsen_log": "legal", "judge/maelstrom_lin_kv": "illegal",
     "judge/maelstrom_g_set": "this is a grow-only set, which is read at the end", "judge/porcupine_etcd_log": "legal",

@@ -14,7 +14,7 @@ OTHER = operation(client=1, value=2, start=3, end=4)
 class EachField(Case):
     def test_one_that_is_not_known_and_varies_is_refused(self) -> None:
         text = lines(operation(path="a", key=...), {**operation(path="b", key=...), **{"start": 3, "end": 4}})
-        self.refused(text, 'path: "a", "b" (line 1). Say what each one is, as --map path=key, or that it is nothing, as --ignore path.')
+        self.refused(text, 'path: "a", "b" (line 1). Say what each one is, for example by --map path=key, or that it is nothing, by --ignore path.')
         self.assertEqual(events(text, mapping=mapping.Mapping().with_field("path=key"))[0], "invoke 0 write [0 1]")
         self.assertEqual(events(text, mapping=mapping.Mapping().with_ignored("path"))[0], "invoke 0 write [0 1]")
 
@@ -63,7 +63,7 @@ class EachField(Case):
         self.refused("op,key,Key\n1,2,3\n", "line 1: two columns are called 'key'")
 
     def test_refusals_list_what_was_seen_and_what_is_allowed(self) -> None:
-        self.refused(lines({"who": 1, "what": "x"}), "its fields are who, what. Say what they are, as --map who=key, or in a --mapping FILE. "
+        self.refused(lines({"who": 1, "what": "x"}), "its fields are who, what. Say what they are, for example by --map who=key, or in a --mapping FILE. "
                      "Names are client, type, f, key")
 
 
@@ -87,7 +87,7 @@ class Outcomes(Case):
     def test_a_type_of_an_operation(self) -> None:
         for kind in ("ok", "fail", "info"):
             self.assertEqual(self.outcome(operation(type=kind)), kind)
-        self.refused(lines(operation(), operation(type="invoke")), "as of an event, and the rows before it are operations with times")
+        self.refused(lines(operation(), operation(type="invoke")), "as in a row of an event, and the rows before it are operations with times")
 
     def test_errors_that_are_none(self) -> None:
         for error in (None, "", "<nil>", "nil", "None", "OK", "NaN", False, 0, float("nan")):
@@ -191,7 +191,7 @@ class Cells(Case):
         for spelled in ('"[2, 4]"', '"[2 4]"', "[2,4]"):
             self.assertEqual(found("cas", spelled), "ok 1 cas [0 [2 4]]")
         for spelled in ('"[2, 4"', "2", '"2 4"', '"[2, 4, 6]"', "[2]"):
-            with self.assertRaisesRegex(Refused, "line 1: the value of this cas is .*, and no pair of the old and the new value"):
+            with self.assertRaisesRegex(Refused, "line 1: the value of this cas is .*, not a pair of the old and the new value"):
                 found("cas", spelled)
         adds = "".join(log.format(2 * place + side, kind, "add", f"v{place}") for place in (0, 1) for side, kind in enumerate(("invoke", "ok")))
         for spelled in (r'"[\"v0\", \"v1\"]"', '"[v0 v1]"'):

@@ -136,7 +136,7 @@ class Times(Case):
         """The first event is not known; for few events it is a guess."""
         rows = [event(client, kind, None, op) for client in (0, 1) for op in ("acquire", "release") for kind in ("invoke", "ok")]
         self.refused(lines(*rows), "line 5: the events of each client stand together, as in files put one behind the other, and have no times: "
-                     "which came first? say --order lines if they stand in their order")
+                     "which came first? say --order lines if the order of the lines is the order of the events")
         self.assertEqual(len(events(lines(*rows), mapping=SAYS._replace(order="lines"))), 8)
         self.assertIn("--order lines", self.guessed(lines(*rows[:6])))
         self.assertNotIn("--order lines", self.guessed(lines(*rows, *rows[:4])))

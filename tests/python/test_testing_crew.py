@@ -1,4 +1,4 @@
-"""Strikes on clients: one is paused, also while it holds a lock, or crashes before it learns what came of its operation."""
+"""Strikes on clients: one is paused, also while it holds a lock, or crashes before it learns the result of its operation."""
 from __future__ import annotations
 
 import threading

@@ -121,8 +121,8 @@ class Plans(unittest.TestCase):
                                   ("slow:delay=2..1", 1, "delay is from 0 to 60, the least first"), ("loss:share=2", 1, "share is from 0 to 1"),
                                   ("kill:lasting=2@3", 1, r"lasts as long as \+SECONDS says"), ("kill:delay=1..", 1, "a number or two"),
                                   ("kill:n1@2+4,pause:n1@3", 1, "both are strikes on the process of n1, and they overlap"),
-                                  ("kill@1.2.3", 1, "kill takes a node, as kill:n1, .* a time, as"), ("kill@", 1, "a time, as kill@3"),
-                                  ("slow:delay=fast", 1, "slow takes a node, .* a parameter, as slow:lasting=0.5..2"), ("part:x", 2, "partition takes a")):
+                                  ("kill@1.2.3", 1, "kill takes a node, such as kill:n1, .* a time, such as"), ("kill@", 1, "a time, such as kill@3"),
+                                  ("slow:delay=fast", 1, "slow takes a node, .* a parameter, such as slow:lasting=0.5..2"), ("part:x", 2, "partition takes a")):
             with self.subTest(text), self.assertRaisesRegex(ServerError, said):
                 plan(text, nodes)
 

@@ -17,7 +17,7 @@ ASKED = 4  # other answers that the program is asked about
 
 
 class Mention(NamedTuple):
-    """An event that the sentences speak of, and what it is to them in a few words, or none."""
+    """An event that the sentences mention, and its part in them in a few words, or no words."""
 
     event: Event
     note: str
@@ -32,7 +32,7 @@ class Found(NamedTuple):
 
 
 class Last(NamedTuple):
-    """When something was last possible: until just before this event, an ok or a :fail, and never after it."""
+    """When something was last possible: just before this event (an ok or a :fail), and never later."""
 
     known: bool  # False: there was too much to try
     event: Optional[Event]  # None, where it is known: it never was
@@ -68,7 +68,7 @@ class Case(NamedTuple):
         return f"while it was open (events {self.fatal.invocation.index} to {self.front[-1].index})"
 
     def others(self, name: str, test: Callable[[Operation], bool] = lambda operation: True) -> List[Operation]:
-        """The other operations of this name that pass the test."""
+        """The other operations with this name that pass the test."""
         return [operation for operation in self.operations
                 if operation.invocation.name == name and operation is not self.fatal and test(operation)]
 
@@ -80,13 +80,13 @@ class Case(NamedTuple):
         return None if states is None else sorted(states, key=_by_size)
 
     def findings(self) -> List[Any]:
-        """The values that the fatal operation may have found, so far as it can have taken place."""
+        """The values that the fatal operation may have found, in the outcomes in which it can take place."""
         found = {end.taken[self.fatal.invocation.index] for end in self.walked.ends()
                  if self.fatal.invocation.index in end.taken}
         return sorted(found, key=_by_size)
 
     def last_possible(self, test: Callable[[Any], bool]) -> Last:
-        """When the object can last have had a state that passes the test, or the fatal operation can have taken place. The search goes back
+        """When the object last could have a state that passes the test, or the fatal operation last could take place. The search goes back
         from the end, stop by stop."""
         until, left = len(self.front) - 1, self.effort.work
         try:
@@ -101,7 +101,7 @@ class Case(NamedTuple):
         return Last(True, None)
 
     def _last_between(self, stop: Stop, until: int, test: Callable[[Any], bool], work: int) -> Tuple[Optional[Event], int]:
-        """The last event from the stop up to such a place just before which the test was passed, and what is left of the work."""
+        """The last event between the stop and this place just before which the test passed, and the remaining work."""
         last: Optional[Event] = None
         walker, fatal = stop.walker.copy(UNBOUNDED, work), self.fatal.invocation.index
         for event in self.front[stop.steps:until + 1]:
@@ -113,7 +113,7 @@ class Case(NamedTuple):
         return last, walker.work
 
     def forced_by(self) -> Optional[Event]:
-        """The event from which on the fatal operation has taken place in each end. None if the walk cannot find it."""
+        """The first event after which the fatal operation has taken place in each end. None if the walk cannot find this event."""
         walker = Walker(self.model, UNBOUNDED, self.effort.work)
         try:
             for event in self.front[:-1]:
@@ -125,12 +125,12 @@ class Case(NamedTuple):
         return None
 
     def ended_by(self, event: Event, owned: str) -> str:
-        """An event from which on something was impossible, whose operation is `owned`, and the fault that came before it."""
+        """The first event after which something was impossible, with its operation (`owned`) and the fault that came before it."""
         last = before(self.faults, event)
         return f"event {event.index}, the :{event.kind} of {owned}" + (f", {last}" if last else "")
 
     def operation_of(self, event: Event) -> Operation:
-        """The operation that the event is of."""
+        """The operation of the event."""
         return next(operation for operation in self.operations if event in (operation.invocation, operation.completion))
 
     def legal_with(self, completions: Iterable[Event]) -> List[Event]:

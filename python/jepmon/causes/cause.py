@@ -3,9 +3,9 @@
     cause = explain(events, report, options)    # of what `program.check` said; None if that is no illegal and no unknown
     print("\n".join(lines(cause)))
 
-The verdict is the program's, and so is what is said of another answer: each is asked of it. The walk (objects/configurations.py) finds
-everything else that the sentences say, and it is not proved. If the walk gave up, or says another event than the program, the sentences
-have only the program's replies, or facts about the smallest illegal part.
+The verdict is the program's, and so is each statement about another answer: the tool asks the program about it. The walk
+(objects/configurations.py) finds everything else in the sentences, and is not proved. If the walk gave up, or found another event than the
+program, the sentences have only the program's replies, or facts about the smallest illegal part.
 """
 from __future__ import annotations
 
@@ -49,7 +49,7 @@ class Cause(NamedTuple):
     key: int
     headline: str  # one sentence, which says all that matters
     sentences: List[str]  # what else there is to say
-    mentions: List[Mention]  # events that the sentences speak of, with a few words or none, in the order of the history
+    mentions: List[Mention]  # events that the sentences mention, perhaps with a few words, in the order of the history
     part: Optional[Part]  # the smallest illegal part, where it was looked for and found
     names: Names = Names()
     proviso: str = NOT_PROVED
@@ -68,10 +68,10 @@ class Named(Protocol):
 def explain(events: Sequence[Event], report: Report, options: Options, names: Named = Names(), program: Optional[str] = None,
             effort: Optional[Effort] = None, shrink: bool = True, known: Optional[Part] = None,
             faults: Sequence[Fault] = ()) -> Optional[Cause]:
-    """The cause of a verdict: the events are those of the whole history, report is what the program said of them with these options. Most
-    of the effort is for the smallest part; `shrink=False` leaves that out, and a part that is known to be illegal at the same event takes
-    its place. It names those `faults` that came before the operations in question. None if the verdict is neither illegal nor unknown. A
-    ProgramError comes if the program can't be asked."""
+    """The cause of a verdict. `events` are the events of the whole history, and `report` is the program's report on them with these
+    options. Most of the effort is for the smallest part. `shrink=False` skips this search, and a known part that is illegal at the same
+    event replaces it. The cause names those `faults` that came before the operations in question. None if the verdict is neither illegal
+    nor unknown. Raises a ProgramError if the program can't be asked."""
     line = next((line for line in report.keys if line.key == report.key), None)
     if line is None or line.index is None or report.word not in ("illegal", "unknown"):
         return None
@@ -100,7 +100,7 @@ def explain(events: Sequence[Event], report: Report, options: Options, names: Na
 
 def of_illegal(options: Options, front: List[Event], later: List[Event], names: Names, program: Optional[str],
                effort: Effort, faults: Sequence[Fault]) -> Optional[Found]:
-    """The sentences about a key that is illegal at the last of these events; None if the walk does not reach it."""
+    """The sentences about a key that is illegal at the last of these events. None if the walk does not reach this event."""
     made = operations(front, options.concurrency)
     fatal = next(operation for operation in made if operation.completion is front[-1])
     walked = follow(front, options, program, effort.work)
@@ -122,7 +122,7 @@ def of_part_alone(found: Optional[Found]) -> Optional[Found]:
 
 
 def untold(options: Options, front: List[Event], names: Names) -> Found:
-    """The program's replies and no more, since the walk gave up."""
+    """Only the program's replies, since the walk gave up."""
     fatal = next(operation for operation in operations(front, options.concurrency) if operation.completion is front[-1])
     where = names.object(options.model, front[-1].key)
     said = f"{capital(client(fatal))}'s {names.operation(fatal)} on {where} fits no order of the operations."
@@ -133,7 +133,8 @@ def untold(options: Options, front: List[Event], names: Names) -> Found:
 
 
 def lines(cause: Cause, width: int = 110) -> List[str]:
-    """The cause as text for a terminal: the sentences, and the events of the smallest part, or else those that they speak of."""
+    """The cause as text for a terminal: the sentences, and the events of the smallest part. Without such a part, the events that the
+    sentences mention."""
     said = textwrap.wrap(cause.headline, width)
     for sentence in cause.sentences:
         said += textwrap.wrap(sentence, width, initial_indent="  ", subsequent_indent="  ")
@@ -157,7 +158,7 @@ def of_part(part: Part) -> List[str]:
 
 
 def shown(event: Event, names: Names, note: str) -> str:
-    """The event as it stands in the file. One that stands in no file has no line."""
+    """The event as the file has it. An event that is in no file has no line."""
     line = f", line {event.line}" if event.line else ""
     text = spelling.Names(names.keys, names.values).event(event.text)[:200]
     return f"event {event.index}{line}: {text}{'    <-- ' + note if note else ''}"

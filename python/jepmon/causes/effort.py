@@ -1,5 +1,5 @@
-"""How much work the cause of a verdict may take. It counts steps and never a clock, so one history has one cause, on any machine under any
-load. A sentence names the parts that it left out."""
+"""The limit of the work for the cause of a verdict. It counts steps and not time, so a history has the same cause on every machine under
+any load. A sentence names the omitted parts."""
 from __future__ import annotations
 
 from typing import List
@@ -10,13 +10,13 @@ WHOLE = 10_000_000  # for one key: about as many microseconds on a machine that 
 ASKING = 3_000  # for the start of the program
 CHARACTER = 0.2  # of the text that it is asked about
 OUTCOME = 0.1  # that it tries
-LEAN = 500.0  # outcomes that an event of a wide kind brings it to try: in loads of twelve clients without think time some fifty
+LEAN = 500.0  # outcomes that it tries for an event of a wide kind: some fifty in loads of twelve clients without think time
 WALKED = 0.5  # outcome that a walk of this package tries
 GAVE_UP = "Left out, since the limit of work was met: {}."
 
 
 class Effort:
-    """The rest of it for one key."""
+    """The remaining effort for one key."""
 
     def __init__(self, whole: float = WHOLE, work: int = WORK) -> None:
         self.left = whole
@@ -25,13 +25,13 @@ class Effort:
         self._outcomes = 1.0  # that an event of the key brings the program to try
 
     def learn(self, walked: Walk, is_wide: bool = False) -> None:
-        """How much an event costs, by a walk through the key's events, which is counted. A wide kind costs the program LEAN at most, however
-        many ends a walk tries."""
+        """Learns the cost of an event from a walk through the key's events, and counts the walk. An event of a wide kind costs the program
+        at most LEAN, however many ends a walk tries."""
         self.left -= WALKED * walked.tried
         self._outcomes = min(max(1.0, walked.tried / max(1, len(walked.steps))), LEAN if is_wide else float("inf"))
 
     def may_ask(self, text: str, events: int) -> bool:
-        """Whether the program may be asked about this text with its number of events; counts the question."""
+        """Returns whether the program may be asked about a text of this size with this number of events, and counts the question."""
         cost = ASKING + CHARACTER * len(text) + OUTCOME * self._outcomes * events
         if cost > self.left:
             return False

@@ -57,7 +57,7 @@ def said_by_ends(over: Over) -> str:
 
 
 def note_of_equal_values(over: Over) -> str:
-    """For a queue that was judged by its ends: values that differ would need no budget, if this program has the kind for it."""
+    """For a queue that was judged by its ends: the note that different values would need no budget, if this program has the wide kind."""
     if over.options._replace(by_ends=False).kind(over.program) != DIFFERING:
         return ""
     two = equal_enqueues(operations(over.front, over.options.concurrency))

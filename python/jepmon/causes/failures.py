@@ -1,4 +1,5 @@
-"""Failures that need no model: a :fail of an operation that has certainly taken place, and an operation that the object does not have."""
+"""Failures that do not depend on a model: a :fail of an operation that has certainly taken place, and an operation that the object does not
+have."""
 from __future__ import annotations
 
 from typing import List
@@ -9,7 +10,7 @@ from .names import capital, client, listed
 
 
 def of_failure(case: Case) -> Found:
-    """Explains an operation that was recorded as failed, though other answers show that it took place."""
+    """Explains an operation that was recorded as failed, although other answers show that it took place."""
     forced = case.forced_by()
     told: List[Mention] = mentions([case.fatal])
     shown = case.names.operation(case.fatal)
@@ -34,5 +35,5 @@ def of_another_model(case: Case) -> Found:
     name = case.fatal.invocation.name
     hint = f"Was --model {listed(meant)} meant?" if meant else f"No model has {listed(sorted(names), 'and')} together."
     key = case.names.keys.get(case.key, str(case.key))
-    return Found(f"Key {key} is judged by the model {case.model}, which has no {name}: it can take place nowhere.", [hint],
+    return Found(f"Key {key} is judged by the model {case.model}, which has no {name}. So it never takes place.", [hint],
                  mentions([case.fatal]))

@@ -48,7 +48,7 @@ def of_free(case: Case, last: List[Operation]) -> str:
 
 
 def of_failed(case: Case) -> str:
-    """The acquires that failed, though one may have taken place all the same."""
+    """The acquires that were recorded as failed, although one of them may have taken place."""
     failed = case.others("acquire", lambda operation: operation.outcome == "fail")
     if not failed:
         return ""
@@ -58,8 +58,9 @@ def of_failed(case: Case) -> str:
 
 
 def last_operations(case: Case) -> List[Operation]:
-    """Those of which one has taken place last, in each order that is possible just before the fatal event: acquires before an acquire,
-    releases before a release. None if none has taken place, or if the walk cannot find it."""
+    """The operations such that in each possible order before the fatal event one of them took place last. If the fatal operation is an
+    acquire these are acquires, and if it is a release they are releases. Empty if no operation has taken place, or if the walk cannot find
+    them."""
     events = [event._replace(value=event.index) for event in case.front[:-1]]
     walked = walk(events, BY_OPERATION, UNBOUNDED, case.effort.work)
     try:

@@ -20,7 +20,7 @@ NOUNS = {
 
 
 class Names(NamedTuple):
-    """The spellings of numbered values and keys by number, if a history was turned from another form."""
+    """The spellings of numbered values and keys, by number, if a history was converted from another form."""
 
     values: Mapping[int, str] = {}
     keys: Mapping[int, str] = {}
@@ -78,12 +78,12 @@ def span(operation: Operation) -> str:
 
 
 def last_event(operation: Operation) -> int:
-    """The index of the last event that there is of it."""
+    """The index of the operation's last event."""
     return operation.completion.index if operation.completion is not None else operation.invocation.index
 
 
 def listed(words: Sequence[str], word: str = "or", most: int = MOST) -> str:
-    """Words in one phrase; the first few if there are many."""
+    """Words in one phrase. If there are many, only the first few."""
     if len(words) > most + 1:
         return f"{', '.join(words[:most])} {word} {len(words) - most} others"
     return words[0] if len(words) == 1 else f"{', '.join(words[:-1])} {word} {words[-1]}" if words else ""

@@ -60,7 +60,7 @@ def taken_already(case: Case, real: List[Operation], taken: List[Operation]) -> 
 
 
 def out_of_order(case: Case, real: List[Operation]) -> Found:
-    """Explains a queue that may have held the value, but not as its first one."""
+    """Explains a queue that may have held the value, but not as its first value."""
     shown, value = case.names.value(case.answer), case.answer
     first = passed_over(case, real)
     if first is not None:
@@ -80,8 +80,8 @@ def out_of_order(case: Case, real: List[Operation]) -> Found:
 
 
 def passed_over(case: Case, real: List[Operation]) -> Optional[Operation]:
-    """An enqueue of a possible first value. It had returned before each enqueue of the dequeued value began, and no dequeue has answered
-    its value. None if a dequeue without an answer may have taken it."""
+    """An enqueue whose value must be ahead of the dequeued value. This enqueue had returned before each enqueue of the dequeued value
+    began, and no dequeue has answered its value. None if a dequeue without an answer may have taken its value."""
     dequeues, fronts = case.others("dequeue", lambda operation: operation.outcome != "fail"), case.findings()
     if any(dequeue.outcome != "ok" for dequeue in dequeues):
         return None

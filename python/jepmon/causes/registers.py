@@ -10,7 +10,7 @@ from .names import capital, client, last_event, span
 
 
 def of_register(case: Case) -> Found:
-    """Explains a read that answered a value, or a cas that found it, if the register can't have held it."""
+    """Explains a read that answered a value, or a cas that found one, if the register cannot have held this value."""
     value = wanted(case.fatal)
     if value is None:
         return of_strange_answer(case)

@@ -1,4 +1,4 @@
-"""Sets: the members that a read lacks, and the strange ones in it."""
+"""Sets: the members that a read's answer lacks, and the members that it should not have."""
 from __future__ import annotations
 
 from typing import AbstractSet, FrozenSet, List
@@ -73,7 +73,7 @@ def of_strange(case: Case, value: int, told: List[Mention]) -> str:
 
 
 def of_mixture(case: Case, answer: FrozenSet[int], told: List[Mention]) -> str:
-    """Each member may be in it, and each that is lacking may be missing, but not all at one moment."""
+    """Explains an answer in which each member may be present and each missing one absent, but not all of this at one moment."""
     last = case.last_possible(lambda state: bool(state == answer)).event
     if last is None:
         return "Each of its members may have been added, and each that it lacks may have been missing, but not all at one moment."
@@ -83,7 +83,7 @@ def of_mixture(case: Case, answer: FrozenSet[int], told: List[Mention]) -> str:
 
 
 def owned(case: Case, operation: Operation) -> str:
-    """The operation with its client: of a read not the whole answer."""
+    """The operation with its client. A read is shown without its whole answer."""
     if operation.invocation.name == "read":
         return f"{client(operation)}'s read"
     return case.names.owned(operation)
@@ -94,7 +94,7 @@ def adds_of(case: Case, value: int) -> List[Operation]:
 
 
 def other_answers(case: Case, answer: FrozenSet[int], found: List[FrozenSet[int]]) -> List[str]:
-    """The program's reply to the answer that differs least from the given one."""
+    """The program's reply to the possible answer that differs least from the given answer."""
     nearest = sorted(found, key=lambda finding: (len(finding ^ answer), len(finding), sorted(finding)))
     legal = case.with_answers(nearest[:1])
     return [f"Asked of jepmon: {difference(case, answer, legal[0])} it would have been legal."] if legal else []

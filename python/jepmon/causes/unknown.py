@@ -1,4 +1,4 @@
-"""Why a key is over its budget: how the possible outcomes grew, which operations did it, and what may be done."""
+"""Why a key is over its budget: how the possible outcomes grew, which operations caused this, and what the user can do."""
 from __future__ import annotations
 
 from typing import Dict, List, NamedTuple, Optional, Tuple
@@ -21,7 +21,7 @@ CERTAIN = float("inf")  # it has taken place in each outcome
 
 
 class Counted(NamedTuple):
-    """The count of a wide kind, which its budget limits: one of it, and what that is."""
+    """The count of a wide kind, which its budget limits: the word for one counted thing, and its explanation."""
 
     noun: str
     meaning: str
@@ -36,7 +36,7 @@ OUTCOMES = Counted("outcome", "")
 
 
 class Over(NamedTuple):
-    """A key over its budget: its events up to the ok at which it is, and all of them."""
+    """A key over its budget: its events up to the ok at which it exceeds the budget, and all its events."""
 
     model: str
     key: int
@@ -60,8 +60,8 @@ class Over(NamedTuple):
 class Growth(NamedTuple):
     """How the outcomes grew to the event at which they are too many."""
 
-    steps: List[Tuple[int, int]]  # events, and the outcomes just before them, where these were more than ever before
-    factors: Dict[int, float]  # by how much each operation multiplies them at the end; empty where they are too many to count
+    steps: List[Tuple[int, int]]  # events, and the number of outcomes just before them, if it was greater than ever before
+    factors: Dict[int, float]  # the factor by which each operation multiplies them at the end; empty if they are too many to count
 
 
 def of_unknown(over: Over) -> Found:
@@ -101,14 +101,14 @@ def note_of(operation: Operation, factors: Dict[int, float]) -> str:
 
 
 def may_still_take_place(operation: Operation, index: int) -> bool:
-    """Whether it is open, or has timed out and is not a read, just before this event."""
+    """Returns whether the operation is open just before this event, or has timed out and is not a read."""
     if operation.completion is None or operation.completion.index == index:
         return True
     return operation.outcome == "info" and operation.invocation.name != "read"
 
 
 def growth_of(over: Over, pending: List[Operation]) -> Optional[Growth]:
-    """None if there are too many to try, or the walk says another event than the program."""
+    """The growth of the outcomes. None if there are too many to try, or if the walk finds another event than the program."""
     walker = Walker(over.model, COUNTED, over.effort.work)
     steps: List[Tuple[int, int]] = []
     most = 1
@@ -173,13 +173,13 @@ def advice(over: Over, pending: List[Operation]) -> str:
 
 
 def note_of_program(over: Over) -> str:
-    """That this program is too old to count otherwise, if so."""
+    """The note that this program is too old for the wide kind, if it is."""
     note = by_ends_note(over.options, over.program)
     return f"{note}." if note else ""
 
 
 def with_greatest_budget(over: Over) -> str:
-    """The program's reply for the key with the greatest budget, if a walk comes to an end with it."""
+    """The program's reply for the key with the greatest budget, if a walk ends with this budget."""
     if over.options.budget >= GREATEST:
         return ""
     walked = walk(over.whole, over.model, GREATEST, over.effort.work)

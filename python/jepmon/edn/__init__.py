@@ -1,9 +1,9 @@
 """Reads EDN, element by element, from a text or from a file in pieces: the reader of all tools.
 
-It reads the whole of EDN as Jepsen writes it: tags and metadata are passed over, so that an element counts without them. With
-`profile=True` it reads what the program `jepmon` reads and nothing else (docs/FORMATS.md, Text), and says what is outside of that. An atom
-is its own spelling, a collection is a Many. Text that can't be read raises Unreadable, with its line and the reason. Shards read bytes by a
-reader of their own for speed (shards/reading.py), which test_edn_readers.py compares with this one.
+It reads all of EDN that Jepsen writes. It skips tags and metadata, so that an element counts without them. With `profile=True` it reads
+only what the program `jepmon` reads (docs/FORMATS.md, Text), and says what is outside this profile. An atom is its own spelling, and a
+collection is a Many. Text that can't be read raises Unreadable, with its line and the reason. For speed, shards have their own reader of
+bytes (shards/reading.py), which test_edn_readers.py compares with this reader.
 """
 from __future__ import annotations
 
@@ -29,7 +29,7 @@ class Element(NamedTuple):
     line: int  # on which it begins
     text: str
     value: Value
-    rows: Rows = ()  # of a run: what was asked for of its elements, flat maps, one a line
+    rows: Rows = ()  # of a run (flat maps, one a line): the requested fields of its elements
 
     @property
     def last_line(self) -> int:
@@ -37,7 +37,7 @@ class Element(NamedTuple):
         return self.line + self.text.count("\n")
 
     def each(self) -> Iterator[Element]:
-        """It, or the elements of the run, each with its value."""
+        """This element, or the elements of the run, each with its value."""
         if not self.rows:
             yield self
             return
@@ -46,7 +46,7 @@ class Element(NamedTuple):
 
 
 class Unreadable(Exception):
-    """The text can't be read on, from this place on (characters from 0), for this reason."""
+    """The text can't be read further than this place (characters from 0), for this reason."""
 
     def __init__(self, line: int, reason: str, place: int) -> None:
         super().__init__(f"line {line}: {reason}")
@@ -54,19 +54,20 @@ class Unreadable(Exception):
 
 
 Find = Callable[[str, int], Tuple[Rows, int]]  # in a text, from a place on: a run, and the place behind it
-Open = Tuple[str, int, Optional[List[Value]]]  # what is open: its text and place, and the members that it is to stand among
+Open = Tuple[str, int, Optional[List[Value]]]  # an open collection or prefix: its text and place, and the list of members to which it belongs
 
 
 class Reader:
-    """Reads a text, or the pieces of one, each of which but the last ends with a line's end. `line` is that of its beginning."""
+    """Reads a text, or the pieces of a text. Each piece except the last ends with the end of a line. `line` is the number of the first
+    line."""
 
     def __init__(self, text: Union[str, Iterable[str]], profile: bool = False, line: int = 1) -> None:
         self._pieces = iter((text,) if isinstance(text, str) else text)
         self._profile = edn_profile.Profile() if profile else None
         self._piece = ""
         self._before = 0  # characters before the piece
-        self._begun: Optional[int] = None  # the place in the piece from which on it is read anew, behind a run
-        self._rest = 0  # the place in the piece from which on it is read together with the next one
+        self._begun: Optional[int] = None  # the place in the piece from which it is read again, behind a run
+        self._rest = 0  # the place in the piece from which it is read together with the next piece
         self._line, self._counted = line, 0  # the line of a place in the piece
         self._stack: List[Open] = []  # collections that are open, and prefixes that wait for an element, the innermost last
         self._unwraps = False  # whether the first element, where it is a vector or list, is the text
@@ -75,7 +76,7 @@ class Reader:
         self._is_closed = False  # whether it is
         self._element_line = line
         self._element_place = 0  # of the element at the top, characters from 0
-        self._held = ""  # the front of that element which stands before the piece
+        self._held = ""  # the first part of this element, which is before the piece
         self._begin = 0  # where the rest of it begins in the piece
         self._find: Optional[Find] = None
 
@@ -84,8 +85,8 @@ class Reader:
         return self._read()
 
     def history(self, find: Optional[Find] = None) -> Iterator[Element]:
-        """The elements of the text, or of the one vector or list that it is. Flat maps, one a line and with or without a tag, that `find`
-        finds come as one, a run."""
+        """The elements of the text, or of the one vector or list that is the text. Flat maps that `find` finds, one a line and with or
+        without a tag, come as one element, a run."""
         self._unwraps, self._find = True, find
         return self._read()
 
@@ -168,7 +169,7 @@ class Reader:
         self._test_end(members is None)
 
     def _begin_element(self, text: str, place: int) -> bool:
-        """An element begins at the top with this token. Whether it is the vector or list that is the text."""
+        """Begins an element at the top with this token. Returns whether it is the vector or list that is the text."""
         if self._is_closed:
             self._refuse_more(place)
         self._element_line, self._element_place = self._line_at(place), self._before + place
@@ -179,7 +180,7 @@ class Reader:
         return is_whole
 
     def _close_whole(self, text: str, place: int) -> None:
-        """Closes the vector or list that is the text; whatever else is closed here is refused."""
+        """Closes the vector or list that is the text, and refuses any other closing bracket."""
         if self._is_closed:
             self._refuse_more(place)
         if self._stack or self._whole is None or CLOSING[self._whole[0]] != text:
@@ -187,7 +188,7 @@ class Reader:
         self._is_closed = True
 
     def _end_prefixes(self) -> Tuple[Optional[List[Value]], bool]:
-        """An element has ended that prefixes stand before: the members among which it stands, and whether it is dropped."""
+        """An element with prefixes has ended. Returns the members among which it is, and whether it is dropped."""
         members = None
         while members is None and self._stack:
             text, place, members = self._stack.pop()
@@ -201,7 +202,8 @@ class Reader:
     # Pieces, and lines in them.
 
     def _all_parts(self) -> Iterator[Tuple[str, int, bool]]:
-        """The pieces, each with the place from which on it is read, and whether it is the last one; again behind each run."""
+        """The pieces, each with the place from which it is read, and whether it is the last one. A piece with a run comes again, behind the
+        run."""
         for piece, is_last in self._all_pieces():
             self._begun = 0
             while self._begun is not None:
@@ -209,7 +211,7 @@ class Reader:
                 yield piece, begun, is_last
 
     def _all_pieces(self) -> Iterator[Tuple[str, bool]]:
-        """The pieces, and of each whether it is the last one. A piece begins with the rest of the piece before it."""
+        """The pieces, each with whether it is the last one. A piece begins with the rest of the piece before it."""
         self._piece = next(self._pieces, "")
         following = next(self._pieces, None)
         while following is not None:
@@ -258,7 +260,7 @@ class Reader:
             self._refuse_more(place)
         if kind == UNENDED:
             self._refuse(place, "the text ends within a string that begins here: was the file cut off?")
-        self._refuse(place, f"this is no EDN: {self._piece[place:place + 40]!r}")
+        self._refuse(place, f"this is not EDN: {self._piece[place:place + 40]!r}")
 
     def _test_end(self, waits: bool) -> None:
         """Refuses a text that ends within an element."""
@@ -280,7 +282,7 @@ class Reader:
             self._refuse(place, f"here more than {edn_profile.DEEPEST} collections are open in one another")
 
     def _test_map(self, value: Many, token: Match[str]) -> None:
-        """Refuses a flat map as one that comes token by token: where it is too deep in others, or a key has no value."""
+        """Refuses a flat map like a map that comes token by token: if it is too deep in other collections, or if a key has no value."""
         if not self._stack:
             self._begin_element("{", token.start(1))
         kept = len(self._stack)
@@ -296,7 +298,7 @@ class Reader:
         del self._stack[kept:]
 
     def _test_profile(self, profile: edn_profile.Profile, token: Match[str], kind: int) -> None:
-        """Refuses a token that is outside the profile, and other white space before it or in it than the profile's."""
+        """Refuses a token that is outside the profile, and white space before it or in it that the profile does not have."""
         places = [place for _, place, _ in atoms_of(token)] if kind == RUN else [token.start(1)] if kind != COMMENT else []
         found = profile.outside(token, places)
         if found is not None:

@@ -1,4 +1,5 @@
-"""The part of EDN that the program `jepmon` reads (docs/FORMATS.md, Text), token by token, and in words the tokens outside of that."""
+"""The part of EDN that the program `jepmon` reads (docs/FORMATS.md, Text), token by token. It describes the tokens outside this part in
+words."""
 from __future__ import annotations
 
 import re
@@ -6,7 +7,7 @@ from typing import Iterable, Match, Optional, Tuple
 
 DEEPEST = 32  # collections in one another
 INTEGERS = range(-(1 << 63), 1 << 63)
-MARKS = frozenset(("{", "[", "#{", "}", "]", "#_", "", '"'))  # with the end of the text, and a string that does not end in it
+MARKS = frozenset(("{", "[", "#{", "}", "]", "#_", "", '"'))  # also the end of the text, and a string that does not end
 
 ATOM = r"(?::[A-Za-z][A-Za-z0-9_?!*.-]*|[+-]?(?:0|[1-9][0-9]{0,17})|nil|true|false)"  # but for the longest integers
 WHOLE_ATOM = ATOM + r'(?![^ \t\r\n,;"\[\]{}()])'
@@ -17,7 +18,7 @@ OTHER_SPACE = r"[^\S \t\r\n]"  # white space that is none to the program
 
 # The kind of a token that is outside, by its spelling.
 OUTSIDE = (
-    (r".*\ufffd.*", "bytes that are no UTF-8"),
+    (r".*\ufffd.*", "bytes that are not UTF-8"),
     (r".*\s.*", "text with white space that is neither a space, a tab nor the end of a line"),
     (r":", "a colon by itself, as JSON has it"),
     (r"#[^_{].*", "a tag or a record"),
@@ -26,7 +27,7 @@ OUTSIDE = (
     (r"[+-]?[0-9]+N", "an integer with the suffix N"),
     (r"[+-]?[0-9]+/[0-9]+", "a ratio"),
     (r"[+-]?0[0-9]+", "an integer with a leading 0"),
-    (r"[+-]?[0-9]+(\.[0-9]*)?([eE][+-]?[0-9]+)?M?|##.*", "a number that is no integer"),
+    (r"[+-]?[0-9]+(\.[0-9]*)?([eE][+-]?[0-9]+)?M?|##.*", "a number that is not an integer"),
     (r"[+-]?[0-9].*", "no number"),
     (r"\\.*", "a character"),
 )
@@ -34,7 +35,7 @@ ESCAPES = 'a string that begins here has an escape other than \\t \\r \\n \\\\ \
 
 
 class Profile:
-    """Tests tokens. Its expressions are compiled when one is made, since most readers need none."""
+    """Tests tokens. The regular expressions are compiled when a Profile is made, since most readers need none."""
 
     def __init__(self) -> None:
         self._token = re.compile(f"{RUN}|{STRING}")
@@ -47,7 +48,7 @@ class Profile:
         self._piece, self._has_space = piece, self._space.search(piece) is not None
 
     def is_inside(self, token: Match[str]) -> bool:
-        """Whether this token, whose own text is its group 1, is of the profile, with the white space before it."""
+        """Whether this token (its own text is group 1) and the white space before it are in the profile."""
         text = token[1]
         return (text in MARKS or self._token.fullmatch(text) is not None) and not self._has_space
 
@@ -62,7 +63,7 @@ class Profile:
 
 
 def reason_of(piece: str, place: int) -> Optional[str]:
-    """Why what begins at this place of the piece is outside the profile; None if it is not."""
+    """Why the text at this place of the piece is outside the profile. None if it is inside."""
     if place == len(piece) or re.compile(f"{WHOLE_ATOM}|{STRING}|[{{}}\\[\\]]|#[{{_]").match(piece, place):
         return None
     if piece[place] == '"':  # one that does not end is for the reader to refuse

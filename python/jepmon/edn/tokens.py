@@ -1,7 +1,7 @@
 """The tokens of EDN, as Jepsen and the program `jepmon` write it: one regular expression, and the kinds of tokens.
 
-Atoms that follow one another are one token, a run: so a map of a dozen fields has half a dozen tokens. To TOKEN_OR_MAP a flat map
-is one token too: one that has nothing but atoms, strings, and vectors and sets of these, as most events are.
+Atoms that follow one another are one token, a run. So a map of a dozen fields has half a dozen tokens. For TOKEN_OR_MAP a flat map is one
+token too. A flat map has only atoms, strings, and vectors and sets of these, as in most events.
 """
 from __future__ import annotations
 

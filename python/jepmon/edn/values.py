@@ -1,4 +1,4 @@
-"""Values of EDN, and what is asked of them: an atom is its own spelling, a collection is a Many."""
+"""Values of EDN, and functions on them. An atom is its own spelling, and a collection is a Many."""
 from __future__ import annotations
 
 import re
@@ -6,14 +6,14 @@ from typing import Any, Dict, NamedTuple, Optional, Sequence, Tuple, Union
 
 CLOSING = {"{": "}", "[": "]", "(": ")", "#{": "}"}
 NUMERIC = frozenset("+-0123456789")  # with which numbers begin
-DIGITS = frozenset("123456789")  # with which one begins that is spelled in no other way
+DIGITS = frozenset("123456789")  # an integer that begins with one of these has no other spelling
 INTEGER = re.compile(r"[+-]?[0-9]{1,1000}N?")
 ATOMS = {str}
 ESCAPES = {"t": "\t", "r": "\r", "n": "\n"}
 
 
 class Many(NamedTuple):
-    """A collection: how it opens, and its members in order (of a map its keys and values in turn)."""
+    """A collection: its opening bracket, and its members in order. A map has a key, its value, the next key, and so on."""
 
     opened: str
     members: Tuple[Any, ...]
@@ -36,7 +36,7 @@ def shown(value: Value, most: int = 160) -> str:
 
 
 def canonical(value: Value) -> Value:
-    """The value so that two which EDN calls equal are equal: sets and maps in one order, lists as vectors, 1N and +1 as 1."""
+    """The value in a form in which values that EDN calls equal are equal: sets and maps in one order, lists as vectors, 1N and +1 as 1."""
     if isinstance(value, str):
         if value[0] not in NUMERIC or value[0] in DIGITS and value.isdecimal() and value.isascii():  # as most are
             return value
@@ -71,7 +71,7 @@ def string(text: str) -> str:
 
 
 def fields_of(value: Value) -> Optional[Dict[str, Value]]:
-    """The fields of a map whose keys are keywords or other atoms; None of anything else."""
+    """The fields of a map whose keys are keywords or other atoms. None for anything else."""
     if not isinstance(value, Many) or value.opened != "{":
         return None
     members = iter(value.members)
@@ -82,7 +82,7 @@ def fields_of(value: Value) -> Optional[Dict[str, Value]]:
 
 
 def integer(value: Optional[Value]) -> Optional[int]:
-    """The integer that the value is, with or without the suffix N. One of more than a thousand digits is none."""
+    """The integer that the value spells, with or without the suffix N. None for any other value, and for more than a thousand digits."""
     if not isinstance(value, str):
         return None
     if len(value) < 20 and value.isdecimal() and value.isascii():  # as most are

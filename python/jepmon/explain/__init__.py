@@ -1,4 +1,4 @@
-"""Says what a verdict or a refusal of `jepmon check` speaks of: the file's own events beside it."""
+"""Explains a verdict or a refusal of `jepmon check` by the events of the file."""
 from __future__ import annotations
 
 __all__ = ["main"]

@@ -1,4 +1,4 @@
-"""Elements of a history as events, also if they are none that jepmon takes."""
+"""Elements of a history as events, also if jepmon does not accept them."""
 from __future__ import annotations
 
 from typing import Dict, List, NamedTuple, Optional, Sequence
@@ -10,7 +10,7 @@ LONGEST = 200  # characters of an event that are shown
 
 
 class Options(NamedTuple):
-    """The options of the check that matter to what is said."""
+    """The options of the check that matter for the explanation."""
 
     concurrency: int
     model: str
@@ -18,7 +18,7 @@ class Options(NamedTuple):
 
 
 class Event:
-    """An element as an event: its missing fields are None."""
+    """An element as an event. Missing fields are None."""
 
     def __init__(self, index: int, element: Element) -> None:
         self.index, self.line, self.element = index, element.line, element
@@ -57,7 +57,7 @@ class Shower:
         return f"{mark:4}event {event.index}, line {event.line}{client}: {text[:LONGEST]}"
 
     def client(self, process: Optional[int]) -> str:
-        """The name of a process: after an operation that timed out its client goes on as another one."""
+        """The name of a process by its client: after an operation that timed out, the client continues as another process."""
         if process is None or process < self.concurrency:
             return f"process {process}"
         return f"client {process % self.concurrency} (process {process})"

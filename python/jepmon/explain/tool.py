@@ -1,11 +1,11 @@
-"""Says what a verdict or a refusal of `jepmon check` speaks of: the file's own events beside it.
+"""Explains a verdict or a refusal of `jepmon check` by the events of the file.
 
     {tool} history.edn --concurrency 5 --model cas-register
 
 It runs the check with these options and prints its output. On standard error it prints the context of the last line: the line in the file,
-the event, the open operations, and the event that may have been meant. Its notes are not proved; the verdict is jepmon's own, and so is the
-exit status. Everything else, as a missing program or no verdict, ends with 3. It takes the program that JEPMON names, else the one built or
-released in this repository, else jepmon on the PATH.
+the event, the open operations, and the event that may have been meant. Its notes are not proved. The verdict and the exit status are
+jepmon's own. If there is no verdict, for example without a program, the status is 3. It uses the program that JEPMON names, otherwise the
+program that was built or released in this repository, otherwise jepmon on the PATH.
 """
 from __future__ import annotations
 
@@ -90,7 +90,7 @@ def checked(file: str, raw: Optional[bytes], stated: Dict[str, str], asked: prog
 
 
 def tell(report: program.Report, raw: bytes, stated: Dict[str, str], asked: program.Options) -> bool:
-    """Says what may be said, and whether there was something. The verdict stands, whatever comes of this."""
+    """Prints the notes, and returns whether there were any. A failure here does not change the verdict."""
     is_told = False
     try:
         kind = next((line.kind for line in report.keys if line.key == report.key and line.is_wide), "")

@@ -28,7 +28,7 @@ def of_unreadable(raw: bytes, place: int) -> Iterator[str]:
             yield from of_fault(text, begin, fault)
             return
     yield f"line {line_of(text, begin)}: {SEMANTIC}"
-    yield "integer of more than 64 bits, or a string whose bytes are no UTF-8"
+    yield "integer of more than 64 bits, or a string whose bytes are not UTF-8"
 
 
 def of_fault(text: str, begin: int, fault: Unreadable) -> Iterator[str]:
@@ -48,7 +48,7 @@ def begin_of_atom(text: str, place: int) -> int:
 
 
 def line_of(text: str, place: int) -> int:
-    """The line of what follows the place, after the white space there."""
+    """The line of the text that follows the place and the white space there."""
     rest = text[place:]
     return text.count("\n", 0, place + len(rest) - len(rest.lstrip())) + 1
 

@@ -10,14 +10,14 @@ from .event import Event, Options, Shower, is_set, open_at
 
 SHOWN = 14  # events of a key
 COUNTED = {  # what makes a wide kind unknown
-    "wide-register": "of a register the writes among them that an answer needs make its outcomes many (lean ends):",
-    "wide-cas-register": "of a register the values that they may leave, one after another, make its outcomes many (fronts):",
+    "wide-register": "the register has many outcomes because of the writes among these operations that an answer needs (lean ends):",
+    "wide-cas-register": "the register has many outcomes because of the values that these operations may leave, one after another (fronts):",
 }
 SOURCES = {model: " or ".join(name for name in BROUGHT if name in names) for model, names in MODELS.items() if names & set(BROUGHT)}
 
 
 def of_verdict(word: str, events: Sequence[Event], key: int, index: int, options: Options, shower: Shower) -> Iterator[str]:
-    """The last events of the key up to the one that the verdict names, and what was open just before."""
+    """The last events of the key up to the event that the verdict names, and the operations that were open just before it."""
     of_key = [event for event in events[:index + 1] if event.key == key]
     if key in shower.names.keys:
         yield f"key {key} is {shower.names.key(key)}"
@@ -39,7 +39,7 @@ def of_verdict(word: str, events: Sequence[Event], key: int, index: int, options
 
 
 def of_sources(of_key: Sequence[Event], options: Options, shower: Shower) -> Iterator[str]:
-    """The possible origin of the answer of the key's last event: an operation that failed, or none."""
+    """The possible origin of the answer in the key's last event: a failed operation, or none."""
     answer, source = of_key[-1], SOURCES.get(options.model)
     if answer.kind != "ok" or answer.name not in ("read", "dequeue") or source is None:
         return
@@ -57,7 +57,8 @@ def of_sources(of_key: Sequence[Event], options: Options, shower: Shower) -> Ite
 
 
 def sources_of(of_key: Sequence[Event], reader: str) -> "Tuple[Dict[int, Tuple[Event, Event]], Counter[int]]":
-    """For each value: the last operation that put it in and failed, and the number of operations that put it in and did not fail."""
+    """For each value: the last failed operation that would have brought it in, and the number of operations that brought it in and did not
+    fail."""
     invoked: Dict[Optional[int], Event] = {}
     failed: Dict[int, Tuple[Event, Event]] = {}
     taken = collections.Counter(value for event in of_key if event.kind == "invoke" for value in brought(event, reader))
@@ -89,7 +90,7 @@ def answered(event: Event) -> List[int]:
 
 
 def of_many_ends(of_key: Sequence[Event], options: Options) -> Iterator[str]:
-    """The options of the user if the last of the key's events met more ends than the budget."""
+    """Advice for the user if there were more ends than the budget at the key's last event."""
     if options.kind == DIFFERING:
         yield "two enqueues of one value have not failed, and by its ends the queue is over its budget before this event:"
         yield "give each message a value of its own"
@@ -111,12 +112,12 @@ def is_failed(event: Event) -> bool:
 
 
 def is_read_that_timed_out(event: Event) -> bool:
-    """It changes nothing, and answers nobody."""
+    """Whether it is a read that timed out: it changes nothing, and its answer is unknown."""
     return event.kind == "info" and event.name == "read"
 
 
 def without(events: Sequence[Event], is_out: Callable[[Event], bool]) -> List[Event]:
-    """Takes out the operations that had completed so before the last event."""
+    """Removes the operations that had completed in this way before the last event."""
     kept: Dict[int, Event] = {}
     invoked: Dict[Optional[int], int] = {}
     for event in events:
@@ -130,7 +131,7 @@ def without(events: Sequence[Event], is_out: Callable[[Event], bool]) -> List[Ev
 
 
 def of_model(of_key: Sequence[Event], whole: Sequence[Event], options: Options) -> Iterator[str]:
-    """Which model may have been meant, by the key's events up to the verdict and by the whole file's."""
+    """The model that may have been meant, by the key's events up to the verdict and by the events of the whole file."""
     key = of_key[-1].key
     names = {event.name for event in of_key if event.name is not None}
     strange = names - MODELS.get(options.model, names)
@@ -146,7 +147,7 @@ def of_model(of_key: Sequence[Event], whole: Sequence[Event], options: Options) 
 
 
 def of_answer(read: Event, options: Options) -> Iterator[str]:
-    """Finds a read whose answer is not a state of the key's object, whatever it holds."""
+    """Finds a read whose answer cannot be a state of the key's object."""
     answer = "an integer" if integer(read.part) is not None else "a set" if is_set(read.part) else "nil"
     if options.model == "set" and answer != "a set":
         yield f"key {read.key} is judged as a set, and this read answers {answer}"
@@ -167,7 +168,7 @@ def of_legal(events: Sequence[Event]) -> Iterator[str]:
     reads = [event for event in events if event.is_answer]
     of_nil = sum(event.part == "nil" for event in reads)
     if of_nil == len(reads) > 0:
-        yield f"NOTHING IS SAID OF WHAT A REGISTER HOLDS: each read is answered by nil, which fits whatever it holds: {of_nil}"
+        yield f"NO READ OF A REGISTER CAN BE WRONG: each read answers nil, which fits every value: {of_nil}"
     elif of_nil:
         yield f"reads answered by nil, which fits whatever a register holds: {of_nil} of {len(reads)}"
 

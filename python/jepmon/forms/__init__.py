@@ -1,4 +1,4 @@
-"""Forms in which recorded histories come: where they lie, which form it is, and how each becomes jepmon's own."""
+"""Forms of recorded histories: the place of a history, its form, and the conversion of each form into jepmon's own."""
 from __future__ import annotations
 
 
@@ -7,4 +7,4 @@ class Refused(Exception):
 
 
 class Beyond(Refused):
-    """One check does not take so much; shards of it may be judged."""
+    """The history is too large for one check. Shards of it can be judged."""

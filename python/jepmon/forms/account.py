@@ -1,16 +1,16 @@
-"""The account of an input: what became of each of its lines, and what was assumed that it does not say.
+"""The account of an input: the use of each of its lines, and the assumptions that the input does not state.
 
-`recorded` makes an Account for each reading and returns it as Recorded.account; every reader of a form gets it and records in it
+`recorded` makes an Account for each reading and returns it as Recorded.account. Every reader of a form gets the account and records in it
 
     account.took(first, last)             the lines of one event or operation in the file, in the order of the file
     account.skip("blank", 2)              lines that belong to no event, with the reason: a short noun phrase
     account.guess(KEY, "..", "--key K")   an assumption, and the option that settles it
 
-and at the end account.close(lines), with the number of lines of the input. The input is refused if a line is missing in the account.
-Parts of an input that are read by themselves (several files, pieces of a long one) have accounts of their own; add() joins them.
+and at the end account.close(lines), with the number of lines of the input. If a line is missing in the account, the input is refused. Parts
+of an input that are read separately (several files, pieces of a long file) have accounts of their own, and add() joins these.
 
-jepmon-judge prints told(); --strict-input then refuses by test_strict() if there is a guess. An Account holds no file and no
-function, so that a process can send it to another one.
+jepmon-judge prints told(). With --strict-input, test_strict() then refuses if there is a guess. An Account holds no file and no function,
+so that a process can send it to another process.
 """
 from __future__ import annotations
 
@@ -63,7 +63,7 @@ class Account:
         self._latest = 0
 
     def took_none(self, reason: str, first: int, last: int) -> None:
-        """Records lines that are not events, with the reason. It does not count again those that hold a part of an event too."""
+        """Records lines that are not events, with the reason. It does not count a line that also holds a part of an event."""
         if last > self._until:
             self.skip(reason, last - max(first - 1, self._until))
             self._until = last
@@ -85,7 +85,7 @@ class Account:
             self.fields.append(name)
 
     def skip_to(self, line: int, reason: str, comments: int = 0) -> None:
-        """Records the lines between the last one taken and this one, with the number of comments among them."""
+        """Records the lines between the last line taken and this line, with the number of comments among them."""
         if line > self._until + 1:
             self.skip(reason, line - 1 - self._until - comments)
             self.skip("comment", comments)
@@ -125,7 +125,7 @@ class Account:
 
 
 class Shifted(Account):
-    """The account of one of several files, whose lines come after those of others."""
+    """The account of one of several files, whose lines are numbered after those of the files before it."""
 
     def __init__(self, account: Account, base: int) -> None:
         super().__init__()

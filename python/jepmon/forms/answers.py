@@ -1,4 +1,4 @@
-"""Whether an operation took place, if it has an answer of its own that denies it."""
+"""Whether an operation took place, if its own answer says that it did not."""
 from __future__ import annotations
 
 from typing import Any, Counter, Optional
@@ -16,7 +16,7 @@ DECIDES = ("cas", "acquire", "release")  # whose answer is true or false
 
 
 def answered(line: int, name: str, answer: Any) -> Optional[str]:
-    """How an operation with this answer ended; None if the answer says that it took place, or nothing."""
+    """The outcome of an operation with this answer. None if the answer says that the operation took place, or says nothing."""
     if answer is None and name == "cas":
         raise Refused(f"line {line}: a cas is answered by null: did it take place? let an outcome say ok, fail or info")
     if answer is None or answer is True:
@@ -38,16 +38,16 @@ def answered(line: int, name: str, answer: Any) -> Optional[str]:
 
 
 def says_no(name: str, answer: Any) -> bool:
-    """Whether an operation that is ok is answered by false, as a cas whose compare failed."""
+    """Whether an ok operation has the answer false, such as a cas whose comparison failed."""
     return name in DECIDES and (answer is False or isinstance(answer, str) and answer.strip().lower() == "false")
 
 
 def completed(told: Told, kind: str, name: Optional[str], counts: Counter[str]) -> str:
-    """The type of a completion, which may say of itself that it is not ok."""
+    """The type of a completion. An ok whose answer denies it is not an ok."""
     if kind != "ok":
         return kind
     if told.outcome is not None and told.outcome != "ok":
-        counts[f"completions that say of themselves that they are not ok, as :{told.outcome}"] += 1
+        counts[f"completions with a field that says that they are not ok: taken as :{told.outcome}"] += 1
         return told.outcome
     if name not in UNANSWERED:
         return kind
@@ -56,5 +56,5 @@ def completed(told: Told, kind: str, name: Optional[str], counts: Counter[str]) 
         said = told.value
     found = answered(told.line, name, said) if said is not MISSING and said is not None else None
     if found is not None:
-        counts[f"completions whose answer says that they are not ok, as :{found}"] += 1
+        counts[f"completions whose answer says that they are not ok: taken as :{found}"] += 1
     return found or kind

@@ -1,7 +1,7 @@
 """Values as JSON has them: cells of CSV and of logs, and decimals as they are spelled.
 
-A decimal is a float if a double holds it. Any other one keeps its spelling, as bytes, which no other value is: so decimals that differ stay
-different.
+A decimal is a float if a double can hold it. Any other decimal keeps its spelling, as bytes. No other value is bytes, so different decimals
+stay different.
 """
 from __future__ import annotations
 
@@ -26,7 +26,8 @@ class Twice(Exception):
 
 
 def object_of(pairs: "List[Tuple[str, Any]]") -> Any:
-    """Makes an object of its members, or what MongoDB writes as one: a number or a date. Raises Twice if a member stands there twice."""
+    """Makes an object of its members. If MongoDB wrote a number or a date as an object, makes this number or date. Raises Twice if a member
+    occurs twice."""
     if len(pairs) == 1 and pairs[0][0] in EXTENDED:
         return EXTENDED[pairs[0][0]](pairs[0][1])
     made = dict(pairs)
@@ -81,7 +82,7 @@ def cell_value(line: int, cell: str, mapping: Mapping) -> Any:
 
 
 def quoted_value(line: int, text: str, mapping: Mapping) -> Any:
-    """Reads a text in quotes, as of logfmt: a list, an object or a text of JSON if it is one; else itself."""
+    """Reads a text in quotes, such as in logfmt: as a list, an object or a text of JSON if it is one, and otherwise as it is."""
     return cell_value(line, text, mapping) if text.lstrip()[:1] in ("[", "{", '"') and text.strip() else text
 
 

@@ -1,4 +1,4 @@
-"""The clients of a history that several files tell: those of one name in two files are two clients, or one."""
+"""The clients of a history in several files. Clients with the same name in two files are two clients, or one client."""
 from __future__ import annotations
 
 from typing import Any, Dict, Optional, Set
@@ -31,7 +31,7 @@ class Clients:
         return f"{client} of {file}"
 
     def close(self, account: Account) -> None:
-        """Tells the account of clients that may be one."""
+        """Records in the account the clients that may be one client."""
         twice = [str(client) for client, files in self._files.items() if len(files) > 1]
         if twice and self._said is None:
             shown = ", ".join(twice[:SHOWN]) + (", .." if len(twice) > SHOWN else "")

@@ -1,8 +1,8 @@
-"""Times of rows: numbers of a stated unit, of one that is not stated, or dates. All times of a history are of one clock.
+"""Times of rows: numbers with or without a stated unit, or dates. All times of a history are from one clock.
 
-A time whose unit is known is in nanoseconds. If no unit is known, the number stands as it is: the order needs no unit. A date is known,
-and so is a number whose field or option names its unit. Known and unknown times, or dates with and without a zone, are not compared.
-If times have several units, a return in a coarse one is at the end of its unit, so that no order is made up.
+A time whose unit is known is in nanoseconds. If no unit is known, the number stays as it is, since the order needs no unit. The unit of a
+date is known, and so is that of a number whose field or option names it. Known and unknown times, or dates with and without a zone, are not
+compared. If times have several units, a return in a coarse unit counts as the end of this unit, so that the tool does not invent an order.
 """
 from __future__ import annotations
 
@@ -38,7 +38,7 @@ class Clock:
         self.needs_unit = False  # whether the unit has to be known, as for a duration or a clock error
 
     def time(self, line: int, field: Any, unit: Optional[str]) -> Optional[Time]:
-        """The time that a field says, whose name may say its unit. None if it says none."""
+        """The time in a field, whose name may have the unit. None if the field has no time."""
         if type(field) is int or type(field) is float:
             return self._number(line, field, unit)
         if field is None or field == "":
@@ -52,7 +52,7 @@ class Clock:
             if DECIMAL.fullmatch(text):
                 return self._number(line, float(text), unit)
             return self._date(line, text)
-        raise Refused(f"line {line}: {_shown(field)} is not a time: a number, or a date as 2024-05-01T10:00:00.123Z")
+        raise Refused(f"line {line}: {_shown(field)} is not a time: a number, or a date such as 2024-05-01T10:00:00.123Z")
 
     def end(self, line: int, field: Any, unit: Optional[str]) -> Optional[Time]:
         """The time of a return. None if it never came."""
@@ -66,7 +66,7 @@ class Clock:
         if period is not None:
             field, unit = sum(float(part or 0) * seconds for part, seconds in zip(period.groups(), (3600, 60, 1))), "s"
         if not isinstance(field, (int, float)) or isinstance(field, bool) or not math.isfinite(field) or field < 0:
-            raise Refused(f"line {line}: {_shown(field)} is not a duration: a number from 0 on, whose field names its unit, as duration_ms")
+            raise Refused(f"line {line}: {_shown(field)} is not a duration: a number from 0 on, whose field names its unit, such as duration_ms")
         if unit is None:
             raise Refused(f"line {line}: the unit of the duration {_shown(field)} is not known: name its field as duration_ms is, or say "
                           "--map FIELD=duration_ms")
@@ -75,12 +75,12 @@ class Clock:
         return field * UNITS[unit]
 
     def factor(self, unit: Optional[str]) -> Optional[int]:
-        """By what a number is multiplied whose field names this unit, or none; None as long as it is not known whether numbers have one."""
+        """The factor for a number whose field names this unit, or no unit. None as long as it is not known whether numbers have a unit."""
         unit = unit or self._stated
         return None if self._is_known != (unit is not None) else 1 if unit is None else UNITS[unit]
 
     def coarsest(self) -> int:
-        """How many nanoseconds a return may be later than it says, if times have several units."""
+        """By how many nanoseconds a return may be later than its time, if times have several units."""
         return max(UNITS[unit] for unit in self._units) - 1 if len(self._units) > 1 else 0
 
     def _number(self, line: int, number: Time, unit: Optional[str]) -> Time:
@@ -125,7 +125,7 @@ def nanoseconds(text: str) -> int:
     """The nanoseconds of a length of time with its unit, as 5ms."""
     found = re.fullmatch(r"([0-9]+(?:\.[0-9]+)?)\s*(s|ms|us|ns)", text)
     if found is None:
-        raise Refused(f"{text!r} is not a length of time: a number and s, ms, us or ns, as 5ms")
+        raise Refused(f"{text!r} is not a length of time: a number and s, ms, us or ns, such as 5ms")
     return math.ceil(float(found.group(1)) * UNITS[found.group(2)])
 
 
@@ -134,7 +134,7 @@ def _shown(field: Any) -> str:
 
 
 def _date_of(text: str, line: int) -> "tuple[int, bool]":
-    """Nanoseconds since 1970, and whether the date has a zone; one without is as in UTC."""
+    """Nanoseconds since 1970, and whether the date has a zone. A date without a zone counts as UTC."""
     head, zone = text[:19], text[-1:]
     seconds = _seconds(head)
     if seconds is not None and zone == "Z":
@@ -143,7 +143,7 @@ def _date_of(text: str, line: int) -> "tuple[int, bool]":
             return seconds * 10**9 + int(fraction[:9].ljust(9, "0") or 0), True
     date = DATE.fullmatch(text)
     if date is None:
-        raise Refused(f"line {line}: {_shown(text)} is not a time: a number, or a date as 2024-05-01T10:00:00.123Z")
+        raise Refused(f"line {line}: {_shown(text)} is not a time: a number, or a date such as 2024-05-01T10:00:00.123Z")
     year, month, day, hour, minute, second, fraction, zone = date.groups()
     offset = "+00:00" if zone in (None, "Z", "UTC", "GMT") else f"{zone[:3]}:{zone.replace(':', '')[3:] or '00'}"
     try:

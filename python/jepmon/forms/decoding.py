@@ -1,4 +1,4 @@
-"""The text of a history out of its bytes, in pieces that end with a line's end: out of gzip, and without a byte order mark."""
+"""Decodes the bytes of a history into text, in pieces that end with the end of a line. It unpacks gzip, and removes a byte order mark."""
 from __future__ import annotations
 
 import zlib
@@ -11,7 +11,7 @@ GZIP = b"\x1f\x8b"
 MARK = b"\xef\xbb\xbf"
 MARKED = "a byte order mark at its front was left out"
 
-# Files that have to be unpacked or turned first, by their first bytes.
+# Files that have to be unpacked or converted first, by their first bytes.
 PACKED = (
     (b"\x28\xb5\x2f\xfd", "it is compressed by zstd: zstdcat FILE | {tool}"),
     (b"BZh", "it is compressed by bzip2: bzcat FILE | {tool}"),
@@ -81,7 +81,7 @@ def joined(front: bytes, pieces: Iterator[bytes]) -> Iterator[bytes]:
 
 
 def unpacked(pieces: Iterator[bytes]) -> Iterator[bytes]:
-    """The bytes out of gzip, also of several parts. If little becomes much, it makes some at a time."""
+    """The unpacked bytes of gzip, which may have several parts. If a few bytes unpack to many, these come in pieces."""
     inflate = zlib.decompressobj(wbits=31)
     for piece in pieces:
         try:

@@ -8,7 +8,7 @@ from . import Refused, log_rows, logs, rows, tables
 NOTHING, EDN, JSON, CSV, LOG, LOGFMT, LINES, TABLE = "nothing", "EDN", "JSON", "CSV", "log", "logfmt", "a log by a mapping", "a table"
 
 GAP = re.compile(r"(?:[\s,]+|;[^\n]*)*")
-# The beginning of a JSON text that has an object: a name in quotes, and a colon that begins no keyword of EDN.
+# The beginning of a JSON text with an object: a name in quotes, and a colon that does not begin a keyword of EDN.
 OBJECT = re.compile(r'[\[{][\s\[{]*"(?:[^"\\]|\\.)*"\s*:[^A-Za-z]')
 EDN_BEHIND = re.compile(r"[\s,;]*[({\[#][\s{\[]*[:#;]")
 REPR = re.compile(r"[\[({][\s\[({]*'[^'\n]*'\s*:")
@@ -22,7 +22,7 @@ FRONT = 200_000  # characters within which a log's first event is looked for
 
 
 def form_of(text: str) -> str:
-    """The form of a text. Refused if it is none of a history."""
+    """The form of a text. Raises Refused if it is not the form of a history."""
     comments = rows.COMMENTS.match(text)
     if comments is not None and EDN_BEHIND.match(text, comments.end()) is None:
         text = text[comments.end():]
@@ -30,7 +30,7 @@ def form_of(text: str) -> str:
     if begin == len(text) or EMPTY.fullmatch(text):
         return NOTHING
     if REPR.match(text, begin):
-        raise Refused("this is printed by Python's repr, as {'op': 'read'}: let the test print json.dumps of it")
+        raise Refused("this is printed by Python's repr, such as {'op': 'read'}: let the test print json.dumps of it")
     if text[begin] in "{[" and not LABEL.match(text, begin):
         return JSON if OBJECT.match(text, begin) else EDN
     if text[begin] in "(#":
@@ -47,5 +47,5 @@ def form_of(text: str) -> str:
     if YAML.match(text, begin):
         raise Refused("this is YAML: let the test print JSON, or turn it into JSON")
     shown = text[begin:begin + 60].split("\n", 1)[0]
-    raise Refused(f"this is not a form of a history that is known: it begins with {shown!r}; --mapping FILE reads the lines of a log by a "
+    raise Refused(f"the form of this history is not known: it begins with {shown!r}; --mapping FILE reads the lines of a log by a "
                   "regular expression")

@@ -1,7 +1,7 @@
-"""The one front door: which form a history has, and what is made of it, for each tool that takes one.
+"""The common entry for all tools that take a history: its form, and its conversion.
 
-A history in jepmon's own form is judged as it stands (own.py, or jepmon.shards). Any other history becomes a Translation, event by event.
-One check, or shards, get the part that they take.
+A history in jepmon's own form is judged as it is (own.py, or jepmon.shards). Any other history becomes a Translation, event by event, for
+one check or for shards.
 """
 from __future__ import annotations
 
@@ -32,7 +32,7 @@ from .written import Written
 
 OWN, JEPSEN, KEYED, LOG = "jepmon's own form", "Jepsen's form", "EDN with a key in each event", "a log, an operation a line"
 NO_KEYS = (KEY, "its values have no keys: all of it is one object, key 0", "--key K")
-FURTHER = ("time", "error")  # fields that are taken over from what the history was made from
+FURTHER = ("time", "error")  # fields that are copied from the original history
 MOST_WHOLE = 250_000  # events that are judged by one check, if nobody asked for shards
 TIME = re.compile(r":time (-?[0-9]{1,19})(?=[,}\s])")
 LONGEST = 200  # lines that one event of it may take
@@ -45,7 +45,7 @@ class Options(NamedTuple):
     nil_is_absent: bool = False
     model: Optional[str] = None  # that is stated for all keys
     mapping: Mapping = Mapping()  # what is said of the fields of rows, and of the order of events
-    guesses_key: bool = True  # whether a history without keys is one object, if no key is said
+    guesses_key: bool = True  # whether a history without keys is one object, if the user names no key
     values: Optional[str] = None  # which values are one: "exact", "text" or "number"
     absent: Sequence[str] = ()  # the texts of answers that mean that a key is missing
     initial: Optional[str] = None  # what each register holds at first
@@ -60,7 +60,7 @@ class Options(NamedTuple):
 
     @property
     def first(self) -> Optional[Value]:
-        """The first value of each register, as it is judged; none if that is a missing key."""
+        """The first value of each register, in the judged form. None if the key is missing at first."""
         value = None if self.initial is None else self.meant.value(spelled(self.initial))
         return None if value == "nil" else value
 
@@ -69,13 +69,13 @@ class Options(NamedTuple):
         return self.missing_is_judged or self.initial is not None or not self.meant.says_nothing
 
     def asked(self, order: Optional[str]) -> Asked:
-        """The same of events in Jepsen's form, which are taken in this order."""
+        """The same options for events in Jepsen's form, which are taken in this order."""
         skew = None if self.mapping.skew is None or order == LINES else nanoseconds(self.mapping.skew)
         return Asked(self.key, self.missing_is_judged, order, self.mapping.contradictions, skew, meant=self.meant, ignored=self.mapping.ignored)
 
 
 def form_of(source: Source, options: Options) -> str:
-    """The form of a history, by how it begins. Refused if it is none that is known, or has no event."""
+    """The form of a history, by its beginning. Raises Refused if the form is not known, or if there is no event."""
     if isinstance(source, Several):
         return _form_of_several(source, options)
     if options.mapping.line is not None:
@@ -119,10 +119,10 @@ class Translation:
         self.account = account
         self.nil_is_absent, self.initial = nil_is_absent, initial
         self.notes = notes  # of how it came about
-        self._texts = texts  # in EDN, whose events say more than was kept of them
+        self._texts = texts  # in EDN, whose events have more fields than were kept
 
     def reason_for_shards(self) -> Optional[str]:
-        """Why one check is not given it; None if one is."""
+        """Why one check does not get the history. None if it does."""
         events, keys = len(self.history.events), len(self.history.keys)
         if events > kinds.EVENTS:
             return f"{events:,} events, which one check does not take"
@@ -133,7 +133,7 @@ class Translation:
         return written(self.history, self.nil_is_absent, OF_SHARDS if in_shards else Limits(), self.initial)
 
     def beside(self, wanted: Set[int], begun: int) -> Dict[int, Dict[str, Any]]:
-        """The times and errors of the events of these indices; `begun` events come before the history's own."""
+        """The times and errors of the events with these indices. `begun` events come before the history's own."""
         rows = {index: row for index, row in self._rows(begun) if index in wanted and len(row) > 2}
         if self._texts is None:
             return {index: {name: said for name, said in zip(FURTHER, row[7]) if said is not None} for index, row in rows.items() if row[7] is not None}
@@ -177,7 +177,7 @@ def translated(source: Source, form: str, options: Options) -> Translation:
 
 
 def _of_rows(source: Source, form: str, options: Options, account: Account) -> Written:
-    """The events of rows; those without keys are of the one object that they are then."""
+    """The events of rows. If they have no keys, all of them belong to one object."""
     asked = rows_told.Asked(options.mapping, options.model is not None, options.asked(LINES), source)
     try:
         return _written(source, form, asked, account)
@@ -222,7 +222,7 @@ def rows_of(form: str, texts: Iterable[str], mapping: Mapping, account: Account)
 
 
 def _collected(texts: Texts, options: Options, account: Account, source: Source) -> History:
-    """The events of EDN; those whose values have no keys are of the one object that they are then."""
+    """The events of EDN. If their values have no keys, all of them belong to one object."""
     clients = Clients(source, options.mapping.clients)
     asked = options.asked(options.mapping.order)._replace(is_own=source is texts and own_front.is_own(source.front))
     if isinstance(source, Several):

@@ -1,8 +1,8 @@
-"""Events of EDN that have their key in a field of its own, as the logs of a key-value store that Porcupine is tested with.
+"""Events of EDN with the key in a field of its own, as in the logs of a key-value store in Porcupine's tests.
 
     {:process 0, :type :invoke, :f :put, :key "3", :value "a"}
 
-There a get of a missing key answers an empty text, and so does each key at first.
+In these logs a get of a missing key answers an empty text, and each key is missing at first.
 """
 from __future__ import annotations
 

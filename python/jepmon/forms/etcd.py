@@ -1,7 +1,8 @@
 """Operations of etcd as its robustness tests record them for Porcupine: puts, deletes and ranges of one key each.
 
-Transactions with conditions or over several keys, ranges over several keys and of old revisions, and leases have a model of their own.
-Those tests check it, and the tool refuses such operations by name. Defragmentations and compactions change no key, and are left out.
+Transactions with conditions or over several keys, ranges over several keys or of old revisions, and leases are not judged: these operations
+need another model, which etcd's own tests check. The tool refuses such operations by name. Defragmentations and compactions change no key,
+and are skipped.
 """
 from __future__ import annotations
 
@@ -30,7 +31,7 @@ def is_one(row: Row) -> bool:
 
 
 def turned(row: Row, writer: Writer) -> Optional[Row]:
-    """The row as one of a register; None if it changes no key."""
+    """The row as an operation on a register. None if it changes no key."""
     own = named(row.fields)
     asked, came = named(own["input"]), _inner(row, own, "output")
     kind = str(asked["type"]).lower()
@@ -51,7 +52,7 @@ def turned(row: Row, writer: Writer) -> Optional[Row]:
 
 
 def _error(row: Row, came: Dict[str, Any]) -> Any:
-    """The error of an operation, after which it may have taken place; None if it has none."""
+    """The error of an operation, which may have taken place all the same. None if there is no error."""
     told = [came.get(name) for name in ("error", "clienterror", "err")] + [_inner(row, came, "txn").get("error")]
     error = next((error for error in told if error not in (None, "", False)), None)
     if _inner(row, came, "txn").get("failure"):
@@ -67,7 +68,7 @@ def _inner(row: Row, fields: Dict[str, Any], name: str) -> Dict[str, Any]:
     """The object in a field, an empty one if there is none."""
     inner = fields.get(name) or {}
     if not isinstance(inner, dict):
-        raise Refused(f"line {row.line}: its {name} is no object")
+        raise Refused(f"line {row.line}: its {name} is not an object")
     return named(inner)
 
 

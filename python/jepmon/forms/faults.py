@@ -1,4 +1,4 @@
-"""The faults of a history: those of which Jepsen's nemesis tells, jepmon's own, and the notes of a live test."""
+"""The faults of a history: those that Jepsen's nemesis records, jepmon's own faults, and the notes of a live test."""
 from __future__ import annotations
 
 from typing import Callable, Dict, Iterable, Iterator, List, Sequence, Tuple
@@ -13,7 +13,7 @@ SHOWN = 60  # characters of what a nemesis did
 
 
 class _Note:
-    """An operation of a nemesis: from when it began to when it was done, in events before it and in time."""
+    """An operation of a nemesis: its beginning and its end, each as the number of earlier events and as a time."""
 
     def __init__(self, name: str, value: str, first: Tuple[int, int], last: Tuple[int, int]) -> None:
         self.name, self.value, self.first, self.last = name, value, first, last
@@ -24,9 +24,9 @@ class _Note:
 
 
 def of_nemesis(left: Iterable[Left], before: int) -> List[Fault]:
-    """The faults that a Jepsen nemesis records. `before` events come before the history's own. The history has each of its operations
-    twice, at its begin and at its end. A fault holds from the begin of the operation that starts it to the end of the operation that ends
-    it."""
+    """The faults that a Jepsen nemesis records. `before` events come before the history's own. The history has each operation of the
+    nemesis twice, at its beginning and at its end. A fault lasts from the beginning of the operation that starts it to the end of the
+    operation that ends it."""
     begun: Dict[str, Left] = {}
     made: List[_Note] = []
     for event in left:
@@ -45,7 +45,8 @@ def _note(before: int, first: Left, last: Left) -> _Note:
 
 
 def of_notes(made: Sequence[_Note]) -> List[Fault]:
-    """The faults of a nemesis: each holds until the operation that ends it, or until the end of the history; else it is a moment."""
+    """The faults of a nemesis. A fault lasts until the operation that ends it, or until the end of the history. Otherwise it is a
+    moment."""
     faults: List[Fault] = []
     held: Dict[int, str] = {}  # the names of those that hold, by their places among the faults
     for note in made:
@@ -64,12 +65,12 @@ def of_notes(made: Sequence[_Note]) -> List[Fault]:
 
 
 def of_text(text: str) -> List[Fault]:
-    """The faults that a history in jepmon's own form tells: by notes, and by events of its nemesis."""
+    """The faults in a history in jepmon's own form: in notes, and in events of its nemesis."""
     return of_lines(lambda: text.split("\n")) if ":nemesis" in text else []
 
 
 def of_lines(lines: Callable[[], Iterable[str]]) -> List[Fault]:
-    """The same of its lines, which are gone through twice."""
+    """The faults in these lines, which are read twice."""
     return sorted(notes.faults_of(lines()) + of_notes(list(_own(lines()))), key=lambda fault: fault.begin)
 
 

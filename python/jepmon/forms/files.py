@@ -1,4 +1,4 @@
-"""Where a recorded history lies: a file, one compressed by gzip, a folder as Jepsen's store/latest, standard input."""
+"""The place of a recorded history: a file (plain or gzip), a folder such as Jepsen's store/latest, or standard input."""
 from __future__ import annotations
 
 import bisect
@@ -18,7 +18,7 @@ DEEPEST = 4  # folders in one another that are looked through
 MOST_ENTRIES = 20_000  # of folders that are looked through
 LISTED = 12  # histories that a refusal names
 
-# The names by which histories are written, the best first. The last two have lost what the first ones have.
+# The names of files with histories, the best first. The last two lack facts that the first ones have.
 NAMES = ("history.edn", "history.jsonl", "history.ndjson", "history.json", "history.csv", "history.txt", "jepsen.log")
 ENDINGS = (".edn", ".jsonl", ".ndjson", ".json", ".csv")
 BESIDE = ("results.edn", "test.edn", "test.jepsen", "results.json")  # what Jepsen writes beside a history
@@ -26,7 +26,7 @@ LATEST = ("latest", "current")
 
 
 class Source:
-    """A recorded history as it was found: a file, or what standard input gave. It can be read as often as one likes."""
+    """A recorded history as it was found: a file, or the bytes of standard input. It can be read any number of times."""
 
     def __init__(self, name: str, path: Optional[str], opened: Callable[[], IO[bytes]], notes: Sequence[str] = ()) -> None:
         self.name = name  # how it is told of
@@ -36,10 +36,10 @@ class Source:
         self._feeds, self._last = 0, "\n"  # of the text that was read last: its line feeds, and its last character
         with opened() as file:
             begin = file.read(len(decoding.MARK))
-        self.is_plain = path is not None and not begin.startswith((decoding.GZIP, decoding.MARK))  # whether the text is the file, byte for byte
+        self.is_plain = path is not None and not begin.startswith((decoding.GZIP, decoding.MARK))  # whether the text is exactly the file
         self.front = self._front()  # its first lines
         marked = begin.startswith(decoding.MARK) or begin.startswith(decoding.GZIP) and self._is_marked()
-        self.notes: List[str] = [*notes, *([decoding.MARKED] if marked else [])]  # what is to be told of how it was found
+        self.notes: List[str] = [*notes, *([decoding.MARKED] if marked else [])]  # notes on how it was found
 
     def texts(self) -> Iterator[str]:
         """The text, in pieces of whole lines."""
@@ -64,7 +64,7 @@ class Source:
         return self._text
 
     def lines(self) -> int:
-        """How many lines the text has that was read last, to its end; the last one may lack its line feed."""
+        """The number of lines of the text that was last read to its end. The last line may lack its line feed."""
         return self._feeds + (self._last != "\n")
 
     @property
@@ -91,7 +91,7 @@ class Source:
 
 
 class Several(Source):
-    """The history that several files tell together, as those of several clients. Lines are counted through all of them."""
+    """One history in several files, such as one file for each client. Lines are numbered through all files."""
 
     def __init__(self, parts: Sequence[Source]) -> None:
         self.parts = parts
@@ -137,7 +137,7 @@ class Several(Source):
 
 
 def several(words: Sequence[str]) -> Source:
-    """The history in these files and folders, each of which has a part of it; one is all of it."""
+    """The history in these files and folders, each of which has a part. A single one has the whole history."""
     if len(words) == 1:
         return found(words[0])
     if len(set(words)) < len(words):
@@ -167,7 +167,7 @@ def opened(word: str, notes: Sequence[str] = ()) -> Source:
 
 
 def of_pipe(name: str, file: IO[bytes]) -> Source:
-    """The history that a pipe gives, which is kept to be read again: in memory, or in a file that has no name."""
+    """The history that a pipe gives. It is kept in memory or in a file without a name, so that it can be read again."""
     kept = _Kept()
     for piece in decoding.pieces_of(file):  # type: ignore[arg-type]
         kept.file.write(piece)
@@ -175,7 +175,7 @@ def of_pipe(name: str, file: IO[bytes]) -> Source:
 
 
 class _Kept:
-    """A file without a name, which is gone with the last one who reads it."""
+    """A file without a name. It disappears when its last reader closes it."""
 
     def __init__(self) -> None:
         import tempfile  # which takes time to load, and seldom has to
@@ -233,14 +233,15 @@ def _in_folder(folder: pathlib.Path) -> pathlib.Path:
     if len(histories) == 1:
         return histories[0]
     if not histories:
-        raise Refused(f"{folder}: there is no history in this folder: name a file, as history.edn of a Jepsen store")
+        raise Refused(f"{folder}: there is no history in this folder: name a file, such as history.edn of a Jepsen store")
     newest_first = histories[::-1][:LISTED]  # Jepsen's folders are named by the time
     listed = ", ".join(map(str, newest_first)) + (", .." if len(histories) > LISTED else "")
     raise Refused(f"{folder}: there are {len(histories)} histories in this folder, name one: {listed}")
 
 
 def _histories(folder: pathlib.Path) -> List[pathlib.Path]:
-    """The files within a folder that have a history's name; if there are none, those whose names end as a history's does."""
+    """The files within a folder that have the name of a history. If there are none, the files whose names end like the name of a
+    history."""
     files = list(_files(folder))
     named = [file for file in files if _plain(file.name) in NAMES]
     best = {file.parent: min((other for other in named if other.parent == file.parent), key=_rank) for file in named}

@@ -1,9 +1,9 @@
 """Operations with the times of their calls and returns, made into events in the order of these times.
 
-If one operation returns at the very time at which another one is called, they are taken as open at once: the invocation comes
-before the completion. So no order is made up, and a history that is legal stays so, whatever was shorter than the clock shows.
-An operation that never returned stays open, or ends as an :info where its client goes on. Which client did an operation says
-nothing to linearizability, so those that overlap on one client are spread over threads of their own.
+If one operation returns at the time at which another one is called, they count as open at once: the invocation comes before the completion.
+So the tool does not invent an order, and a coarse clock does not make a legal history illegal. An operation that never returned stays open,
+or ends as an :info when its client continues. Linearizability does not depend on the client of an operation, so operations that overlap on
+one client get threads of their own.
 """
 from __future__ import annotations
 
@@ -50,7 +50,7 @@ def of_told(told: Told, writer: Writer) -> Interval:
     if told.call is None:
         raise Refused(f"line {line}: this operation has no time of its call, which those before it have")
     if told.name is None:
-        raise Refused(f"line {line}: this operation has no name, as read or write; say --map FIELD=op for the field that names it")
+        raise Refused(f"line {line}: this operation has no name, such as read or write; say --map FIELD=op for the field that names it")
     if told.ends is not None and told.ends < told.call:
         raise Refused(f"line {line}: it returns at {told.ends}, before its call at {told.call}; leave the return out where there is none")
     argument, answer, outcome = told.value, told.answer, told.outcome
@@ -82,7 +82,7 @@ def _hashable(client: Any) -> Any:
 
 
 class Operations:
-    """Takes operations, and writes their events in the order of their times."""
+    """Collects operations, and writes their events in the order of their times."""
 
     def __init__(self, writer: Writer) -> None:
         self._writer, self._timeline = writer, Timeline()
@@ -115,8 +115,8 @@ class Operations:
         return self._timeline.are_apart()
 
     def test(self, names: str) -> None:
-        """Refuses operations of which none has returned, and one that is there twice, in each field, also in its times. A read that is
-        there twice changes nothing."""
+        """Refuses a history in which no operation has returned, and an operation that occurs twice with equal fields and times. A read that
+        occurs twice is harmless."""
         if self._count and not self._returned:
             raise Refused(f"none of its {self._count} operations has a time of its return. The fields are {names}; say --map FIELD=return for the "
                           "field that has it")
@@ -130,7 +130,8 @@ class Operations:
                               "lines twice? If they are two operations, let a field tell them apart")
 
     def lost(self, skew: Time) -> int:
-        """How many pairs of operations of one key stand in an order by their times, and in none if each is wider by a clock error."""
+        """The number of pairs of operations of one key that are ordered by their times, but not if each operation is wider by a clock
+        error."""
         count = 0
         for key, ends in self._ends.items():
             calls = sorted(self._calls[key])
@@ -138,8 +139,8 @@ class Operations:
         return count
 
     def write(self, faults: Iterable[Fault], skew: Time, coarse: int) -> None:
-        """Writes the events: each operation is begun earlier and ended later by a clock error; a return in a coarse unit is at the end of
-        that unit."""
+        """Writes the events. Each operation begins earlier and ends later by a clock error, and a return in a coarse unit is at the end of
+        this unit."""
         waiting = sorted(faults, key=lambda fault: fault[:2], reverse=True)
         last: Dict[int, Tuple[Any, ...]] = {}  # what was given of the invocation of each process
         for kind, process, given in self._timeline.moments(skew, skew + coarse):

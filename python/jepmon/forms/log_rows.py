@@ -31,7 +31,7 @@ def of_logfmt(texts: Iterable[str], mapping: Mapping, account: Account) -> Itera
                 raise Refused(f"line {number}: this is not name=value of logfmt: {line[place:place + 40]!r}")
             name, quoted, bare = found.groups()
             if name in fields:
-                raise Refused(f"line {number}: {name} stands there twice")
+                raise Refused(f"line {number}: {name} occurs twice in it")
             fields[name] = cell_value(number, bare, mapping) if quoted is None else quoted_value(number, _unescaped(quoted), mapping)
             place = found.end()
         account.took(number, number)
@@ -39,7 +39,7 @@ def of_logfmt(texts: Iterable[str], mapping: Mapping, account: Account) -> Itera
 
 
 def of_pattern(texts: Iterable[str], mapping: Mapping, pattern: Pattern[str], account: Account) -> Iterator[Row]:
-    """The lines that a pattern matches, by its named groups. Groups that take no part have no field."""
+    """The lines that a pattern matches, by its named groups. A group that does not match gives no field."""
     count = 0
     for number, line in enumerate(_lines(texts), 1):
         found = pattern.search(line)

@@ -1,4 +1,4 @@
-"""Logs in which an operation stands a line, as Jepsen's history.txt, its jepsen.log, and the logs of etcd that Porcupine is tested with.
+"""Logs with one event in each line, such as Jepsen's history.txt and jepsen.log, and the logs of etcd in Porcupine's tests.
 
     0       :invoke :write  [7 1]                                                                   (with tabs)
     INFO  jepsen.util - 2   :invoke :write  2
@@ -23,7 +23,7 @@ LINE = re.compile(
 
 
 class Log:
-    """A log, whose lines are written as Jepsen has them in EDN. A line that tells of no operation is a blank one there."""
+    """A log, whose lines are written in Jepsen's form in EDN. A line without an event becomes a blank line."""
 
     def __init__(self, source: Source) -> None:
         self._source = source

@@ -1,4 +1,4 @@
-"""Keys and values that look alike and differ: which they are, and the guess that each is another one."""
+"""Keys and values that look alike and differ, and the guess that they are different."""
 from __future__ import annotations
 
 import re
@@ -12,7 +12,7 @@ MAY_BE_ALIKE = re.compile(r'"\s*(?:[+-]?[0-9][0-9.eEMN+-]*|true|false|True|False
 
 
 def account_for_types(keys: Mapping[int, str], values: Mapping[int, str], said: Optional[str], account: Account) -> None:
-    """Records that keys or values which look alike are taken for different ones, if --values says nothing of that."""
+    """Records the guess that keys or values which look alike are different, if there is no --values."""
     for what, names in (("keys", keys), ("values", values)):
         groups = alike(names) if said is None else []
         if groups:
@@ -22,7 +22,7 @@ def account_for_types(keys: Mapping[int, str], values: Mapping[int, str], said: 
 
 
 def alike(names: Mapping[int, str]) -> List[List[str]]:
-    """Groups of values that are one number, or one text but for spaces."""
+    """Groups of values that are the same number, or the same text except for spaces."""
     meant, groups = Meant(NUMBERS), {}  # type: Meant, Dict[str, List[str]]
     spaced = any(name.startswith('" ') or name.endswith(' "') for name in names.values())
     for name in names.values():

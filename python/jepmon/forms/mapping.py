@@ -49,7 +49,7 @@ class Mapping(NamedTuple):
         """Adds a field, given as FIELD=NAME."""
         field, equals, name = words.rpartition("=")
         if not (field and equals and name):
-            raise Refused(f"--map {words}: it takes FIELD=NAME, as --map path=key")
+            raise Refused(f"--map {words}: it takes FIELD=NAME, such as --map path=key")
         return self._replace(fields={**self.fields, plain(field): slot_named(name, f"--map {words}")})
 
     def with_ignored(self, field: str) -> Mapping:
@@ -62,7 +62,7 @@ def slot_named(name: str, place: str) -> Slot:
         return slot_of(name) or Slot(name, None, 0)
     slot = slot_of(name)
     if slot is None:
-        raise Refused(f"{place}: there is no name {name!r}; names are {', '.join(MEANINGS)}, times also with their unit, as start_ms")
+        raise Refused(f"{place}: there is no name {name!r}; names are {', '.join(MEANINGS)}, times also with their unit, such as start_ms")
     return slot
 
 
@@ -138,5 +138,5 @@ def _pattern(said: Dict[str, Any]) -> Optional[Pattern[str]]:
     except re.error as fault:
         raise Refused(f'"line" is not a regular expression: {fault}') from fault
     if not pattern.groupindex:
-        raise Refused('"line" has no named groups, as (?P<client>..), and these are the fields of a row')
+        raise Refused('"line" has no named groups, such as (?P<client>..), and these are the fields of a row')
     return pattern

@@ -40,7 +40,7 @@ class Told(NamedTuple):
 
 
 class Reader:
-    """Reads rows. Whether they are events or operations the first one says."""
+    """Reads rows. The first row decides whether they are events or operations."""
 
     def __init__(self, mapping: Mapping, account: Account, has_model: bool) -> None:
         self.shapes = Shapes(mapping)
@@ -57,7 +57,7 @@ class Reader:
         self._by_duration: Optional[bool] = None  # whether returns are calls and durations
 
     def told(self, row: Row) -> Optional[Told]:
-        """The content of a row; None if it names no client, operation, key or value."""
+        """The content of a row. None if it names no client, operation, key or value."""
         line = row.line
         shape, fields = self.shapes.of(line, row.fields)
         uses = shape.uses
@@ -90,13 +90,13 @@ class Reader:
                     self._one(line, "id", uses, fields)[1] if "id" in uses else MISSING, fields)
 
     def close(self) -> List[str]:
-        """Fields that were not looked at; refused if one may say something."""
+        """Records the unused fields. Raises Refused if one of them may matter."""
         return self.shapes.close()
 
     # --- One meaning ---
 
     def _one(self, line: int, meaning: str, uses: Dict[str, List[Use]], fields: Fields) -> "Tuple[Optional[Use], Any]":
-        """The field of this meaning, and what it says. Two that say different things are refused."""
+        """The field of this meaning, and its value. Two fields with different values are refused."""
         found = uses.get(meaning)
         if found is None:
             return NOTHING
@@ -107,13 +107,13 @@ class Reader:
         for use in said[1:]:
             other = fields[use.name]
             if (other != first or type(other) is not type(first)) and meaning != "id":
-                both = f", or that both are, as --map {shown(said[0].name)}=key --map {shown(use.name)}=key" if meaning == "key" else ""
+                both = f", or that both are, for example by --map {shown(said[0].name)}=key --map {shown(use.name)}=key" if meaning == "key" else ""
                 raise Refused(f"line {line}: {shown(said[0].name)} is {short(first)} and {shown(use.name)} is {short(other)}, and each may be the "
-                              f"{meaning}: say --ignore {shown(use.name)}, or what it is, as --map {shown(use.name)}=NAME{both}")
+                              f"{meaning}: say --ignore {shown(use.name)}, or what it is, for example by --map {shown(use.name)}=NAME{both}")
         return said[0], first
 
     def _key(self, line: int, parts: List[str], fields: Fields) -> Any:
-        """The key that the user names: several fields are it together."""
+        """The key by the fields that the user names. Several fields are the key together."""
         if self._key_parts is None:
             self._key_parts = parts
         if len(parts) != len(self._key_parts):
@@ -146,7 +146,7 @@ class Reader:
         return kind
 
     def _kind_and_name(self, line: int, word: "Tuple[Optional[Use], Any]", said: Any) -> Tuple[Optional[str], Optional[str], Optional[Said]]:
-        """The type of an event, the operation, and the outcome of an operation whose type says it."""
+        """The type of an event, its operation, and the outcome of an operation if the type has it."""
         kind, use = self.kind(word[1]), word[0]
         if said is MISSING or said is None:
             both = both_of(word[1]) if isinstance(word[1], str) and plain(word[1]) not in self._mapping.outcomes else None
@@ -166,11 +166,12 @@ class Reader:
         if not self.of_operations:
             return kind, operation, None
         if kind == "invoke":
-            raise Refused(f"line {line}: {shown(use.name)} is {short(word[1])}, as of an event, and the rows before it are operations with times")
+            raise Refused(f"line {line}: {shown(use.name)} is {short(word[1])}, as in a row of an event, and the rows before it are operations with times")
         return None, operation, (use.name, word[1], kind)
 
     def operation(self, line: int, said: Any) -> str:
-        """The operation that a word names. A word that no object has keeps its name, and is refused by it later."""
+        """The operation that a word names. A word that is not an operation of an object stays as it is, and is refused later under this
+        name."""
         found = self._words.get(said) if isinstance(said, (str, int)) else None
         if found is not None:
             return found
@@ -229,7 +230,7 @@ class Reader:
                       f"{shown(name)}=return; {_listed(names)}")
 
     def refuse_bare(self) -> None:
-        """Refuses rows that all tell of no operation."""
+        """Refuses a history in which no row has an operation."""
         held = _held(self._bare.fields) if self._bare is not None else ""
         raise Refused(f"no row names a client, an operation, a key or a value; {held}{_listed(self.shapes.names())}")
 
@@ -240,15 +241,15 @@ class Reader:
 
 
 def _held(fields: Fields) -> str:
-    """Names a field whose texts are rows, as a log of a container has what was printed."""
+    """Names a field whose texts are rows themselves, as in the log of a container."""
     name = next((name for name, field in fields.items() if type(field) is str and ROW.match(field)), None)
-    return "" if name is None else f"the texts of {shown(name)} look like rows: take them out first, as jq -r .{shown(name)} FILE does; "
+    return "" if name is None else f"the texts of {shown(name)} look like rows: take them out first, for example by jq -r .{shown(name)} FILE does; "
 
 
 def _listed(names: List[str]) -> str:
     """The fields that were seen, and those that are known."""
     seen = "its columns have no names" if "1" in names else f"its fields are {', '.join(map(shown, names))}"
-    return f"{seen}. Say what they are, as --map {shown(names[0]) if names else 'FIELD'}=key, or in a --mapping FILE. {allowed()}"
+    return f"{seen}. Say what they are, for example by --map {shown(names[0]) if names else 'FIELD'}=key, or in a --mapping FILE. {allowed()}"
 
 
 NOTHING: "Tuple[Optional[Use], Any]" = (None, MISSING)

@@ -1,5 +1,5 @@
-"""The known order of events in which some clients come behind all others, as in files put one behind the other. With times it is only that
-of clocks, and without them there is none. All times are of one clock."""
+"""The order of events if some clients come behind all others, as in concatenated files. With times the order is only that of the clocks,
+and without times there is no order. All times must be from one clock."""
 from __future__ import annotations
 
 import array
@@ -20,8 +20,8 @@ LEAST = 4  # events of each of two clients, of which the order is not known
 
 
 class Blocks:
-    """Follows which clients have all of their events behind those of all others. The events of a block stand together: none of their clients
-    has any before or behind them."""
+    """Finds the blocks of clients: clients that have all their events behind those of all other clients. The events of a block are
+    together, and its clients have no other events before or behind the block."""
 
     def __init__(self, is_ordered: bool = False) -> None:
         self._is_ordered = is_ordered  # whether the lines are known to be the order
@@ -48,7 +48,7 @@ class Blocks:
             self._latest = time
 
     def take_run(self, clients: Sequence[Any], line: int, times: Sequence[Time]) -> None:
-        """Takes events that stand a line each, from this line on; all have times, or none."""
+        """Takes events with one event in each line, from this line on. Either all have times, or none has."""
         known = set(clients)
         if known <= self._first.keys():
             self._join(min(self._first[client] for client in known))
@@ -60,7 +60,7 @@ class Blocks:
             self.take(client, line + place, times[place] if times else None)
 
     def close(self, account: Account) -> None:
-        """Records the guess about the order. It refuses a file without any order, except for a few events."""
+        """Records the guess about the order. Refuses a file without any order, unless it has only a few events."""
         if self._is_ordered or len(self._starts) < 2:
             return
         if self._timed == self._count:
@@ -69,8 +69,8 @@ class Blocks:
         is_each = len(self._starts) == len(self._first)
         how = (TOGETHER if is_each else BEHIND).format("not all have times" if self._timed else "have no times")
         if is_each and sum(size >= LEAST for size in self._sizes()) > 1:
-            raise Refused(f"line {self._lines[1]}: {how}: which came first? say --order lines if they stand in their order")
-        account.guess(ORDER, f"{how}: they are taken in the order in which they stand", "--order lines")
+            raise Refused(f"line {self._lines[1]}: {how}: which came first? say --order lines if the order of the lines is the order of the events")
+        account.guess(ORDER, f"{how}: they are taken in the order of their lines", "--order lines")
 
     def _join(self, first: int) -> None:
         """Joins the blocks from that with this place on."""

@@ -1,4 +1,4 @@
-"""Histories of what jepmon does not judge, by the names of their operations: what it is, and what checks it."""
+"""Histories that jepmon does not judge, by the names of their operations: their kind, and a tool that checks it."""
 from __future__ import annotations
 
 from typing import Dict, Iterable, Optional, Tuple
@@ -25,11 +25,11 @@ OTHERS: Dict[str, Tuple[str, str]] = {
 SEVERAL_REGISTERS = "this read is of several registers at once, which jepmon does not judge; Knossos's multi-register does"
 GROW_ONLY = ("this is a grow-only set, which is read at the end and need not be linearizable; Maelstrom's own checker judges it "
              "(with --model set it is judged here all the same)")
-RESULTS = "these are the results of a test, and no history"
+RESULTS = "these are the results of a test, not a history"
 
 
 def named(text: str, as_set: bool) -> Optional[str]:
-    """The reason for which a text of EDN is none of a history that is judged, if that is seen in its first events."""
+    """The reason why jepmon cannot judge a text of EDN, if the first events show it."""
     try:
         return _named(edn.Reader(text).history(), as_set)
     except edn.Unreadable:  # which is told where the whole of it is read
@@ -62,7 +62,7 @@ def reason(line: int, name: str) -> str:
 
 
 def _is_several(value: Optional[edn.Value]) -> bool:
-    """Whether a read asks for several registers: a map of them, or a vector of pairs."""
+    """Whether a read asks for several registers: by a map of them, or by a vector of pairs."""
     if not isinstance(value, edn.Many) or not value.members:
         return False
     if value.opened == "{":

@@ -1,5 +1,5 @@
-"""How an operation ended, by the fields of its row: words, flags, errors, and the statuses of HTTP. A field that is not understood, and two
-that contradict each other, are refused."""
+"""The outcome of an operation, by the fields of its row: words, flags, errors, and statuses of HTTP. The reader refuses a field that it
+does not understand, and two fields that contradict each other."""
 from __future__ import annotations
 
 from typing import Any, Callable, Iterator, List, Mapping as Map, Optional, Tuple
@@ -16,7 +16,7 @@ Said = Tuple[str, Any, str]  # the name of a field, what it says, and the outcom
 
 
 def truth(line: int, name: str, field: Any) -> Optional[bool]:
-    """The value of a flag, in whatever way a language prints it. None if it says nothing."""
+    """The value of a flag, in the spelling of any language. None if there is no value."""
     if field is None or field is True or field is False:
         return field
     word = str(field).strip().lower() if isinstance(field, (str, int, float)) else None
@@ -48,7 +48,7 @@ class Outcomes:
         self._words, self._account = words, account
 
     def of(self, line: int, name: Optional[str], shape: Shape, fields: Fields, of_type: Optional[Said]) -> Optional[str]:
-        """How an operation of this name ended; None if no field says. An error leaves open whether it took place."""
+        """The outcome of an operation of this name. None if no field has it. After an error the operation may have taken place."""
         uses = shape.uses
         if of_type is None and not ("outcome" in uses or "ok" in uses or "error" in uses or "unknown" in uses or "failed" in uses):
             return None
@@ -103,7 +103,8 @@ class Outcomes:
 
 
 def _is_doubted(doubts: List[Said], error: Any) -> bool:
-    """Whether a flag says that it is not known, beside a word that says that the operation failed. An error then tells why it did."""
+    """Whether a flag says that the outcome is unknown, while a word says that the operation failed. An error then is the reason of the
+    failure."""
     return len(doubts) > (error is not None)
 
 

@@ -51,7 +51,7 @@ class KeyFacts:
 
 
 def possible(facts: KeyFacts) -> List[str]:
-    """The models that one key may have: those with all its operations and answers, the stricter ones first."""
+    """The models that a key may have: those with all its operations and answers, the stricter ones first."""
     models = [model for model, operations in kinds.MODELS.items() if facts.names <= operations]
     if facts.names == {"read"}:
         if facts.reads_of_sets:
@@ -147,7 +147,7 @@ class _Scan:
 
 
 def facts_of(events: List[str], numbers: List[int]) -> Optional[Facts]:
-    """The events in these lines, if each is an event that the program takes after those before it."""
+    """The events in these lines, if the program accepts each of them after those before it."""
     facts, opened = Facts(), {}  # type: Facts, Opened
     keys, infos, count = facts.keys, facts.infos, facts.outcomes
     had_value: Dict[str, bool] = {}  # whether the key of each process's operation had a value as that began
@@ -205,7 +205,7 @@ def _is_index(further: str, index: int) -> bool:
 
 
 def _may_come(opened: Opened, kind: str, process: str, name: str, key: str, part: str) -> bool:
-    """Whether this event of a client may come after those that opened these operations. A completion repeats its invocation, except for an
+    """Whether this event of a client may come while these operations are open. A completion repeats its invocation, except for an
     answer."""
     wanted = TOLD.get(name)
     begins = part[0] if part[0] in (NIL, PAIR, SET) else NUMBER
@@ -225,7 +225,7 @@ def _may_come(opened: Opened, kind: str, process: str, name: str, key: str, part
 
 
 def _is_value(begins: str, part: str) -> bool:
-    """Whether the integers in a part have 64 bits, and are of a set each another one."""
+    """Whether the integers in a part have 64 bits, and those of a set are different."""
     if begins == SET:
         members = part[2:-1].split()
         return len({int(member) for member in members}) == len(members) and all(len(member) < 19 for member in members)
@@ -235,7 +235,8 @@ def _is_value(begins: str, part: str) -> bool:
 
 
 def concurrency_of(facts: Facts) -> Optional[int]:
-    """The fewest threads that the processes fit: at first each thread's own number, and p + threads after an :info of p."""
+    """The least number of threads that fits the processes. At first the process of a thread is its own number, and after an :info of p it
+    is p + threads."""
     for threads in range(1, kinds.THREADS + 1):
         if _fits(facts, threads):
             return threads

@@ -13,7 +13,8 @@ TIME = re.compile(r", :time (?:([0-9]{1,19})(?![0-9]))?")
 
 
 def is_in_order(front: str, texts: Iterable[str]) -> bool:
-    """Whether no :time goes back, and each is an integer. It is asked if the first events have a time and no :index, which would be the order."""
+    """Whether no :time goes back, and each is an integer. This matters if the first events have a time and no :index, since an :index would
+    be the order."""
     if ":time" not in front or ":index" in front:
         return True
     latest = 0
@@ -29,7 +30,7 @@ def is_in_order(front: str, texts: Iterable[str]) -> bool:
 
 
 def is_own(front: str) -> bool:
-    """Whether the first event of a text is one in jepmon's own form; if there is none, it is."""
+    """Whether the first event of a text is in jepmon's own form. Also true if there is no event."""
     from ..shards.doubt import Doubt  # here, since it takes time to load
     from ..shards.lines import HEAD, rows_of
 

@@ -1,7 +1,8 @@
-"""Rows that are events and do not stand in the order of their times, such as the files of several clients, one behind the other.
+"""Rows that are events but are not in the order of their times, such as the files of several clients, one behind another.
 
-The events of each client stand in their order. They are paired by client into operations with a call and a return, which go by their times,
-as any other operations (intervals.py). If one returns at the time at which another is called, they count as open at once.
+The events of each client are in their order. They are paired by client into operations with a call and a return. Like any other operations
+(intervals.py), these are ordered by their times. If one operation returns at the time at which another one is called, they count as open at
+once.
 """
 from __future__ import annotations
 
@@ -29,7 +30,7 @@ class Pairs:
         self.faults: List[intervals.Fault] = []
 
     def of(self, events: Iterable[Told]) -> Iterator[intervals.Interval]:
-        """The operations of these events. Those of one client stand in the order of their times, unless they are to be sorted."""
+        """The operations of these events. The events of one client are in the order of their times, unless they are to be sorted."""
         for told in sorted(map(self._timed, events), key=_time) if self._are_sorted else map(self._timed, events):
             if is_nemesis(told):
                 self._take_fault(told)
@@ -58,7 +59,7 @@ class Pairs:
 
     def _take_fault(self, told: Told) -> None:
         if told.time is None:
-            self._writer.counts["faults without a time, which are left out, as events are ordered by their times"] += 1
+            self._writer.counts["faults without a time, which are left out, because events are ordered by their times"] += 1
         else:
             self.faults.append(intervals.Fault(told.time, told.line, word(told.line, told.name or "fault"), told.value))
 

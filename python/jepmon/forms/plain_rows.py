@@ -1,5 +1,5 @@
 """Rows that are plainly events: each meaning has one field, with a value of a usual type. One plan reads all rows with the same names.
-Plans are for speed: meaning.py reads each other row, and would read these with the same result."""
+Plans are for speed: meaning.py reads all other rows, and would read these rows with the same result."""
 from __future__ import annotations
 
 import operator
@@ -39,7 +39,7 @@ class Plans:
         self._reader = reader
 
     def learn(self, row: Row) -> None:
-        """Learns how rows as this one are read. The reader has read it."""
+        """Learns how to read rows like this one, which the reader has read."""
         names = tuple(row.fields)
         plan = self.by_names.get(names)
         if plan is None:
@@ -62,7 +62,7 @@ class Plans:
                     time * plan.factor if plan.has_time else None, None, MISSING, row.fields)
 
     def _plan(self, shape: Shape) -> Tuple[Optional[Plan], bool]:
-        """The plan for rows of a shape, if there is one; whether there may be one later, when the unit of times is known."""
+        """The plan for rows of a shape, if there is one, and whether there may be one later, when the unit of times is known."""
         uses = shape.uses
         if shape.key_parts and shape.key_parts != [used.name for used in uses.get("key", ())][:1]:
             return None, False
@@ -85,12 +85,12 @@ class Plans:
 
 
 def plain_key(key: Any) -> Optional[str]:
-    """The key as an atom of EDN; None if it is neither a text nor an integer."""
+    """The key as an atom of EDN. None if it is neither a text nor an integer."""
     return TEXT(key) if type(key) is str else str(key) if type(key) is int else None
 
 
 def plain_part(name: str, value: Any) -> Flat:
-    """The part for a value: of an integer, a text, the two integers of a cas. None if it is none of these."""
+    """The part for a value that is an integer, a text, or the two integers of a cas. None for any other value."""
     if value is None:
         return "nil"
     if type(value) is int:

@@ -1,4 +1,4 @@
-"""A recorded history of whatever form, made into jepmon's own."""
+"""A recorded history of any form, converted into jepmon's own form."""
 from __future__ import annotations
 
 from typing import Mapping, NamedTuple, Optional, Sequence
@@ -49,7 +49,7 @@ def recorded(source: Source, options: Options) -> Recorded:
 
 
 def of_own(source: Source) -> Optional[Recorded]:
-    """A history in jepmon's own form; None if it is none that the program takes."""
+    """A history in jepmon's own form. None if the program would not accept it."""
     found = own.read(source.text)
     if found is None or not found.facts.events or own.concurrency_of(found.facts) is None:
         return None

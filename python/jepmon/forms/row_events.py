@@ -1,4 +1,4 @@
-"""Rows that are events, in the order in which they stand: an invocation, and later its completion, of a client."""
+"""Rows that are events, in the order of the file: an invocation of a client, and later its completion."""
 from __future__ import annotations
 
 from typing import Any, Dict, Iterator, List, Optional, Tuple, Union
@@ -72,7 +72,8 @@ class Events:
             self._plans.learn(row)
 
     def take_run(self, rows: Iterator[Row]) -> Optional[Row]:
-        """Takes rows that are plainly events by their plans, with what take() would do. Gives the first row that is none."""
+        """Takes rows that are plainly events by their plans, with the effect of take(). Returns the first row that is not plainly an
+        event."""
         plans, words, opened, clients = self._plans.by_names, self._plans.words, self._opened, self._clients
         collector, reader, are_numbers = self._writer.collector, self._reader, self._are_numbers
         history = collector.history
@@ -171,7 +172,7 @@ class Events:
         self._unfinished.close()
         if self._order is None and self._ties:
             self._account.guess(ORDER, f"events of several clients have one time, {self._ties} times, first in line {self._first_tie}: they are taken "
-                                "in the order in which they stand, not as open at once", EITHER)
+                                "in the order of their lines, not as open at once", EITHER)
         if self._order is None and self._reader.last_index < 0:
             self._blocks.close(self._account)
         return [f"client {number} is {element(name)}" for name, number in self._clients.items()]
@@ -182,7 +183,7 @@ def is_nemesis(told: Told) -> bool:
 
 
 def kind_of(told: Told, reader: Reader) -> str:
-    """The type of an event. An ok whose own fields deny it is not an ok."""
+    """The type of an event. An ok is not an ok if its own fields contradict it."""
     kind = told.kind or told.outcome
     if kind is None:
         reader.refuse_no_kind(told)
@@ -190,7 +191,7 @@ def kind_of(told: Told, reader: Reader) -> str:
 
 
 def parts(told: Told, kind: str, invoked: Optional[Told]) -> Tuple[str, Any, Any]:
-    """The operation, the key and the part. A completion without them has those of its invocation."""
+    """The operation, the key and the part of an event. A completion without them has those of its invocation."""
     name, key, value = told.name, told.key, told.value
     if kind != "invoke" and invoked is not None:
         name = name or invoked.name
@@ -202,7 +203,7 @@ def parts(told: Told, kind: str, invoked: Optional[Told]) -> Tuple[str, Any, Any
     elif name in ANSWERED and value == "":  # Go prints an empty text where there is none
         value = MISSING
     if name is None:
-        raise Refused(f"line {told.line}: this event has no operation, as read or write; say --map FIELD=op for the field that names it")
+        raise Refused(f"line {told.line}: this event has no operation, such as read or write; say --map FIELD=op for the field that names it")
     return name, key, value
 
 

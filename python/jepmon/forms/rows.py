@@ -113,7 +113,7 @@ class _Pieces:
                 return
 
     def comments(self) -> int:
-        """How many lines are comments since this was asked last."""
+        """The number of comment lines since the last call."""
         count, self._comments = self._comments, 0
         return count
 
@@ -150,7 +150,7 @@ def _decoded(text: _Pieces) -> "Tuple[Any, int]":
             if is_cut:
                 raise Refused(f"line {line}: the text ends within the object that begins here: was the file cut off?") from fault
             line += text.text.count("\n", begin, fault.pos)
-            raise Refused(f"line {line}: this is no JSON: {fault.msg}: {text.text[fault.pos:fault.pos + 40]!r}") from fault
+            raise Refused(f"line {line}: this is not JSON: {fault.msg}: {text.text[fault.pos:fault.pos + 40]!r}") from fault
         except Twice as fault:
             raise Refused(f"line {text.line()}: {fault}") from fault
         except RecursionError as fault:
@@ -170,7 +170,7 @@ def _is_plain(value: Any) -> bool:
 
 
 def _rows(value: Any, line: int, place: Tuple[str, int, int], mapping: Mapping, account: Account) -> Iterator[Row]:
-    """The rows of a value at the top: one, or those of the lists in it that have the history."""
+    """The rows of a value at the top: the value itself, or the rows of those lists in it that have the history."""
     if not isinstance(value, dict):
         raise Refused(f"line {line}: this is not an object, so not an event: {spelled(value)[:60]}")
     if mapping.rows is None and _is_history(value.get(traces.EVENTS)):
@@ -241,12 +241,12 @@ def of_csv(texts: Iterable[str], mapping: Mapping, account: Account) -> Iterator
             account.took(line, reader.line_num)
             yield Row(line, {column: cell_value(line, cell, mapping) for column, cell in zip(columns, cells)})
     except csv.Error as fault:
-        raise Refused(f"line {reader.line_num}: this is no CSV: {fault}") from fault
+        raise Refused(f"line {reader.line_num}: this is not CSV: {fault}") from fault
 
 
 class Lines:
-    """The lines of a text that comes in pieces of whole lines, each with its end. Refuses a last line without a line feed, which may be cut
-    off, except for one that ends like a complete row."""
+    """The lines of a text that comes in pieces of whole lines, each with its line feed. Refuses a last line without a line feed, since it
+    may be cut off, unless it ends like a complete row."""
 
     def __init__(self, texts: Iterable[str], but_for: str = "\r") -> None:
         self._texts, self._but_for = iter(texts), but_for

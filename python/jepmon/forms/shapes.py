@@ -1,7 +1,7 @@
-"""The shape of a row: which of its fields means what. Rows with the same names have one shape, which is found once.
+"""The shape of a row: the meaning of each of its fields. Rows with the same names have one shape, which is found only once.
 
-A row may have objects that hold its fields, as Porcupine's Input or the attributes of a span. Their members get names with dots, as
-Input.Key, and mean what their last part says.
+A row may have objects that hold its fields, such as Porcupine's Input or the attributes of a span. Their members get names with dots, such
+as Input.Key. The last part of the name gives the meaning.
 """
 from __future__ import annotations
 
@@ -145,7 +145,7 @@ class Shapes:
         return slot.meaning == "answer" and self._is_open_answer(line, name, field)
 
     def _is_open_answer(self, line: int, name: str, field: Fields) -> bool:
-        """Whether the members of an answer say what it is and how the operation ended. An answer without such members is a value."""
+        """Whether the members of an answer give the value and the outcome of the operation. An answer without such members is a value."""
         slots = {member: slot_of(member) for member in field}
         others = [member for member, slot in slots.items() if (slot is None or slot.meaning not in ANSWERED) and not is_harmless(member)]
         if len(others) == len(field) > 0:
@@ -162,7 +162,7 @@ class Shapes:
         return list(dict.fromkeys(name for names in self._shapes for name in names))
 
     def close(self) -> List[str]:
-        """The fields that were not looked at. Refused if one may say something of the history."""
+        """Records the unused fields. Raises Refused if one of them may matter for the history."""
         total = sum(shape.count for shape in self._shapes.values())
         passed = dict.fromkeys(name for shape in self._shapes.values() for name in shape.passed if not shape.is_bare)
         counts = {name: sum(shape.count for shape in self._shapes.values() if name in shape.names) for name in [*self._said, *passed]}
@@ -172,12 +172,12 @@ class Shapes:
             listed = "; ".join(f"{shown(name)}: {', '.join(map(short, self._said[name]))} (line {self._first[name]})" for name in doubtful[:SHOWN])
             more = f"; and {len(doubtful) - SHOWN} more" if len(doubtful) > SHOWN else ""
             first = shown(doubtful[0])
-            raise Refused(f"fields that are not known, and may say something of the history: {listed}{more}. Say what each one is, as --map "
-                          f"{first}=key, or that it is nothing, as --ignore {first}. {self._guessed(doubtful)}{allowed()}")
+            raise Refused(f"fields that are not known, and may say something of the history: {listed}{more}. Say what each one is, for example by --map "
+                          f"{first}=key, or that it is nothing, by --ignore {first}. {self._guessed(doubtful)}{allowed()}")
         return [f"{shown(name)} ({counts[name]})" for name in counts]
 
     def _guessed(self, doubtful: List[str]) -> str:
-        """Guesses what the first of these fields is that may tell runs or objects apart."""
+        """Guesses whether the first of these fields distinguishes runs or objects."""
         key = next((shown(shape.uses["key"][0].name) for shape in self._shapes.values() if "key" in shape.uses), None)
         for name in doubtful:
             if _last(name) in RUNS:

@@ -22,7 +22,7 @@ def members(line: int, value: Any, path: str) -> Iterator[Any]:
 
 
 def row(span: Dict[str, Any]) -> Dict[str, Any]:
-    """The object, with lists of keys and values as objects, as attributes and tags are; a span of OTLP with its status as a word."""
+    """The object, in which lists of keys and values (such as attributes and tags) are objects. A span of OTLP has its status as a word."""
     made = {name: _members(field) if type(field) is list and field else field for name, field in span.items()}
     status = span.get("status")
     if isinstance(status, dict) and "startTimeUnixNano" in span:
@@ -33,7 +33,7 @@ def row(span: Dict[str, Any]) -> Dict[str, Any]:
 
 
 def _members(field: List[Any]) -> Any:
-    """A list of keys and values as an object; any other one as it is."""
+    """A list of keys and values as an object. Any other list stays as it is."""
     if all(isinstance(one, dict) and isinstance(one.get("key"), str) and "value" in one for one in field):
         return {one["key"]: _value(one["value"]) for one in field}
     return field

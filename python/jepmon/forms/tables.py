@@ -1,5 +1,5 @@
-"""Tables that psql, mysql, sqlite3 and DuckDB print for people: a heading between or above rulers, cells between bars, and then how many rows
-there are. Bars and rulers may be drawn as boxes, and then types may stand under the names of the columns."""
+"""Tables that psql, mysql, sqlite3 and DuckDB print for people: a heading between or above rulers, cells between bars, and then the number
+of rows. Bars and rulers may be drawn as boxes, with the types of the columns below their names."""
 from __future__ import annotations
 
 import re

@@ -1,9 +1,9 @@
-"""Operations in whatever order they were written down, as events in the order of their times.
+"""Operations, recorded in any order, as events in the order of their times.
 
-If one operation returns at the very time at which another one is called, both count as open at once: the invocation comes before the
-completion. So no order is made up, and a history that is legal stays so, whatever was shorter than the clock shows. An operation of
-one client that is invoked while an earlier one of it is open gets a process of its own: which client did an operation says nothing to
-linearizability. An operation that never returned stays open, or ends as an :info when its client goes on.
+If one operation returns at the time at which another one is called, both count as open at once: the invocation comes before the completion.
+So the tool does not invent an order, and a coarse clock does not make a legal history illegal. If a client invokes an operation while an
+earlier one of it is open, the new operation gets a process of its own: linearizability does not depend on the client. An operation that
+never returned stays open, or ends as an :info when its client continues.
 """
 from __future__ import annotations
 
@@ -48,17 +48,17 @@ class Timeline:
             self._ends.put((ends, number, outcome, ended))
 
     def are_apart(self) -> bool:
-        """Whether by their times some clients had long ended when others began, as by clocks that differ."""
+        """Whether, by their times, some clients had long ended when others began, as if their clocks differed."""
         return are_apart(((first, last) for first, last in self._spans.values()), self._count)
 
     def begun(self) -> Iterator[Tuple[Time, Any]]:
-        """When each operation was called, and what is given of that, in the order of the calls."""
+        """The time of each call, and the data of the invocation, in the order of the calls."""
         for call, _, _, _, given in self._begins:
             yield call, given
 
     def moments(self, earlier: Time = 0, later: Time = 0) -> Iterator[Moment]:
-        """The events in the order of the times, if each call was earlier by so much, and each return later. After the :info of a process
-        its thread goes on as another one, by jepmon's rule."""
+        """The events in the order of their times. Each call is earlier and each return later by this amount. After the :info of a process
+        its thread continues as another process, by jepmon's rule."""
         stay_open, seats = True, _Seats(len(self._homes))
         collections.deque(self._on_seats(seats, stay_open, earlier + later), 0)
         if seats.most > THREADS:
@@ -72,8 +72,8 @@ class Timeline:
                 current[seat] += threads
 
     def _on_seats(self, seats: _Seats, stay_open: bool, apart: Time) -> Iterator[Tuple[int, str, Any]]:
-        """The events, each with the seat of its operation; what never returned stays open until its client goes on, or ends at once.
-        A call comes after the returns that were earlier by more than this."""
+        """The events, each with the seat of its operation. An operation that never returned stays open until its client continues, or ends
+        at once. A call comes after the returns that were earlier by more than this amount."""
         waiting: Dict[int, List[Tuple[int, str]]] = {}
         ends = iter(self._ends)
         end = next(ends, None)
@@ -94,7 +94,7 @@ class Timeline:
 
 
 def are_apart(spans: Iterable[Tuple[Time, Time]], operations: int) -> bool:
-    """Whether clients that worked within these times had long ended when others began. They did this number of `operations`."""
+    """Whether some clients, which worked within these times and did this number of `operations`, had long ended when others began."""
     groups: List[List[Time]] = []
     for first, last in sorted(spans):
         if groups and first <= groups[-1][1]:
@@ -107,7 +107,7 @@ def are_apart(spans: Iterable[Tuple[Time, Time]], operations: int) -> bool:
 
 
 class _Seats:
-    """Which seat each open operation has: that of its client, if this is free."""
+    """The seat of each open operation: that of its client, if it is free."""
 
     def __init__(self, homes: int) -> None:
         self.count = homes

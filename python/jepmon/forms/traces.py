@@ -14,7 +14,7 @@ OWN = {"op": "name", "start_us": "ts", "duration_us": "dur"}
 
 
 def rows(line: int, events: List[Dict[str, Any]], account: Account) -> List[Dict[str, Any]]:
-    """The operations of the events; what else they tell of, as names and counters, is counted."""
+    """The operations of the events. Other events, such as names and counters, are only counted."""
     others: Counter[str] = collections.Counter()
     made = []
     for event in events:
@@ -31,7 +31,7 @@ def rows(line: int, events: List[Dict[str, Any]], account: Account) -> List[Dict
 
 
 def _row(line: int, event: Dict[str, Any]) -> Dict[str, Any]:
-    """The fields of an operation: those of its args, and its own. Its client is its thread, of its process."""
+    """The fields of an operation: those of its args, and its own fields. Its client is its thread within its process."""
     own = {name: event[field] for name, field in OWN.items() if field in event}
     args = event.get("args", {})
     if not isinstance(args, dict):

@@ -1,6 +1,7 @@
 """Operations that are open when their client invokes its next one: they never returned, and may take place at any later time.
 
-The reader guesses that a client does one operation after the other. If a completion does not fit the last invocation, several were open.
+The reader guesses that a client does one operation after another. If a completion does not fit the client's last invocation, several
+operations were open.
 """
 from __future__ import annotations
 
@@ -40,7 +41,7 @@ class Unfinished:
                               f"{begun.line}: are several operations of a client open at once? Let rows be operations with a call and a return")
 
     def close(self) -> None:
-        """Tells the account of the guess."""
+        """Records the guess in the account."""
         if self._count and not self._is_stated:
             self._account.guess(CLIENT, f"operations that are open when their client invokes another one never returned: {self._count}, first in "
                                 f"line {self._first}", "--unfinished info")

@@ -46,7 +46,7 @@ HARMLESS = frozenset((
     "node", "host", "hostname", "server", "address", "addr", "port", "level", "severity", "logger", "caller", "source", "file", "linenumber",
     "traceid", "spanid", "parentspanid", "parentid", "requestid", "tracestate", "flags", "attempt", "attempts", "retries", "retry", "seq",
     "sequence", "comment", "note", "service", "servicename", "version", "droppedattributescount"))
-# Fields that may tell several runs apart, and that may be a part of the key: if they vary, a refusal asks which.
+# Fields that may distinguish several runs, or may be a part of the key. If they vary, a refusal asks which.
 RUNS = frozenset(("run", "runid", "test", "testid", "testname", "trial"))
 PARTS = frozenset(("db", "database", "table", "namespace", "schema", "keyspace", "bucket", "collection", "partition", "shard"))
 # Fields with an object, whose members are read as if they were fields of the row.
@@ -94,7 +94,7 @@ def plain(name: str) -> str:
 
 @functools.lru_cache(maxsize=1 << 12)
 def slot_of(name: str) -> Optional[Slot]:
-    """The meaning of a field of this name; None if its name says nothing. Seconds stand as _s behind a time."""
+    """The meaning of a field of this name. None if the name has no meaning. The unit of seconds is _s behind a time."""
     if len(name) > 2 and name[-1] == "s" and name[-2] in "_-. ":
         slot = _slots().get(plain(name[:-2]))
         return slot._replace(unit="s") if slot is not None and slot.meaning in TIMES and slot.unit is None else None
@@ -114,7 +114,7 @@ def _slots() -> Dict[str, Slot]:
 
 
 def both_of(word: str) -> Optional[Tuple[str, str]]:
-    """The operation and the type that a word says together, as acquire_ok."""
+    """The operation and the type in one word, such as acquire_ok."""
     for place in range(len(word) - 1, 0, -1):
         name, kind = plain(word[:place]), plain(word[place:])
         if word[place] in "_-. :" and name in OPERATIONS and kind in TYPES:

@@ -1,4 +1,4 @@
-"""Events of rows, handed over one by one as events of Jepsen, each with the line of the file that it comes from."""
+"""Events of rows, passed on one by one as events of Jepsen, each with its line in the file."""
 from __future__ import annotations
 
 import collections
@@ -34,7 +34,7 @@ class Writer:
 
     def event(self, line: int, kind: str, process: int, name: str, value: Pair, time: Optional[Time] = None, error: Optional[str] = None) -> None:
         if name == "cas" and kind == "invoke" and value[0] is not None and not is_pair(value[1]):
-            raise Refused(f"line {line}: the value of this cas is {shown(value[1], 60)}, and no pair of the old and the new value")
+            raise Refused(f"line {line}: the value of this cas is {shown(value[1], 60)}, not a pair of the old and the new value")
         if name in others.OTHERS:
             raise Refused(others.reason(line, name))
         self.collector.take_told(line, f":{kind}", process, f":{name}", value, beside(time, error))

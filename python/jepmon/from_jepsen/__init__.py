@@ -1,7 +1,7 @@
-"""Turns a recorded Jepsen history into one that jepmon reads.
+"""Converts a recorded Jepsen history into a history that jepmon reads.
 
-`turn` takes the text of a history, its bytes, or a file that is open for reading bytes. It gives a Turned: the lines in jepmon's form, the
-notes on them, and the command that judges them. A Refusal is raised for a history that can't be turned.
+`turn` takes the text of a history, its bytes, or a file that is open for reading bytes. It returns a Turned: the lines in jepmon's form,
+the notes on them, and the command that judges them. It raises a Refusal if the history can't be converted.
 """
 from __future__ import annotations
 

@@ -1,7 +1,7 @@
-"""The fields of an event of EDN, each of which stands there once; and those that may tell runs or objects apart.
+"""The fields of an event of EDN, each of which occurs once; and the fields that may distinguish runs or objects.
 
-An event in Jepsen's form has no place for a run or for a part of its key. Such a field is refused if it varies, unless the user says that
-it is nothing.
+An event in Jepsen's form has no place for a run or for a part of its key. If such a field varies, it is refused, unless the user ignores
+it.
 """
 from __future__ import annotations
 

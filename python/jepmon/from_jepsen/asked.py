@@ -12,7 +12,7 @@ Pair = Tuple[Optional[Value], Value]  # the key, if there is one, and the part
 
 
 class Counted:
-    """Pieces of a text, whose lines are counted as they go by."""
+    """Pieces of a text, whose lines are counted while they are read."""
 
     def __init__(self, pieces: Iterable[str]) -> None:
         self._pieces = iter(pieces)
@@ -29,7 +29,7 @@ class Counted:
 
     @property
     def lines(self) -> int:
-        """How many lines there were; the last one may lack its line feed."""
+        """The number of lines so far. The last one may lack its line feed."""
         return self._feeds + (self._last != "\n")
 
 
@@ -37,9 +37,9 @@ class Asked(NamedTuple):
     """The options about a history in addition to its text."""
 
     key: Optional[str] = None  # of a history without keys: each value v becomes [key v]
-    nil_is_absent: bool = False  # nil is what a missing key answers, and no read that says nothing
-    order: Optional[str] = None  # by which events are taken: "lines", "index" or "times"; None: as they stand, or by what they say
-    outcomes: Mapping[str, str] = {}  # the type of what is an :ok and says that it is none, by "false" and "error"
+    nil_is_absent: bool = False  # a missing key answers nil, so nil is an answer that says something
+    order: Optional[str] = None  # of events: "lines", "index" or "times"; None: that of the lines, or by the fields
+    outcomes: Mapping[str, str] = {}  # the type of an :ok that contradicts itself, by "false" and "error"
     skew: Optional[int] = None  # nanoseconds by which each clock may be wrong, if that is said
     clients: Optional[Callable[[str, int], str]] = None  # of several files: the name of a client by the line of its event
     parts: Sequence[Tuple[int, Texts]] = ()  # the same files, each with how many lines come before its own

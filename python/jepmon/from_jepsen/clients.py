@@ -1,6 +1,6 @@
-"""Which processes of a Jepsen history are clients: numbers, and names by which something was invoked.
+"""Which processes of a Jepsen history are clients: processes that are numbers, and processes with names that invoke something.
 
-Jepsen's own processes are numbers from 0 on, and its nemesis is :nemesis. A test that calls its clients :c1 or "n1-4" is judged too.
+Jepsen's own processes are numbers from 0 on, and its nemesis is :nemesis. A test may also name its clients :c1 or "n1-4".
 """
 from __future__ import annotations
 
@@ -23,7 +23,7 @@ class Clients:
         self._has_begun = False
 
     def number_of(self, process: Optional[Value], invokes: bool) -> Optional[int]:
-        """The number of the process that an event states; None if it is not a client."""
+        """The number of the process of an event. None if the process is not a client."""
         number = integer(process)
         if number is not None and not self.are_named:
             self._has_begun = True

@@ -1,4 +1,4 @@
-"""Goes through the elements of a Jepsen history, and keeps the events of clients, each with its key and its part."""
+"""Reads the elements of a Jepsen history, and keeps the events of clients, each with its key and its part."""
 from __future__ import annotations
 
 import itertools
@@ -30,7 +30,7 @@ OK_WITH_ERROR = re.compile(r"^(?=[^\n]*:type :ok\b)[^\n]*:error (?!nil\b|false\b
 
 
 class Collector:
-    """Goes through the elements of a history, and keeps what jepmon takes in jepmon's form."""
+    """Reads the elements of a history, and keeps the events that jepmon accepts, in jepmon's form."""
 
     def __init__(self, asked: Asked, account: Account) -> None:
         self.lone_key = None if asked.key is None else canonical(asked.key)
@@ -96,7 +96,8 @@ class Collector:
         self.account.close(lines)
 
     def take_run(self, run: edn.Element, plain: Plain, count: int) -> int:
-        """Takes events by what plain.py finds in them, if there is nothing else to be said of them; gives how many there were by then."""
+        """Takes events with the fields that plain.py finds in them, if nothing else has to be reported on them. Returns the number of
+        events before them."""
         if self.is_odd(run, plain):
             for count, element in enumerate(run.each(), count):
                 self.take(element, count)
@@ -114,7 +115,7 @@ class Collector:
         return count + len(run.rows)
 
     def takes(self, row: Row) -> bool:
-        """Takes an event, if there is no more to be said of it. Whether it did."""
+        """Takes an event, if nothing else has to be reported on it. Returns whether it did."""
         kind, process, name, key, part, _, _, _ = row
         invoked = self.open.get(process)
         if kind == ":invoke":
@@ -137,7 +138,7 @@ class Collector:
         return True
 
     def is_odd(self, run: edn.Element, plain: Plain) -> bool:
-        """Whether a run has more to report than the tool prints: on the order of its events, or on how they ended."""
+        """Whether something has to be reported on a run: on the order of its events, or on their outcomes."""
         if self.clients.are_named or ":error" in run.text and OK_WITH_ERROR.search(run.text):
             return True
         if self.order is not None:
@@ -213,13 +214,13 @@ class Collector:
             self.leave_out(element, fields)
 
     def named(self, process: Optional[Value], line: int) -> Optional[Value]:
-        """The client that an event states, of several files by its file too."""
+        """The client of an event. With several files its name also depends on the file."""
         if self.names is None or not isinstance(process, str) or not (is_name(process) or integer(process) is not None):
             return process
         return '"' + self.names(process, line).replace('"', "'") + '"'
 
     def leave_out(self, element: edn.Element, fields: Dict[str, Value]) -> None:
-        """Leaves out the event of a process other than a client, as :nemesis."""
+        """Leaves out the event of a process that is not a client, such as :nemesis."""
         process = fields.get(":process")
         if not isinstance(process, str) or not (is_name(process) or process in NEMESIS or process == "nil"):
             wanted = "its :process is neither a number of 64 bits from 0 on nor a name"
@@ -235,7 +236,7 @@ class Collector:
     def take_event(self, line: int, process: int, fields: Dict[str, Value], index: int) -> None:
         kind, name, value = fields.get(":type"), fields.get(":f"), fields.get(":value", "nil")
         if not isinstance(kind, str) or kind not in TYPES:
-            refuse(line, f"its :type is {shown(kind or 'nil')}, and none of {', '.join(sorted(TYPES))}")
+            refuse(line, f"its :type is {shown(kind or 'nil')}, which is none of {', '.join(sorted(TYPES))}")
         if not isinstance(name, str) or name not in TAKEN:
             refuse_operation(line, name)
         if kind == ":invoke":
@@ -262,7 +263,7 @@ class Collector:
             self.history.add(event)
 
     def key_and_part(self, line: int, kind: str, name: str, value: Value) -> Tuple[Value, Value]:
-        """The key and the part of an event's value, which is read once if it comes again and again."""
+        """The key and the part of an event's value. A value that comes again and again is read only once."""
         known = self.known.get((kind, name, value))
         if known is None:
             plain = canonical(value)
@@ -277,7 +278,7 @@ class Collector:
         return known
 
     def complete(self, line: int, kind: str, process: int, name: str, value: Value, index: int) -> None:
-        """A completion repeats its invocation, except for the answer of a read or a dequeue that took place."""
+        """Takes a completion. It repeats its invocation, except for the answer of a read or a dequeue that took place."""
         opened = self.open.pop(process, None)
         if opened is None:
             raise Unpaired(f"line {line}: {self.clients.shown(process)} completes {name} and has invoked nothing: is the beginning missing?")
@@ -301,20 +302,20 @@ class Collector:
         self.history.add(Event(kind, process, name, invoked.key, part, index, line, self.beside))
 
     def give_up(self, process: int) -> None:
-        """Ends the operation of a process of which nothing more is known."""
+        """Ends the operation of a process. The outcome of the operation is not known."""
         invoked = event_of(self.open.pop(process))
         self.history.add(invoked._replace(kind=":info"))
 
     def answer(self, line: int, invoked: Event, value: Value) -> Value:
-        """The answer that an :ok tells, which is of the invocation's key."""
+        """The answer of an :ok, whose key is that of the invocation."""
         key, part = self.key_and_part(line, ":ok", invoked.name, value)
         if key != invoked.key:
             refuse(line, f"the answer is of key {shown(key)}, and the invocation of key {shown(invoked.key)}")
         return part
 
     def answered(self, line: int, name: str, part: Value) -> str:
-        """Finds the type of an :ok by its answer. A dequeue that answers nil took nothing, nor does one that answers false, unless false was
-        put in."""
+        """Finds the type of an :ok by its answer. A dequeue that answers nil took nothing. A dequeue that answers false took nothing
+        either, unless false was enqueued."""
         if name != ":dequeue" or part not in EMPTY:
             return ":ok"
         if part == "false":
@@ -323,7 +324,7 @@ class Collector:
         return ":fail"
 
     def drain(self, line: int, kind: str, invoked: Event, value: Value, index: int) -> None:
-        """Takes the values of a drain out one by one. It writes nothing for a drain that failed or timed out."""
+        """Writes a dequeue for each value of a drain, one by one. For a drain that failed or timed out it writes nothing."""
         if kind != ":ok":
             self.history.notes[f"{kind} of :drain, left out: {drains.LEFT_OUT[kind]}"] += 1
             return
@@ -354,12 +355,12 @@ class Collector:
                 refuse(line, f"the value {shown(value)} of {name} has a key of its own: leave --key out")
             return self.lone_key, value
         if pair is None or (name == ":cas" and not is_pair(pair[1])):
-            raise NoKey(f"line {line}: the value {shown(value)} of {name} is no [key part]; are there no keys? say --key 0")
+            raise NoKey(f"line {line}: the value {shown(value)} of {name} is not [key part]; are there no keys? say --key 0")
         return pair
 
     def test_part(self, line: int, name: str, part: Value) -> None:
         if name == ":cas" and not is_pair(part):
-            refuse(line, f"the part of a :cas is {shown(part)}, and no [old new]")
+            refuse(line, f"the part of a :cas is {shown(part)}, which is not [old new]")
         if self.nil_is_absent and name in (":write", ":cas"):
             return
         if name not in WITHOUT_PART and "nil" in (part.members if name == ":cas" and isinstance(part, Many) else (part,)):
@@ -372,7 +373,7 @@ class Collector:
 
 
 def flat_part(name: str, part: Value) -> Any:
-    """A part in the form of rows: an atom, or the two atoms of a cas without nil; None if it is neither."""
+    """A part in the form of rows: an atom, or the two atoms of a cas without nil. None for any other part."""
     if type(part) is str:
         return part
     members = part.members  # type: ignore[union-attr]

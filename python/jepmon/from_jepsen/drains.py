@@ -1,9 +1,9 @@
-"""Drains of a queue, `:drain`, whose :ok tells a list of what came out: they are taken apart into dequeues.
+"""Drains of a queue, `:drain`, whose :ok has a list of the dequeued values. Each drain becomes several dequeues.
 
-Each of these took place at some moment between the drain's invocation and its :ok. The moment is not known, and the order of the list means
-little: a test may have put each value to its front, or into a set. They are written one after the other, each invoked and completed, in the
-place of the :ok. For a queue without an order that is exact. The history is linearizable with them if and only if it is with dequeues that
-are open from the drain's invocation to its :ok:
+Each of these dequeues took place at some moment between the drain's invocation and its :ok. The moment is not known, and the order of the
+list means little: a test may have put each value at its front, or into a set. The dequeues are written one after another, each invoked and
+completed, at the place of the :ok. For an unordered queue this is exact. The history is linearizable with these dequeues if and only if it
+is linearizable with dequeues that are open from the drain's invocation to its :ok:
 
 - Earlier invocations allow more, so a history that is linearizable with the later ones is so with the earlier ones.
 - Let there be an order that shows the history linearizable with dequeues that are open all the time. Take the drain's dequeues
@@ -13,11 +13,11 @@ are open from the drain's invocation to its :ok:
   held there and the drain's values, so that their dequeues take place, in any order, and leave what it held before. So the order
   shows the history linearizable with dequeues that are invoked and completed one by one at the :ok.
 
-For a queue with an order it is not so: a dequeue that is put off keeps those behind it waiting. So a key with a drain is judged as
-a queue without an order, which is what Jepsen's checkers of such tests, total-queue and the like, look at.
+For a FIFO queue this is not exact: a delayed dequeue delays the dequeues behind it. So a key with a drain is judged as an unordered queue,
+like in Jepsen's checkers of such tests (total-queue and others).
 
-A drain that failed took nothing. A drain that timed out may have taken any values. It is left out, which changes no verdict: it may have
-taken nothing, and a history that is linearizable with some values taken is so with more left in the queue.
+A drain that failed took nothing. A drain that timed out may have taken any values. It is left out, and this changes no verdict: the drain
+may have taken nothing, and a history that is linearizable with some values taken is also linearizable if these values stay in the queue.
 """
 from __future__ import annotations
 

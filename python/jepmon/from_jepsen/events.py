@@ -1,4 +1,4 @@
-"""The events of a Jepsen history that jepmon takes, and notes on the others."""
+"""The events of a Jepsen history that jepmon accepts, and notes on the other events."""
 from __future__ import annotations
 
 import collections
@@ -21,7 +21,7 @@ class Event(NamedTuple):
     part: Value
     own_index: int
     line: int
-    beside: Any = None  # the time and the error of one that was told by something else than EDN, if it has some
+    beside: Any = None  # the time and the error of an event that came from another form than EDN
 
 
 Row = Tuple[str, int, str, Any, Any, int, int, Any]  # an event, with its key and part as spool.py has them
@@ -37,7 +37,7 @@ class Fault(NamedTuple):
 class Left(NamedTuple):
     """An event of a nemesis that was left out."""
 
-    before: int  # how many of the events that were kept come before it
+    before: int  # the number of kept events before it
     name: str
     value: Value
     time: int  # as it states it, else 0
@@ -108,7 +108,7 @@ class History:
         self.events.append(event)
 
     def count(self, event: Union[Event, Row]) -> None:
-        """Counts the next event of a client, which is kept apart: one whose part is nil, or one or more plain integers."""
+        """Counts the next event of a client, which is kept elsewhere. Its part is nil, or one or more plain integers."""
         kind, process, name, key, part, _, line, _ = event
         if kind == ":invoke":
             seen = self.keys.get(key)
@@ -133,7 +133,7 @@ class History:
 
 
 def tuple_of(value: Value) -> Optional[Tuple[Value, Value]]:
-    """The key and the part of a tuple of jepsen.independent, also if it was printed as a map with :key and :value."""
+    """The key and the part of a tuple of jepsen.independent, which may also be printed as a map with :key and :value."""
     if is_pair(value):
         return value.members[0], value.members[1]  # type: ignore[union-attr]
     fields = fields_of(value)

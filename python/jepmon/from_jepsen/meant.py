@@ -1,4 +1,4 @@
-"""Which values of a history are one to the store, and which answer means that a key is missing, as the user says."""
+"""Which values of a history are one value of the store, and which answer means that a key is missing. The user decides both."""
 from __future__ import annotations
 
 import json
@@ -15,8 +15,9 @@ TRUTH = {"true": "1", "false": "0"}
 
 
 class Meant(NamedTuple):
-    """`exact`: 1, 1.0 and "1" are three values. `text`: those of one text are one, without spaces around it: 1 and " 1", and ["a" 1] and
-    "['a', 1]". `number`: those of one number too: 1, 1.0, "1" and true. The same holds of keys. A value whose text is among `absent` is nil.
+    """`exact`: 1, 1.0 and "1" are three values. `text`: values with the same text, without spaces around it, are one value, such as 1 and "
+    1", or ["a" 1] and "['a', 1]". `number`: values with the same number are also one value, such as 1, 1.0, "1" and true. The same holds
+    for keys. A value whose text is among `absent` is nil.
     """
 
     values: str = EXACT
@@ -33,7 +34,7 @@ class Meant(NamedTuple):
         return self.whole(part)
 
     def whole(self, value: Value) -> Value:
-        """A value of its own. A list, a set or a map gives its members that are not missing keys."""
+        """A whole value. A list, a set or a map has only those members that do not mean a missing key."""
         if isinstance(value, Many):
             return Many(value.opened, tuple(map(self.alike, value.members)))
         return self.value(value)
@@ -44,7 +45,8 @@ class Meant(NamedTuple):
         return self.alike(value)
 
     def alike(self, value: Value) -> Value:
-        """The value that stands for all which are one with it: of a list its text, of a map or a set that of its members."""
+        """The value that represents all values that are one with it. A list is represented by its text, and a map or a set by the values
+        that represent its members."""
         if self.values == EXACT or value == "nil" or isinstance(value, str) and value.startswith(":"):
             return value
         text = (text_of(value) if isinstance(value, str) else spelling(value)).strip()
@@ -59,7 +61,7 @@ class Meant(NamedTuple):
 
 
 def text_of(value: str) -> str:
-    """The text of an atom: of a string without its quotes."""
+    """The text of an atom. A string is without its quotes."""
     return string(value) if value.startswith('"') else value
 
 

@@ -1,4 +1,4 @@
-"""Which of jepmon's models each key may be of, by its operations and answers."""
+"""The models of jepmon that each key may have, by its operations and answers."""
 from __future__ import annotations
 
 from typing import Dict, List
@@ -14,7 +14,7 @@ Models = Dict[Value, List[str]]  # by key, the stricter ones first
 
 
 def models_of(seen: KeySeen, is_drained: bool) -> List[str]:
-    """The models that one key may be of: those that have all its operations and answers, the stricter ones first."""
+    """The models that a key may have: those with all its operations and answers, the stricter ones first."""
     models = [model for model, operations in MODELS.items() if seen.names <= operations]
     if is_drained:  # see collect.py
         return [model for model in models if model == "unordered-queue"]
@@ -40,5 +40,5 @@ def models_of_keys(history: History) -> Models:
 
 
 def common(models: Models) -> List[str]:
-    """The models that each key may be of, the stricter ones first."""
+    """The models that all keys may have, the stricter ones first."""
     return [model for model in MODELS if all(model in possible for possible in models.values())]

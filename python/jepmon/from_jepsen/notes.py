@@ -1,4 +1,4 @@
-"""The notes on a history that was turned, and the command that judges it."""
+"""The notes on a converted history, and the command that judges it."""
 from __future__ import annotations
 
 import itertools
@@ -14,14 +14,14 @@ MOST_CLIENTS = 40  # whose names are told
 
 
 def notes(history: History, writer: Writer) -> Iterator[str]:
-    """The skipped or changed parts, how the operations ended, and the meaning of numbers."""
+    """The skipped or changed parts, the outcomes of the operations, and the meaning of numbers."""
     yield f"events: {len(history.events)}"
     yield from notes_of_outcomes(history)
     yield from clients_of(history.clients)
     yield from (f"{note}: {count}" for note, count in history.notes.items())
     yield from notes_of_absent(history, writer) if writer.registers else notes_of_nil(history, writer.sets)
     if writer.processes.renumbered:
-        yield "processes get new numbers, Jepsen's own stand as :jepsen-process"
+        yield "processes get new numbers, Jepsen's own are written as :jepsen-process"
     yield from writer.keys.told("key")
     yield from writer.values.told("value")
 
@@ -48,7 +48,7 @@ def advice(history: History, models: Models, writer: Writer) -> Iterator[str]:
 
 
 def notes_of_outcomes(history: History) -> Iterator[str]:
-    """How the operations ended, by their names. Only what is :ok is judged."""
+    """The outcomes of the operations, by their names. Only an :ok is judged."""
     counts = history.outcomes
     for name in sorted({name for seen in history.keys.values() for name in seen.names}):
         yield f"{name[1:]}: " + ", ".join(f"{counts[name, kind]} {kind[1:]}" for kind in (":ok", ":fail", ":info"))
@@ -64,7 +64,7 @@ def notes_of_nil(history: History, sets: Set[Value]) -> Iterator[str]:
     others = [seen for key, seen in history.keys.items() if key not in sets]
     count, whole = sum(seen.reads_of_nil for seen in others), sum(seen.reads for seen in others)
     if count == whole > 0:
-        yield f"NOTHING IS SAID OF WHAT A REGISTER HOLDS: each read is answered by nil, which fits whatever it holds: {whole}"
+        yield f"NO READ OF A REGISTER CAN BE WRONG: each read answers nil, which fits every value: {whole}"
     elif count > 0:
         yield f"reads answered by nil (it fits whatever a register holds): {count} of {whole}"
     if count > 0:

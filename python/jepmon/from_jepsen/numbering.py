@@ -10,8 +10,8 @@ NUMBER = r"[+-]?[0-9]{1,100}(\.[0-9]{0,100})?([eE][+-]?[0-9]{1,3})?[MN]?"
 
 
 class Numbering:
-    """Integers stay as they are if all of them are within the limits; else each thing gets a number at first sight. Collections for
-    which `alike` gives one value are one."""
+    """If all things are integers within the limits, they stay as they are. Otherwise each thing gets a number when it first comes.
+    Collections with the same value of `alike` are one thing."""
 
     def __init__(self, things: Callable[[], Iterable[Value]], limits: range, alike: Optional[Callable[[Value], Value]] = None) -> None:
         self._limits, self._alike = limits, alike

@@ -1,8 +1,8 @@
-"""Whether the events of a file stand in the order in which they took place, by their :index and their :time.
+"""Whether the events of a file are in the order in which they took place, by their :index and their :time.
 
-An :index that rises is the recorder's own order, whatever the times say: Jepsen reads the clock a moment before it writes an event down.
+An :index that rises is the recorder's own order, also if the times differ: Jepsen reads the clock a moment before it writes an event.
 Without such an :index, a time that goes back says that the lines are in another order. A history with neither, in which the events of each
-client stand together, has no order that is known.
+client are together, has no known order.
 """
 from __future__ import annotations
 
@@ -18,12 +18,12 @@ from ..forms.order import Blocks
 from .refusal import OutOfOrder, Refusal, refuse
 
 __all__ = ["Order", "Time", "Times"]
-LINES = "--order lines takes the events as they stand"
+LINES = "--order lines takes the events in the order of their lines"
 NUMBER = re.compile(r"[+-]?[0-9]{1,20}(\.[0-9]{0,20})?([eE][+-]?[0-9]{1,2})?M?")
 
 
 def number_of(value: Optional[Value]) -> Optional[Time]:
-    """The number that a field is: of a time also one with a fraction."""
+    """The number in a field. A time may have a fraction."""
     number = integer(value)
     if number is not None or not isinstance(value, str) or not NUMBER.fullmatch(value):
         return number
@@ -31,7 +31,7 @@ def number_of(value: Optional[Value]) -> Optional[Time]:
 
 
 class Times:
-    """Reads each :time: numbers, or instants as #inst "2026-11-30T09:00:00.001Z", all of one kind."""
+    """Reads each :time: a number, or an instant such as #inst "2026-11-30T09:00:00.001Z". All times of a history must be of one kind."""
 
     def __init__(self) -> None:
         self._clock = Clock(Account())
@@ -46,7 +46,7 @@ class Times:
             return number
         self._are_numbers = number is not None
         if number is None and not (isinstance(value, str) and value[0] == '"'):
-            refuse(line, f"the :time {shown(value, 60)} is none: a number, or an instant as #inst \"2026-11-30T09:00:00.001Z\"; {LINES}")
+            refuse(line, f"the :time {shown(value, 60)} is none: a number, or an instant such as #inst \"2026-11-30T09:00:00.001Z\"; {LINES}")
         try:
             return self._clock.time(line, string(value) if number is None else number, None)  # type: ignore[arg-type]
         except Refusal as fault:
@@ -54,7 +54,7 @@ class Times:
 
 
 class Order:
-    """Follows the events of clients as they stand."""
+    """Follows the events of clients in the order of the file."""
 
     def __init__(self, blocks: Blocks) -> None:
         self.times = Times()
@@ -83,7 +83,8 @@ class Order:
             raise OutOfOrder(f"line {self.first}: the :time goes back, and not each event has an :index")
 
     def take_run(self, line: int, processes: Sequence[int], indices: Sequence[int], times: Sequence[int]) -> bool:
-        """Takes as many events at once, from this line on. Whether both rise; if not, none was taken."""
+        """Takes this number of events at once, from this line on. Returns whether each :index and each :time rises. If not, no event was
+        taken."""
         if not (all(map(operator.lt, indices, indices[1:])) and self._index < indices[0] if indices else True) or not rise(times, self._time):
             return False
         if indices:
@@ -96,7 +97,7 @@ class Order:
         return not self.back or self._is_indexed
 
     def close(self, account: Account) -> None:
-        """Tests that there is an order, or tells the account which one is guessed."""
+        """Tests that there is an order, or records in the account the guessed order."""
         if not self._is_indexed:
             self._blocks.close(account)
 

@@ -1,9 +1,9 @@
-"""Brings events into the order in which they took place, if the lines of a file stand in another one.
+"""Sorts events into the order in which they took place, if the lines of a file are in another order.
 
-By the :index, if each event has its own: a file that was sorted by something else. By the :time, if clients' files stand one behind
-another: each client's events stand in their order, so that they are paired into operations, and these go by their times (timeline.py). Two
-runs in one file are not one history: there the :index begins again, and a client goes on on both sides. Then, and where neither the :index
-nor the :time gives an order, the file is refused.
+If each event has its own :index, this gives the order: such a file was sorted by something else. If the files of clients are one behind
+another, the :time gives the order: the events of each client are in order, so they are paired into operations, which are ordered by their
+times (timeline.py). Two runs in one file are not one history: there the :index begins again, and a client has events on both sides. Such a
+file is refused, and so is a file without an order by :index or :time.
 """
 from __future__ import annotations
 
@@ -63,7 +63,7 @@ class Facts:
         return None not in self.indices and len(set(self.indices)) == len(self.indices)
 
     def begins_again(self) -> Optional[int]:
-        """The place of the first event whose :index is less than that of the one before it."""
+        """The place of the first event whose :index is less than that of the event before it."""
         last = -1
         for place, index in enumerate(self.indices):
             if index is not None:
@@ -91,14 +91,14 @@ class Facts:
         return None
 
     def test_blocks(self, account: Account) -> None:
-        """Tells what is guessed if some clients stand behind all others, as if each event lacked an :index."""
+        """Records the guess if some clients come behind all others, as if no event had an :index."""
         blocks = Blocks(self.is_indexed())
         for line, process, time in zip(self.lines, self.processes, self.times):
             blocks.take(process, line, time)
         blocks.close(account)
 
     def on_both_sides(self) -> Optional[str]:
-        """A client that has events before and after its file's :index begins again."""
+        """A client with events before and after the place at which its file's :index begins again."""
         before: Set[str] = set()
         now: Set[str] = set()
         last = -1
@@ -115,7 +115,7 @@ class Facts:
 
 
 def ordered(texts: Texts, asked: Asked, account: Account, fault: Optional[Refusal]) -> History:
-    """The history, with its events in their order. The fault of the order in which they stand is raised if no other one is known."""
+    """The history, with its events in their order. If no order is known, raises the fault of the order of the lines."""
     facts = read(texts(), asked, account)
     order = asked.order or (TIMES if asked.skew is not None else of_files(facts, account) if asked.clients is not None else found(facts, account, fault))
     collector = Collector(asked._replace(order=order), scratch := Account())
@@ -157,12 +157,12 @@ def read(texts: Iterable[str], asked: Asked, account: Account) -> Facts:
 
 
 def parts_of(texts: Iterable[str], asked: Asked) -> List[Tuple[int, Counted]]:
-    """The text, or those of several files, each with how many lines come before it."""
+    """The text, or the texts of several files, each with the number of lines before it."""
     return [(base, Counted(part.texts())) for base, part in asked.parts] or [(0, Counted(texts))]
 
 
 def elements(parts: Sequence[Tuple[int, Counted]], asked: Asked) -> Iterator[Tuple[edn.Element, Optional[str], Fields]]:
-    """The events, each with its client, if it is of one."""
+    """The events, each with its client if it has one."""
     clients, apart = Clients(), Apart(asked.ignored)
     try:
         for element in itertools.chain.from_iterable(edn.Reader(pieces, line=base + 1).history() for base, pieces in parts):
@@ -177,7 +177,7 @@ def elements(parts: Sequence[Tuple[int, Counted]], asked: Asked) -> Iterator[Tup
 
 
 def found(facts: Facts, account: Account, fault: Optional[Refusal]) -> str:
-    """The field by which the events are in order; refused if there is none."""
+    """The field by which the events are in order. Raises Refused if there is no such field."""
     again, back = facts.begins_again(), facts.goes_back()
     twice = facts.twice() if again is None else None
     if twice is not None:
@@ -201,7 +201,7 @@ def found(facts: Facts, account: Account, fault: Optional[Refusal]) -> str:
                          f"has no :time: which came first? {SETTLES}")
     if back is None:
         account.guess(ORDER, f"the :index begins again in line {facts.lines[again or 0]}, of other clients, and the :time rises: events are taken "
-                      "as they stand", "--order lines")
+                      "in the order of their lines", "--order lines")
         return LINES
     account.guess(ORDER, f"the :time goes back in line {facts.lines[back]}; operations are taken in the order of the :time, which has to be of "
                   "one clock", BY_TIMES)
@@ -224,7 +224,7 @@ def by_index(texts: Iterable[str], asked: Asked, facts: Facts, collector: Collec
 
 
 def by_time(texts: Iterable[str], asked: Asked, collector: Collector, account: Account) -> int:
-    """Takes the operations in the order of their times, each wider by a clock error."""
+    """Takes the operations in the order of their times. Each is wider by a clock error."""
     timeline, faults = timeline_of(texts, asked)
     count = 0
     if asked.skew is None and timeline.are_apart():
@@ -248,7 +248,7 @@ def by_time(texts: Iterable[str], asked: Asked, collector: Collector, account: A
 
 
 def timeline_of(texts: Iterable[str], asked: Asked) -> Tuple[Timeline, List[Tuple[Time, int, int, str]]]:
-    """The operations of clients, and what the nemesis did, by its time, the latest first."""
+    """The operations of clients, and the events of the nemesis by their times, the latest first."""
     times, timeline, faults = Times(), Timeline(), []  # type: Times, Timeline, List[Tuple[Time, int, int, str]]
     opened: Dict[str, Tuple[Time, int, str]] = {}
     latest: Dict[str, Time] = {}

@@ -1,7 +1,7 @@
-"""The type of an :ok that denies itself: a lock, a cas, a write or a dequeue that is answered by false, or an :ok with an :error.
+"""The type of an :ok that contradicts itself: a lock, a cas, a write or a dequeue with the answer false, or an :ok with an :error.
 
-Its :type is what the test wrote, and its answer or error is what the store said; one of them is wrong. By default a false answer counts,
-and an error does not; the notes name both, and --outcome settles them.
+Its :type comes from the test, and its answer or error comes from the store. One of the two is wrong. By default a false answer decides, and
+an error does not. The notes name both guesses, and --outcome settles them.
 """
 from __future__ import annotations
 
@@ -10,7 +10,7 @@ from typing import Dict, Mapping, Tuple
 from ..forms.account import OUTCOME, Account
 
 FALSE, ERROR = "false", "error"
-DEFINITE = (":cas", ":acquire", ":dequeue")  # of which false says that they did not take place; any other may have
+DEFINITE = (":cas", ":acquire", ":dequeue")  # false says that these did not take place; any other operation may have taken place
 
 
 class Outcomes:

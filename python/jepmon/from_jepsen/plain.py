@@ -1,5 +1,6 @@
-"""Most lines of a history, by one expression: an event of a client with the fields that Jepsen writes, in the order of the first one. It is
-there for speed: whatever it does not match, or is not followed up in collect.py, is read field by field, with the same result."""
+"""Reads most lines of a history by one regular expression: an event of a client with the fields that Jepsen writes, in the order of the
+first event. This is for speed. A line that the expression does not match, or that collect.py does not take, is read field by field, with
+the same result."""
 from __future__ import annotations
 
 import itertools
@@ -33,10 +34,10 @@ LONGEST = 1 << 13  # characters of a run
 class Plain(NamedTuple):
     """A plain line of a history."""
 
-    line: Pattern[str]  # with groups; the last one has all that follows where there is none
+    line: Pattern[str]  # with groups; the last group has all that follows, if a group is missing
 
     def find(self, text: str, place: int) -> Tuple[Rows, int]:
-        """The groups of the plain lines that begin at this place, one after the other, and the place behind these."""
+        """The groups of the plain lines that begin at this place, one after another, and the place behind these lines."""
         end = min(place + LONGEST, len(text))
         found = self.line.findall(text, place, end)
         rest = found[-1][-1]
@@ -66,7 +67,7 @@ class Plain(NamedTuple):
 
 
 def plain_of(text: str, has_keys: bool) -> Optional[Plain]:
-    """A reader for a history that begins with this text; None if none of its first lines is an event of a client."""
+    """A reader for a history that begins with this text. None if none of the first lines is an event of a client."""
     fields = {**FIELDS, ":value": WITH_KEY if has_keys else PART}
     for line in LINE.finditer(text, 0, FRONT):
         known = [key for key in KEY.findall(line[2]) if key in fields]

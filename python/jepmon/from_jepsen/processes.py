@@ -1,6 +1,6 @@
-"""The threads that a history needs, and the processes that it has by jepmon's rule.
+"""The number of threads that a history needs, and its processes by jepmon's rule.
 
-After an :info of process p its thread goes on as process p + threads. Jepsen has the same rule, so its own processes mostly fit.
+After an :info of process p its thread continues as process p + threads. Jepsen has the same rule, so its own processes mostly fit.
 """
 from __future__ import annotations
 
@@ -19,7 +19,7 @@ class Processes(NamedTuple):
 
 
 def processes_of(history: History, most: int) -> Processes:
-    """Jepsen's own processes with the fewest threads that they fit, or others if they fit none; at most `most` threads."""
+    """Jepsen's own processes with the least number of threads that fits them. If no number up to `most` fits, other processes."""
     threads = history.lives.fewest()
     if threads is not None and threads <= most:
         return Processes(threads, False)
@@ -36,9 +36,9 @@ class OwnProcesses:
 
 
 class OnThreads(OwnProcesses):
-    """The process of each event, one after another, with n threads: each operation gets the lowest free one.
+    """The process of each event, one after another, with n threads. Each operation gets the lowest free thread.
 
-    Which process did an operation says nothing to linearizability; only what was open at once does.
+    Linearizability does not depend on the process of an operation. It depends only on which operations were open at once.
     """
 
     def __init__(self, threads: int) -> None:

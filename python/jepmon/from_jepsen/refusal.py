@@ -10,15 +10,15 @@ __all__ = ["NoKey", "OutOfOrder", "Refusal", "TooMany", "Unpaired", "refuse"]
 
 
 class NoKey(Refusal):
-    """A value has no key of its own, and none was named."""
+    """A value has no key, and the user named none."""
 
 
 class OutOfOrder(Refusal):
-    """The events do not stand in the order in which they took place."""
+    """The events are not in the order in which they took place."""
 
 
 class Unpaired(Refusal):
-    """An event does not follow from those before it: they may stand in another order."""
+    """An event cannot follow the events before it: the file may be in another order."""
 
 
 def refuse(line: int, reason: str) -> NoReturn:

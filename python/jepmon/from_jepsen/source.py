@@ -1,4 +1,4 @@
-"""The text of a history, in pieces that end with a line's end, as often as it is asked for."""
+"""The text of a history, in pieces that end with the end of a line. It can be read any number of times."""
 from __future__ import annotations
 
 import io
@@ -10,7 +10,7 @@ from .refusal import Refusal
 
 @runtime_checkable
 class Texts(Protocol):
-    """A source that gives its text in pieces, again and again, as forms.files.Source."""
+    """A source that gives its text in pieces, any number of times, like forms.files.Source."""
 
     def texts(self) -> Iterator[str]: ...
 
@@ -36,7 +36,7 @@ class OfText:
 
 
 class OfFile:
-    """A file that is open for reading bytes, which can be read again if it can be gone back in."""
+    """A file that is open for reading bytes. It can be read again if it is seekable."""
 
     def __init__(self, file: BinaryIO) -> None:
         self._file = file

@@ -1,4 +1,5 @@
-"""The events of a history, one after another: a few are held, and those of a long history are written to a file that has no name."""
+"""The events of a history, one after another. A few are held in memory, and those of a long history are written to a file without a
+name."""
 from __future__ import annotations
 
 import marshal
@@ -14,7 +15,7 @@ Kept = Union[Event, Fault]
 
 
 class Spool:
-    """Takes events, and gives them again as often as one likes."""
+    """Takes events, and gives them again any number of times."""
 
     def __init__(self) -> None:
         self._batch: List[Tuple[Any, ...]] = []  # what was taken last

@@ -1,4 +1,4 @@
-"""The operations of a Jepsen history that jepmon takes, and what is refused of others."""
+"""The operations of a Jepsen history that jepmon accepts, and the refusals of others."""
 from __future__ import annotations
 
 import itertools
@@ -25,7 +25,8 @@ def refuse_operation(line: int, name: Optional[Value]) -> NoReturn:
 
 
 def refuse_value_of_read(line: int, name: Value, value: Value) -> None:
-    """A read asks for one key. One that is invoked with a value, as [[:x 1] [:y 2]], is of several registers at once."""
+    """Refuses a read that is invoked with a value, such as [[:x 1] [:y 2]]: it reads several registers at once. A read of jepmon asks for
+    one key."""
     if name != ":read" or value == "nil":
         return
     pair = tuple_of(value)
@@ -35,7 +36,7 @@ def refuse_value_of_read(line: int, name: Value, value: Value) -> None:
 
 
 def refuse_others(elements: Iterator[edn.Element]) -> None:
-    """Refuses the rest of a history whose operations are none of jepmon's with any key."""
+    """Refuses a history whose operations jepmon does not have, whatever their keys."""
     try:
         for element in itertools.chain.from_iterable(element.each() for element in elements):
             fields = edn.fields_of(element.value) or {}

@@ -10,7 +10,7 @@ lines, or one vector of them, also compressed by gzip. From each event of a clie
 else stands there (times, errors, exceptions) is dropped, whatever it is. A :drain of a queue is taken apart into dequeues.
 
   --key K           for a history without independent keys: every value v becomes [K v]
-  --nil-is-absent   nil is what a missing key answers, and no read that says nothing: it becomes a number of its own, and a
+  --nil-is-absent   a missing key answers nil, so nil is an answer that says something: it becomes a number of its own, and a
                     write of it comes first for each key that is a register, by process 0, before the history's own events
   --shards          for jepmon-judge --jobs and jepmon-shards: any number of keys, and of operations that are open at once
 
@@ -62,7 +62,7 @@ def words() -> argparse.Namespace:
 
 
 def turned(given: argparse.Namespace, source: files.Source) -> Turned:
-    """The history in jepmon's form. Tells how it was read."""
+    """The history in jepmon's form. Prints how it was read."""
     options = door.Options(given.key, given.nil_is_absent, None, mapping_words.of_order(given), False, given.values,
                            tuple(given.absent), given.initial)
     form = door.form_of(source, options)
@@ -79,7 +79,7 @@ def turned(given: argparse.Namespace, source: files.Source) -> Turned:
 
 
 def work() -> int:
-    """Nothing of the history is written before all of it was read."""
+    """Writes the history only after it has read all of it."""
     path, status = "", command.REFUSED
     output: Iterable[str] = (NOTHING,)
     try:

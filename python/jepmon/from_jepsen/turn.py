@@ -1,4 +1,4 @@
-"""Turns a history: from the source of its text to the lines in jepmon's form, and the notes on them."""
+"""Converts a history: from the source of its text to the lines in jepmon's form, and the notes on them."""
 from __future__ import annotations
 
 from typing import Dict, Iterator, List, Mapping, Optional
@@ -28,17 +28,17 @@ class Turned:
         self.notes = told  # what is to be told of it, a line each
         self.advice = advised  # how to have it judged, a line each
         self.concurrency: int = writer.processes.threads  # the least that it needs
-        self.models = models  # of each key, by its number: those that it may be of, the stricter first
-        self.model: Optional[str] = shared[0] if shared else None  # one that each key may be of, if there is one
+        self.models = models  # the models that each key may have, by its number, the stricter ones first
+        self.model: Optional[str] = shared[0] if shared else None  # a model that all keys may have, if there is one
         self.names: Names = writer.names()  # what numbered keys and values were
 
     @property
     def begun(self) -> int:
-        """How many events come before the history's own: those by which each register begins if nil is what a missing key answers."""
+        """The number of events before the history's own. If nil is the answer of a missing key, each register begins with a write."""
         return 2 * len(self._writer.registers)
 
     def texts(self) -> Iterator[str]:
-        """The lines, with their line feeds, many in a text: an event each, and then comments that say what numbers stand for."""
+        """The lines with their line feeds, many in one text: one event in each line, and then comments with the meaning of numbers."""
         return self._writer.texts()
 
     def text(self) -> str:
@@ -79,7 +79,7 @@ def collected(source: Source, asked: Asked, account: Account) -> History:
 
 
 def written(history: History, nil_is_absent: bool, limits: Limits, initial: Optional[Value] = None) -> Turned:
-    """The history as it is written within these limits, and what each register holds at first, if that is known."""
+    """The history in its written form within these limits, and the first value of each register, if it is known."""
     if history.nil_fault is not None and not nil_is_absent:
         raise history.nil_fault
     models = models_of_keys(history)

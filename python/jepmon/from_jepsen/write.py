@@ -30,7 +30,7 @@ MOST_KNOWN = 10_000  # operations whose texts are remembered
 
 
 class Writer:
-    """Writes the events of a history in jepmon's form, and after them in comments what numbers stand for."""
+    """Writes the events of a history in jepmon's form, and after them comments with the meaning of numbers."""
 
     def __init__(self, history: History, models: Models, nil_is_absent: bool, limits: Limits, initial: Optional[Value] = None) -> None:
         self.history, self.initial = history, initial
@@ -47,7 +47,7 @@ class Writer:
             raise TooMany(f"it has {len(history.keys)} keys, and jepmon takes {limits.keys.stop}")
 
     def _values(self) -> Iterator[Value]:
-        """The values of all events; none if they are plain, since they stay as they are."""
+        """The values of all events. None if all values are plain, since these stay as they are."""
         if self.initial is not None:
             yield self.initial
         if self.history.is_plain and (self.initial is None or integer(self.initial) is not None):
@@ -109,7 +109,7 @@ class Writer:
         return line_of_words(kind, processes.process_of(kind, process), name, *texts, self.place(own_index, line) + own) + "\n"
 
     def place(self, own_index: int, line: int) -> str:
-        """Where an event stood: its index, or if it had none its line."""
+        """The place of an event: its index, or its line if it has no index."""
         if not self.history.is_of_rows:
             return f", :jepsen-index {own_index}"
         return "" if self.is_of_shards else f", :line {line}"
@@ -131,7 +131,7 @@ def fault_line(fault: Tuple[Any, ...]) -> str:
 
 
 def values_of(event: Event, of_set: bool) -> Sequence[Value]:
-    """The values in the part of an event; nil is one if it is written, or is the answer of a read."""
+    """The values in the part of an event. Nil is a value if it is written, or is the answer of a read."""
     if event.part == "nil" and not has_value(event):
         return ()
     if isinstance(event.part, Many) and (event.name == ":cas" or of_set and event.name == ":read"):
@@ -140,5 +140,5 @@ def values_of(event: Event, of_set: bool) -> Sequence[Value]:
 
 
 def has_value(event: Event) -> bool:
-    """Whether the event tells what a register is to hold, or what a read found in it."""
+    """Whether the event has a value that a register gets, or that a read found in it."""
     return event.name in (":write", ":cas") or event.name == ":read" and event.kind == ":ok"

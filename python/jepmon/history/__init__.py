@@ -20,7 +20,7 @@ class HistoryError(Exception):
 
 
 class Event(NamedTuple):
-    """An event, as it stands in the file."""
+    """An event, as the file has it."""
 
     index: int  # type: ignore[assignment]  # (also a method of tuple) its place in the history, from 0
     kind: str  # "invoke", "ok", "fail" or "info"
@@ -81,7 +81,7 @@ OWN = frozenset({":type", ":process", ":f", ":value"})
 
 
 def event_of(index: int, element: edn.Element) -> Event:
-    """The element as an event that the program takes as the event of this index."""
+    """The element as an event that the program accepts as the event with this index."""
     fields = edn.fields_of(element.value) or {}
     made = client_event(index, element, fields) if fields.get(":process") != ":nemesis" else nemesis_event(index, element, fields)
     stated = edn.integer(fields.get(":index", "0"))
@@ -133,7 +133,7 @@ def two(numbers: List[int]) -> Tuple[int, int]:
 
 
 def nemesis_event(index: int, element: edn.Element, fields: Dict[str, edn.Value]) -> Optional[Event]:
-    """An event of the nemesis, which is one of its faults; None if it is none."""
+    """An event of the nemesis with one of its faults. None if it is not such an event."""
     name, value = edn.keyword(fields.get(":f")), fields.get(":value")
     if name is None or value is None or not faults.is_fault(fields):
         return None
@@ -142,7 +142,7 @@ def nemesis_event(index: int, element: edn.Element, fields: Dict[str, edn.Value]
 
 
 def further(fields: Dict[str, edn.Value]) -> Dict[str, Any]:
-    """The fields beside those that each event has."""
+    """The fields of an event in addition to those that each event has."""
     if len(fields) == len(OWN):
         return {}
     return {name[1:]: plain(value) for name, value in fields.items() if name.startswith(":") and name not in OWN}

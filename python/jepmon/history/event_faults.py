@@ -1,4 +1,4 @@
-"""Why jepmon refuses an element by 5, BadValue, in words."""
+"""Why jepmon refuses an element with 5, BadValue, in words."""
 from __future__ import annotations
 
 from typing import Dict, Optional
@@ -21,23 +21,23 @@ def fault_of(value: Value) -> str:
     if missing:
         return f"it has no {' and no '.join(missing)}"
     if keyword(fields[":type"]) not in kinds.EVENT_TYPES:
-        return f"its :type is {spelling(fields[':type'])}, and none of :invoke, :ok, :fail, :info"
+        return f"its :type is {spelling(fields[':type'])}, which is none of :invoke, :ok, :fail, :info"
     if fields[":process"] == ":nemesis":
         return f"this name or value is not a fault of jepmon's: leave such events of the nemesis out ({tool('from-jepsen')} does)"
     process = integer(fields[":process"])
     if process is None or process not in kinds.PROCESSES:
-        return f"its :process is {spelling(fields[':process'])}, and no integer from 0 on"
+        return f"its :process is {spelling(fields[':process'])}, which is not an integer from 0 on"
     return of_operation(fields)
 
 
 def of_no_map(value: Value) -> str:
     if isinstance(value, Many) and value.opened == "[" and any(fields_of(member) is not None for member in value.members):
         return f"one vector of events: {tool('from-jepsen')} takes it"
-    return "it is not a map, so not an event; commands as [:model k m] are of jepmon script"
+    return "it is not a map, so not an event; commands such as [:model k m] are of jepmon script"
 
 
 def of_operation(fields: Dict[str, Value]) -> str:
-    """The same of an event of a client."""
+    """The invalid part of an event of a client."""
     name, value = keyword(fields[":f"]), fields[":value"]
     if name in kinds.NOT_JUDGED:
         return f":{name} {kinds.NOT_JUDGED[name or '']}"
@@ -46,17 +46,17 @@ def of_operation(fields: Dict[str, Value]) -> str:
     if name not in kinds.OPERATIONS:
         return f"no object has the operation {spelling(fields[':f'])}; they have {', '.join(sorted(kinds.OPERATIONS))}"
     if not isinstance(value, Many) or value.opened != "[" or len(value.members) != 2:
-        return f"its :value is no [key part]; where the history has no keys, {tool('from-jepsen')} --key 0 makes each value one"
+        return f"its :value is not [key part]; where the history has no keys, {tool('from-jepsen')} --key 0 makes each value one"
     key = integer(value.members[0])
     if key is None or key not in kinds.KEYS:
         return f"its key is not an integer from 0 to {kinds.KEYS.stop - 1}: {tool('from-jepsen')} numbers keys; --key 0 only where :value is not a pair"
     index = integer(fields.get(":index", "0"))
     if index is None or index not in kinds.INDICES:
-        return f"its :index is {spelling(fields[':index'])}, and no integer from 0 on"
+        return f"its :index is {spelling(fields[':index'])}, which is not an integer from 0 on"
     return of_part(keyword(fields[":type"]), name, key)
 
 
 def of_part(kind: Optional[str], name: Optional[str], key: int) -> str:
     if name in kinds.WITHOUT_PART and (kind != "ok" or name in ("acquire", "release")):
-        return f"the part of :{kind} of {name} is nil, as [{key} nil]"
+        return f"the part of :{kind} of {name} is nil, as in [{key} nil]"
     return f"the part of :{kind} of {name} is {PARTS.get(name or '', 'an integer')}"

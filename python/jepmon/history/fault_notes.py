@@ -7,7 +7,7 @@ A note has a line of its own between the events, as a discarded element, so that
     #_{:type :info, :process :nemesis, :f :begin-fault, :value "cut n1 off", :time 8123456}  a fault begins
     #_{:type :info, :process :nemesis, :f :end-fault, :value "cut n1 off", :time 9123456}    the one of this text that began last ends
 
-The time is in nanoseconds from the beginning of the run, as that of the events beside it.
+The time is in nanoseconds since the beginning of the run, like the times of the events around it.
 """
 from __future__ import annotations
 
@@ -23,12 +23,12 @@ LINE = re.compile(
 
 
 class Fault(NamedTuple):
-    """A fault that a history notes, between its events. One of a moment ends where it began."""
+    """A fault in the notes of a history, between its events. A fault of one moment has its end at its beginning."""
 
     text: str
     begin: int  # how many events stand before its beginning
     begin_time: int  # nanoseconds from the beginning of the run
-    end: Optional[int]  # how many events stand before its end; None where the history does not say
+    end: Optional[int]  # how many events are before its end; None if the history has no end of it
     end_time: Optional[int]
 
 
@@ -41,7 +41,7 @@ class Note(NamedTuple):
 
 
 def folded(text: str) -> str:
-    """The text of a note as it is kept: on one line, each white space in it one blank, and UTF-8."""
+    """The text of a note in its kept form: one line, one blank for each white space, and UTF-8."""
     one_line = " ".join(text.split()).encode("utf-8", "replace").decode()
     if not 0 < len(one_line) <= LONGEST:
         raise ValueError(f"a note has 1 to {LONGEST} characters, not {len(one_line)}")
@@ -63,7 +63,8 @@ def note_of(line: str) -> Optional[Note]:
 
 
 def faults_of(lines: Iterable[str]) -> List[Fault]:
-    """The faults that a history notes, in the order of their beginnings. The history is one of Monitor: an event a line."""
+    """The faults in the notes of a history, in the order of their beginnings. Monitor has written the history, with one event in each
+    line."""
     faults: List[Fault] = []
     held: Dict[str, List[int]] = {}  # the places in the list of faults that have not ended, by text
     events = 0

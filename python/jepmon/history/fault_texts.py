@@ -2,7 +2,7 @@
 
     n1 is down, by kill -9 [kill n1, process; while slow n2]
 
-and a test of the user's own as it likes; then the kind is the text without the names of nodes."""
+and a test of the user's own uses any text. Then the kind is the text without the names of nodes."""
 from __future__ import annotations
 
 import re

@@ -1,4 +1,4 @@
-"""When faults held beside a moment of a history, in words: which one began last before it, and which one began next after it."""
+"""The faults around a moment of a history, in words: which one began last before it, and which one began next after it."""
 from __future__ import annotations
 
 import re
@@ -25,8 +25,8 @@ def after(faults: Sequence[Fault], moment: int) -> Optional[Fault]:
 
 
 def since(faults: Sequence[Fault], moment: int) -> str:
-    """How long after which fault the moment comes, and which others hold then: `0.07 s after "n1 is down, by kill -9" began`. Nothing
-    where no fault began before it."""
+    """How long after which fault the moment comes, and which other faults are active then: `0.07 s after "n1 is down, by kill -9" began`.
+    The text is empty if no fault began before the moment."""
     last = before(faults, moment)
     if last is None:
         return ""
@@ -44,8 +44,8 @@ def after_fault(fault: Fault, moment: int) -> str:
 
 
 def until(faults: Sequence[Fault], moment: int) -> str:
-    """How long before which fault the moment comes: `0.07 s before "n1 is down, by kill -9" began`; and before the next one that ended a
-    process, if that is another one. Nothing if none began after it."""
+    """How long before which fault the moment comes: `0.07 s before "n1 is down, by kill -9" began`. If the next fault that ended a process
+    is another one, the text has it too. It is empty if no fault began after the moment."""
     following = after(faults, moment)
     hard = after(list(filter(ends_a_process, faults)), moment)
     named = [fault for fault in (following, hard if hard is not following else None) if fault is not None]

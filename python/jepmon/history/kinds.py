@@ -12,7 +12,7 @@ MODELS: Dict[str, FrozenSet[str]] = {
     "unordered-queue": frozenset({"enqueue", "dequeue"}),
     "set": frozenset({"add", "read"}),
 }
-# Models of which a program may have a second kind, and its name: the same object, counted otherwise, so that less is over the budget.
+# Models of which a program may have a second kind, and its name: the same object with another count, so that fewer keys are over budget.
 WIDE: Dict[str, str] = {
     "register": "wide-register",
     "cas-register": "wide-cas-register",
@@ -50,11 +50,11 @@ ABSENT = -(1 << 63)  # the value by which a Monitor tells that a register's key 
 
 
 def model_of(name: str) -> str:
-    """The model that a kind of the program is; another name stays as it is."""
+    """The model of a kind of the program. Another name stays as it is."""
     return next((model for model, wide in WIDE.items() if wide == name), name)
 
 
 def kind_of(model: str, by_ends: bool) -> str:
-    """The kind by which the program judges a model: the wide one, if there is one, or by ends the one of the model's name."""
+    """The kind by which the program judges a model: the wide kind if there is one. By ends it is the kind with the model's name."""
     model = model_of(model)
     return model if by_ends else WIDE.get(model, model)

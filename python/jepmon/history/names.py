@@ -1,7 +1,7 @@
 """The meaning of numbers in a history whose keys or values were numbered, as its own comments say.
 
-A history in jepmon's form has integers alone. A tool that makes one of other keys and values numbers them, and says so in comments, a line
-each: `; key 0 is :x`, `; value 3 is "blue"`. By these they are turned back where a person reads them.
+A history in jepmon's form has only integers. A tool that converts other keys and values numbers them, and writes comments, one in each
+line: `; key 0 is :x`, `; value 3 is "blue"`. By these comments, texts for people show the original keys and values.
 """
 from __future__ import annotations
 
@@ -19,7 +19,7 @@ ABSENT = "ABSENT"  # a missing key
 
 
 class Names:
-    """The names of numbered keys and values. A number without a name is its own."""
+    """The names of numbered keys and values. A number without a name stands for itself."""
 
     def __init__(self, keys: Optional[Mapping[int, str]] = None, values: Optional[Mapping[int, str]] = None) -> None:
         self.keys: Dict[int, str] = dict(keys or {})

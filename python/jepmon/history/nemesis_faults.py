@@ -1,4 +1,4 @@
-"""Events of a nemesis: which of them jepmon takes, the faults of its own (docs/FORMATS.md, Events), and which of them ends which."""
+"""Events of a nemesis: the faults that jepmon accepts (docs/FORMATS.md, Events), and the event that ends each fault."""
 from __future__ import annotations
 
 from typing import Dict, Optional, Tuple
@@ -21,7 +21,7 @@ STARTS, STOPS = "start-", "stop-"
 
 
 def is_fault(fields: Dict[str, Value]) -> bool:
-    """Whether this is a fault as jepmon writes it; what other faults there are is each test's own choice."""
+    """Whether this is one of jepmon's own faults. A test may have other faults."""
     name, value = fields.get(":f"), fields.get(":value")
     if fields.get(":process") != ":nemesis" or fields.get(":type") != ":info":
         return False
@@ -44,5 +44,5 @@ def is_partition(value: Optional[Value]) -> bool:
 
 
 def ended_by(name: str) -> Tuple[str, ...]:
-    """The names of what ends a fault of this name; none if it is a fault of a moment, or not known."""
+    """The names of the events that end a fault of this name. Empty if it is a fault of one moment, or is not known."""
     return (STOPS + name[len(STARTS):],) if name.startswith(STARTS) else ENDED_BY.get(name, ())

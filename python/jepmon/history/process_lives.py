@@ -1,8 +1,8 @@
-"""How many threads the processes of a history have: the fewest by which they keep the process rule.
+"""The number of threads of a history: the least number with which its processes keep the process rule.
 
-After an :info of process p its thread goes on as process p + threads. So a number of threads fits where each process that is not below it
-begins after an :info of the one that is less by it. A number of threads that fits a history fits each prefix of it. So if the fewest
-threads of a prefix fit all of the history, they are the fewest of all of it.
+After an :info of process p its thread continues as process p + n, where n is the number of threads. So n fits if each process q that is at
+least n begins after an :info of process q - n. If n fits a history, it fits each prefix of the history. So if the least number for a prefix
+fits the whole history, it is the least number for the whole history.
 """
 from __future__ import annotations
 
@@ -11,7 +11,7 @@ from typing import Dict, List, Optional
 
 
 class Lives:
-    """When each process of a history has begun, and when it has crashed: by the number of the event."""
+    """The event at which each process of a history began, and the event at which it crashed, by the numbers of these events."""
 
     def __init__(self) -> None:
         self._begun: Dict[int, int] = {}
@@ -30,8 +30,8 @@ class Lives:
             self._crashed[process] = self._count
 
     def fewest(self) -> Optional[int]:
-        """The fewest threads that fit; None if none do. The greatest process is below their number, or greater by it than one that
-        has crashed."""
+        """The least number of threads that fits; None if no number fits. The greatest process is below this number, or exceeds a crashed
+        process by this number."""
         if self._is_broken:
             return None
         processes = sorted(self._begun)

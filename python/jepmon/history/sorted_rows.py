@@ -1,18 +1,18 @@
-"""Sorts rows by their first field: it holds a few, sorts many in runs, and writes these to a file without a name."""
+"""Sorts rows by their first field. It holds a few rows in memory, sorts many rows in runs, and writes the runs to a file without a name."""
 from __future__ import annotations
 
 import heapq
 import marshal
 from typing import IO, Any, Iterator, List, Optional, Tuple
 
-Row = Tuple[Any, ...]  # what marshal takes; of two rows one comes first by what stands before anything that can't be compared
+Row = Tuple[Any, ...]  # what marshal takes; the fields before a field that can't be compared decide the order of two rows
 
 HELD = 20_000  # rows
 BATCH = 250  # of a run that are read at once
 
 
 class SortedRows:
-    """Takes rows in any order, and gives them in theirs, as often as one likes."""
+    """Takes rows in any order, and gives them in sorted order, any number of times."""
 
     def __init__(self, held: int = HELD) -> None:
         self._held = held

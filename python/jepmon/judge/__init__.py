@@ -1,4 +1,4 @@
-"""`jepmon-judge`: from a recorded history of whatever form to the verdict and its cause."""
+"""`jepmon-judge`: from a recorded history of any form to the verdict and its cause."""
 from __future__ import annotations
 
 from .tool import main

@@ -99,7 +99,7 @@ def of_operation(operation: Operation, names: Names, source: Source) -> Object:
 
 
 def shown(value: Any, names: Names) -> Any:
-    """A value as the history has it; a list of a cas and of a set's members."""
+    """A value as the history has it. The values of a cas, and the members of a set, are a list."""
     if isinstance(value, tuple):
         return [shown(member, names) for member in value]
     if isinstance(value, frozenset):
@@ -108,7 +108,7 @@ def shown(value: Any, names: Names) -> Any:
 
 
 def typed(spelled: str) -> Any:
-    """An integer or a text as JSON has it; what else there is, as a keyword of EDN, as it is spelled."""
+    """An integer or a text as JSON has it. Any other value, such as a keyword of EDN, is the text of its spelling."""
     if edn.integer(spelled) is not None:
         return int(spelled)
     return edn.string(spelled) if spelled.startswith('"') else spelled
@@ -119,7 +119,7 @@ def at(event: Event, source: Source) -> Object:
 
 
 def where(event: Optional[Event], source: Source) -> Object:
-    """The place of the event in its file; null if it is in no file, such as the write with which a key begins."""
+    """The place of the event in its file. Null if it is in no file, such as the write with which a key begins."""
     if event is None or not event.line:
         return {"file": None, "line": None}
     file, line = source.place(event.line)

@@ -1,4 +1,4 @@
-"""The keys that are not legal: which they are, and the cause of each, so far as the work for that reaches."""
+"""The keys that are not legal, and the cause of each key within the limit of work."""
 from __future__ import annotations
 
 from typing import Callable, Dict, Iterable, Iterator, List, Mapping, NamedTuple, Optional, Sequence
@@ -16,7 +16,7 @@ from .judging import Task
 EventsOf = Callable[[List[int]], Mapping[int, List[Event]]]
 IN_PART = ("full", "wide")  # judged to some event, since one check takes no more
 FEW_EVENTS = 200_000  # of the keys that are explained beside the first one, together
-OTHERS, SHARE, LEAST = 10_000_000.0, 500_000.0, 20_000.0  # the effort for these, for each at most, and that which is too little for one
+OTHERS, SHARE, LEAST = 10_000_000.0, 500_000.0, 20_000.0  # the effort for all these keys, the most for one key, and the least that is enough for one
 OTHERS_WORK = WORK // 20
 SHOWN = 20  # keys that are shown on a terminal
 
@@ -24,7 +24,7 @@ SHOWN = 20  # keys that are shown on a terminal
 class Found(NamedTuple):
     """The facts about keys in the lines of a report."""
 
-    bad: List[KeyLine]  # the one that the verdict names first, then those that are illegal, then the others
+    bad: List[KeyLine]  # first the key that the verdict names, then the other illegal keys, then the rest
     counts: Dict[str, int]  # "legal", "illegal" and "unknown"
     models: Dict[str, int]  # how many keys have which
 
@@ -53,7 +53,7 @@ def of_key(report: Report, line: KeyLine) -> Report:
 
 def shown(recorded: Recorded, task: Task, report: Report, lines: Sequence[KeyLine], events_of: EventsOf, with_cause: bool,
           decided: Mapping[int, Decided]) -> List[Shown]:
-    """The sentences about each bad key, or, if the history is legal, about the first key that was decided afterwards."""
+    """The sentences about each bad key. If the history is legal, the sentences about the first key that was decided afterwards."""
     if not lines and report.word == "legal" and decided:
         number = next(iter(decided))
         lines = [line for line in report.keys if line.key == number] or [line_of(number, decided[number].options)]
@@ -73,7 +73,7 @@ def options_of(task: Task, line: KeyLine, decided: Optional[Decided]) -> Options
 
 
 def those_looked_at(keys: Sequence[Shown]) -> Iterator[Shown]:
-    """The first key, and as many others as may be held at once."""
+    """The first key, and as many other keys as may be held at once."""
     events = 0
     for place, key in enumerate(keys):
         if key.line.status in IN_PART:

@@ -49,7 +49,7 @@ def say(line: str) -> None:
 
 
 class Asked(NamedTuple):
-    """A history as it goes to shards: in jepmon's own form, and its source if that has another form."""
+    """A history for shards: in jepmon's own form, and its source if this has another form."""
 
     history: History
     concurrency: Optional[int]  # None: it is found
@@ -82,7 +82,7 @@ def opened(given: Given, found: Large, history: Asked) -> Iterator[shards.Sessio
 
 
 def judge_own(given: Given, found: Large, page: Optional[Page], folder: Optional[Folder]) -> Optional[int]:
-    """The same of a history in jepmon's own form; None if it is none after all, so that it is to be read as one of Jepsen's."""
+    """Judges a history in jepmon's own form. None if it is not in this form after all, so that it has to be read as a history of Jepsen."""
     try:
         return _judge_asked(given, found, page, folder)
     except shards.Refused as refused:
@@ -92,13 +92,13 @@ def judge_own(given: Given, found: Large, page: Optional[Page], folder: Optional
 
 
 def is_last_word(line: str, given: Given) -> bool:
-    """Whether a refusal of jepmon's own form stands: that of processes, if the command line says how many threads there are. Whatever
-    else is refused may be a history of Jepsen's."""
+    """Whether a refusal by the reader of jepmon's own form is final. It is so for a refusal of processes, if the command line has the
+    number of threads. A history with another refusal may be in Jepsen's form."""
     return given.concurrency is not None and line.startswith("refused 2 ") or line.startswith("refused 20 ")
 
 
 def judge(given: Given, found: Large, page: Optional[Page], folder: Optional[Folder]) -> int:
-    """Judges it, writes what was asked for, and gives the exit status."""
+    """Judges the history, writes the requested results, and returns the exit status."""
     try:
         return _judge_asked(given, found, page, folder)
     except shards.Refused as refused:
@@ -173,7 +173,7 @@ def _judge(given: Given, found: Large, history: Asked, session: shards.Session, 
 
 
 def _test_readings(given: Given, found: Large, history: Asked, session: shards.Session, path: str, choice: Choice, verdict: Verdict) -> None:
-    """Refuses a verdict that rests on a guess."""
+    """Refuses a verdict that depends on a guess."""
     dead = [line for line in map(key_line, lines_of(path)) if line is not None and line.status in DEAD]
     judged_so = readings.Judged(_recorded(found, history, False), choice, verdict.word, dead, session.options.concurrency,
                                 functools.partial(events_of, session, found, history))
@@ -184,7 +184,7 @@ def _test_readings(given: Given, found: Large, history: Asked, session: shards.S
 
 
 def _word_of(found: Large, options: Options, given: Given) -> str:
-    """The verdict of the history, read as these words say."""
+    """The verdict on the history, read with these options."""
     form = door.JEPSEN if found.made is None else found.made.form
     made = door.translated(found.source, form, given.said).turned(in_shards=True)
     options = options._replace(concurrency=made.concurrency, model=given.model or options.model)
@@ -201,7 +201,7 @@ def _recorded(found: Large, history: Asked, with_faults: bool) -> Recorded:
 
 
 def anew(given: Given, session: shards.Session, path: str, verdict: Verdict) -> Tuple[str, Verdict, wide.Decisions]:
-    """The report with the lines of the keys that are over and were decided, its verdict, and what was found of them."""
+    """The report in which the lines of the decided keys are replaced, its verdict, and the results for these keys."""
     if verdict.word not in ("illegal", "unknown") or given.wide_seconds == 0:
         return path, verdict, {}
     keys = list(wide.over(lines_of(path), session.options))
@@ -230,7 +230,7 @@ def lines_in(texts: Iterable[str]) -> Iterator[str]:
 
 
 def events_of(session: shards.Session, found: Large, history: Asked, keys: List[int]) -> Dict[int, List[Event]]:
-    """The events of each of these keys, as far as they are judged, with their lines in the file that was given."""
+    """The events of each of these keys, as far as they are judged, with their lines in the given file."""
     if found.made is None or history.made is None:
         return large_key.events_of(session, keys, found.texts())
     return turned.with_lines(found.made, history.made, large_key.events_of(session, keys, ()))
@@ -282,7 +282,7 @@ def lines_of(path: str) -> Iterator[str]:
 
 
 def chosen(tally: Tally, model: Optional[str], made: Optional[Turned] = None) -> Choice:
-    """The model of all keys: the one that is given, else the strictest that has all operations and answers that there are."""
+    """The model of all keys: the given one, otherwise the strictest model that has all operations and answers of the history."""
     if model is not None:
         return Choice({}, model, "as --model says")
     if made is not None and made.model is not None:
@@ -340,7 +340,7 @@ def nil_hints(tally: Tally, choice: Choice, given: Given) -> Iterator[str]:
 
 
 def hints_of_refusal(found: Large, line: str, options: Options) -> Iterator[str]:
-    """Why an event is refused, if it is near the beginning of a file of jepmon's own form."""
+    """Why an event is refused, if it is near the beginning of a file in jepmon's own form."""
     index = line.rpartition(" event ")[2]
     if found.path is not None and found.made is None and index.isdigit() and int(index) < MOST_EVENTS and options.concurrency <= kinds.THREADS:
         yield from explained(line, large_key.front_lines(found.path, int(index) + 1), Explained(options.concurrency, options.model))

@@ -1,4 +1,4 @@
-"""The cause of a verdict in words, and the page that shows it: what jepmon.causes and jepmon.page make of the bad key alone."""
+"""The cause of a verdict in words, and the page that shows it. jepmon.causes and jepmon.page make both from the bad key alone."""
 from __future__ import annotations
 
 import shutil
@@ -18,20 +18,20 @@ from ..wide import Decided
 from .judging import Task
 from .words import NAME
 
-BY_PART = ("The answers of jepmon are proved. So is this of each sort of removal: if the rest of a key is illegal, so is the key. That the tool makes "
-           "only such removals is tested, and not proved.")
+BY_PART = ("The answers of jepmon are proved. This is proved of each sort of removal: if the rest of a key is illegal, the key is illegal. Tests show, "
+           "and no proof, that the tool makes only such removals.")
 BY_ORDER = ("The verdict is jepmon's, and proved, and so is the order: jepmon confirm says that it is one of the operations of this key. The "
             "other sentences are not proved.")
 WIDTH = 130  # columns, where standard error is no terminal
 
 
 class Shown(NamedTuple):
-    """A bad key, and what there is to show of it."""
+    """A bad key, and the facts to show about it."""
 
     line: KeyLine  # of the report
     report: Report  # of this key alone
     options: Options  # by which this key was judged
-    events: Sequence[Event] = ()  # none where it was judged in part, or not looked at since there are so many
+    events: Sequence[Event] = ()  # empty if it was judged in part, or not read since there are so many
     cause: Optional[causes.Cause] = None
     decided: Optional[Decided] = None  # where it was over its budget, and was decided afterwards
 
@@ -82,12 +82,12 @@ def sentences(key: Shown) -> List[str]:
     who = "jepmon confirm says that it is one" if key.decided.is_proved else "a program that is not proved says that it is one"
     if key.decided.index is None:
         return [*said, f"The key was over its budget, and an order of all its operations was found afterwards; {who}."]
-    return [*said, "The key was over its budget, and was decided afterwards: the smallest part is illegal by jepmon check, and so is the key, "
-            f"which is proved of each sort of removal; and there is an order of the events before event {key.decided.index}; {who}."]
+    return [*said, "The key was over its budget, and was decided afterwards. The smallest part is illegal by jepmon check, and so is the key: "
+            f"this is proved of each sort of removal. There is an order of the events before event {key.decided.index}; {who}."]
 
 
 def proviso(key: Shown) -> str:
-    """The proved part of a decision that was made afterwards; nothing for any other key."""
+    """Which part of a later decision is proved. Empty for any other key."""
     if key.decided is None or key.decided.index is None and not key.decided.is_proved:
         return ""
     return BY_ORDER if key.decided.index is None else BY_PART
@@ -100,7 +100,7 @@ def page_of(name: str, found: Recorded, task: Task, key: Shown) -> page.PageInpu
 
 
 def walked(found: Recorded, key: Shown) -> Optional[page.Walked]:
-    """The possible courses of the key. None for an unknown key of a wide kind: no walk counts as the program does."""
+    """The possible courses of the key. None for an unknown key of a wide kind, since no walk counts like the program."""
     if key.decided is not None and key.report.word != "unknown":
         return page.ordered(key.events, key.options.model, key.options.concurrency, key.decided.order, key.decided.index,
                             found.value_names)

@@ -1,4 +1,4 @@
-"""The parts of a verdict that may be due to how values were read: an answer of nil, and one that nobody has written."""
+"""Answers whose meaning may change a verdict: an answer of nil, and an answer that nobody has written."""
 from __future__ import annotations
 
 import re
@@ -15,7 +15,7 @@ NIL = "--nil-is-absent or --nil-is-unknown"  # which settles what nil says
 
 
 def account_for_nils(count: int, given: Given, account: Account) -> None:
-    """Records the number of nil answers, which may say that a value is lost, that are taken to say nothing."""
+    """Records a guess: the number of nil answers that count as saying nothing, although they may say that a value is lost."""
     if count and not given.nil_is_unknown:
         account.guess(ABSENT, f"nil says nothing of what a register holds, and {count:,} {'read' if count == 1 else 'reads'} answered it after a "
                       "value was there", NIL)
@@ -27,7 +27,8 @@ def quoted(text: str) -> str:
 
 
 def strange_answer(line: KeyLine, events: Sequence[Event], concurrency: int) -> Optional[int]:
-    """The value that the fatal operation found in an illegal register or queue, if no operation of the key can have brought it in."""
+    """The value that the fatal operation found in an illegal register or queue, if no operation of the key can have brought this value
+    in."""
     made = operations(events, concurrency)
     fatal = fatal_of(line, made)
     if fatal is None:
@@ -42,7 +43,7 @@ def fatal_of(line: KeyLine, made: Sequence[Operation]) -> Optional[Operation]:
 
 
 def read_without_answer(line: KeyLine, events: Sequence[Event], concurrency: int) -> Optional[Event]:
-    """The completion that makes a set illegal, if it is that of a read which answered nothing."""
+    """The completion that makes a set illegal, if it is the completion of a read without an answer."""
     fatal = fatal_of(line, operations(events, concurrency)) if line.model == "set" else None
     is_empty = fatal is not None and fatal.completion is not None and fatal.completion.value is None
     return fatal.completion if fatal is not None and is_empty else None

@@ -1,4 +1,4 @@
-"""The events of one key of a recorded history, without reading those of the others."""
+"""The events of one key of a recorded history, without reading the events of other keys."""
 from __future__ import annotations
 
 import re
@@ -27,7 +27,7 @@ def with_fields(found: Recorded, keys: Iterable[int]) -> Dict[int, List[Event]]:
 
 
 def of_keys(found: Recorded, keys: Iterable[int]) -> Dict[int, List[Event]]:
-    """The events of each of these keys, with their indices in the whole history and their lines in the file that was given."""
+    """The events of each of these keys, with their indices in the whole history and their lines in the given file."""
     events: Dict[int, List[Event]] = {key: [] for key in keys}
     wanted = frozenset(map(str, events))
     index = -1

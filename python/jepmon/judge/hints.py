@@ -55,7 +55,7 @@ def outcomes(counts: Counter[str]) -> Iterator[str]:
 
 
 def after(history: Recorded, task: Task, report: Report, given: Given) -> Iterator[str]:
-    """The notes in addition to the report. The function asks the program how other readings would be judged."""
+    """The notes in addition to the report. Asks the program for the verdicts on other readings."""
     if task.by_ends:
         yield equal_values.note(task.by_ends, history.key_names)
     if report.key is not None and report.key in history.key_names:
@@ -78,8 +78,8 @@ def _of_refusal(history: Recorded, task: Task, report: Report, index: int) -> It
 
 
 def is_legal_as(model: str, events: Sequence[Event], options: Options) -> bool:
-    """Whether the program calls a key legal by another model. If it counts all ends it is asked only where a walk comes to that, which does
-    not go on for ever."""
+    """Whether the program says `legal` for a key by another model. If the program counts all ends, it is asked only if a walk, which has a
+    limit, also says `legal`."""
     asked = as_asked(options)._replace(model=model)
     try:
         if not asked.is_wide() and walk(events, model, options.budget).status != "alive":
@@ -90,8 +90,8 @@ def is_legal_as(model: str, events: Sequence[Event], options: Options) -> bool:
 
 
 def of_unknown(keys: Sequence[KeyLine], options: Options) -> Iterator[str]:
-    """Reports that the program is too old to judge the first of these keys, which is over its budget, as a wide kind; or that values of it
-    are equal."""
+    """Notes on the first of these keys, which is over its budget: the program is too old to judge it as a wide kind, or its values are
+    equal."""
     note = by_ends_note(options.of_line(keys[0])) if keys and keys[0].status == "over" else ""
     if note:
         yield note
@@ -126,7 +126,7 @@ def _of_nil(history: Recorded, task: Task, given: Given) -> Iterator[str]:
 def of_nil_reads(reads: int, of_nil: int, is_unknown: bool) -> Iterator[str]:
     """Reports how many reads of registers are answered by nil, and how to have them judged, unless the user says that nil says nothing."""
     if of_nil == reads:
-        yield f"NOTHING IS SAID OF WHAT A REGISTER HOLDS: each read is answered by nil, which fits whatever it holds: {of_nil}"
+        yield f"NO READ OF A REGISTER CAN BE WRONG: each read answers nil, which fits every value: {of_nil}"
     else:
         yield f"reads answered by nil, which fits whatever a register holds: {of_nil} of {reads}"
     if not is_unknown:

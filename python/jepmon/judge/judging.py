@@ -1,4 +1,4 @@
-"""Has a history judged by the program: by `jepmon check` if all keys are of one kind, else by `jepmon script`."""
+"""Has the program judge a history: by `jepmon check` if all keys have one kind, otherwise by `jepmon script`."""
 from __future__ import annotations
 
 import os
@@ -23,13 +23,13 @@ class Task(NamedTuple):
     budgets: Dict[int, int]  # of keys that have one of their own
     options: Options  # its model is the common one, where there is one
     in_shards: bool = False
-    wide_seconds: Optional[int] = None  # in which keys that are over their budget were decided afterwards, where some were
+    wide_seconds: Optional[int] = None  # in which keys over their budget were decided afterwards, if some were
     least: int = 1  # operations whose answers say something, for a verdict
-    by_ends: Sequence[int] = ()  # keys that are judged by ends since their values are equal
+    by_ends: Sequence[int] = ()  # keys that are judged by ends, since their values are equal
 
     @property
     def commands(self) -> List[str]:
-        """The lines that say what the keys are, if they are not all alike."""
+        """The lines with the kinds and budgets of keys, if these are not all the same."""
         by_ends = () if self.options.by_ends else self.by_ends
         keys: Iterable[int] = by_ends if self.choice.common else self.choice.models
         return ([f"[:model {key} :{self.options_of(key).kind()}]" for key in keys]
@@ -58,11 +58,11 @@ class Task(NamedTuple):
 
     @property
     def by_judge(self) -> bool:
-        """Whether it takes jepmon-judge to judge it again so."""
+        """Whether only jepmon-judge can judge the history again in this way."""
         return self.in_shards or self.wide_seconds is not None
 
     def again(self, file: str) -> str:
-        """The command that judges it again from this file, which has the commands too."""
+        """The command that judges the history again from this file, which also has the commands."""
         if self.by_judge:
             words = [f"--concurrency {self.options.concurrency}", f"--budget {self.options.budget}"]
             words += [f"--model {self.choice.common}"] if self.choice.common else []
@@ -77,7 +77,7 @@ class Task(NamedTuple):
 
 
 def judged(task: Task) -> Tuple[Task, Report]:
-    """The program's reply, and the task with the keys that are judged by ends since their values are equal."""
+    """The program's reply, and the task with the keys that were judged by ends, since their values are equal."""
     raw = task.text.encode()
     if not task.commands:
         report = program.check(raw, task.options)
@@ -88,7 +88,7 @@ def judged(task: Task) -> Tuple[Task, Report]:
 
 
 def _by_script(task: Task, raw: bytes, keys: Sequence[KeyLine]) -> Report:
-    """The verdict of `jepmon script` below the lines of the keys. A line that is refused ends it."""
+    """The verdict of `jepmon script`, below the lines of the keys. A refused line ends the script."""
     name = program.find_program()
     commands = "".join(command + "\n" for command in task.commands).encode()
     try:

@@ -1,4 +1,4 @@
-"""Histories that are judged by shards (jepmon.shards): those of which it is said so, and those beyond the limits of one check."""
+"""Histories that are judged by shards (jepmon.shards): because the user asks for it, or because they exceed the limits of one check."""
 from __future__ import annotations
 
 import os
@@ -22,7 +22,7 @@ class Large(NamedTuple):
     """A history that is judged by shards."""
 
     source: Source
-    made: Optional[Translation]  # what was made of it; None if it is in jepmon's own form
+    made: Optional[Translation]  # the converted history; None if it is in jepmon's own form
     reason: str  # why it is, if nobody asked for it
 
     @property
@@ -40,7 +40,7 @@ class Large(NamedTuple):
         return self.path if self.path is not None else self.source.texts()
 
     def texts(self) -> Iterator[str]:
-        """The texts of its file, up to bytes that are not UTF-8, which may stand in comments."""
+        """The texts of its file, up to bytes that are not UTF-8, which may be in comments."""
         try:
             yield from self.source.texts()
         except Refused:
@@ -64,12 +64,12 @@ def of_jepsen(source: Source, given: Given) -> Large:
 
 
 def reason_of_own(source: Source) -> Optional[str]:
-    """Why one check does not take a history in jepmon's own form; None if one may."""
+    """Why one check does not take a history in jepmon's own form. None if it may take the history."""
     return TOO_MANY if has_too_many(source) else None
 
 
 def has_too_many(source: Source) -> bool:
-    """Whether a text has more lines that begin as an event than one check takes."""
+    """Whether a text has more lines that begin like an event than one check takes."""
     if source.path is not None and os.path.getsize(source.path) < kinds.EVENTS * SHORTEST // (1 if source.is_plain else PACKED):
         return False
     count = 0
@@ -81,7 +81,7 @@ def has_too_many(source: Source) -> bool:
 
 
 def refuse_commands(text: str) -> None:
-    """Refuses a history in jepmon's own form that has a command beside its events."""
+    """Refuses a history in jepmon's own form that has a command between its events."""
     found = own.COMMAND_LINE.search(text)
     if found is not None:
         line = text.count("\n", 0, found.start()) + 1
@@ -89,5 +89,5 @@ def refuse_commands(text: str) -> None:
 
 
 def has_wide_key(text: str) -> bool:
-    """Whether a text in jepmon's own form has a key that one check does not take, and shards do."""
+    """Whether a text in jepmon's own form has a key that shards take and one check does not."""
     return any(int(key) not in kinds.KEYS for key in WIDE_KEY.findall(text))

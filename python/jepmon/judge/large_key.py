@@ -13,8 +13,8 @@ OWN_FIELDS = 6  # colons before a word in an event without further fields
 
 
 def events_of(session: Session, keys: Sequence[int], texts: Iterable[str]) -> Dict[int, List[Event]]:
-    """The events of each key as far as they are judged; with their lines, and further fields, if the texts of the history have an event a
-    line."""
+    """The events of each key, as far as they are judged. They have their lines and further fields, if the texts of the history have one
+    event in each line."""
     events = {key: [event_of(each, key) for each in found] for key, found in session.events_of_keys(keys)}
     found = dict(lines_of(texts, keys, {event.index for of_key in events.values() for event in of_key}))
     return {key: [told(event, *found[event.index]) if event.index in found else event for event in of_key]
@@ -36,7 +36,7 @@ def told(event: Event, number: int, line: str) -> Event:
 
 
 def lines_of(texts: Iterable[str], keys: Sequence[int], indices: "set[int]") -> Iterator[Tuple[int, Tuple[int, str]]]:
-    """The number and the text of each line that has an event of these keys at these indices, if each event is a line."""
+    """The number and the text of each line with an event of these keys at these indices, if each event is a line."""
     wanted = re.compile(rf":value \[(?:{'|'.join(map(str, keys))}) ")
     index, number = -1, 1
     for text in texts:
@@ -51,7 +51,7 @@ def lines_of(texts: Iterable[str], keys: Sequence[int], indices: "set[int]") -> 
 
 
 def front_lines(path: str, events: int) -> bytes:
-    """The lines of a file up to so many that begin as an event."""
+    """The first lines of a file, up to this number of lines that begin like an event."""
     lines: List[bytes] = []
     with open(path, "rb") as file:
         for line in file:

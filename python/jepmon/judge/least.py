@@ -1,5 +1,5 @@
-"""Whether a history says enough of the store for a verdict. One in which nothing worked is legal, and so is one of writes alone: neither
-says anything of the store."""
+"""Whether a history has enough answers for a verdict. A history in which nothing worked is legal, and so is a history of writes alone:
+neither says anything about the store."""
 from __future__ import annotations
 
 from typing import Mapping
@@ -10,12 +10,12 @@ TELLING = ("cas", "acquire", "release", "dequeue")  # an ok of these is an answe
 
 
 def telling(outcomes: Mapping[str, int], reads: int) -> int:
-    """How many operations were ok whose answers say something: these operations by "NAME ok", and the number of reads with an answer."""
+    """The number of ok operations whose answers say something: these operations by "NAME ok", and the number of reads with an answer."""
     return sum(outcomes.get(f"{name} ok", 0) for name in TELLING) + reads
 
 
 def reason(given: Given, word: str, count: int) -> str:
-    """Why there is no verdict, if it would depend on too few answers; nothing if there is one."""
+    """Why there is no verdict, if it would depend on too few answers. Empty if there is a verdict."""
     if word != "legal" or count >= given.least:
         return ""
     what = {0: "no operation was ok whose answer says", 1: "1 operation was ok whose answer says"}.get(

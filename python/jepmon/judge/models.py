@@ -1,4 +1,4 @@
-"""The model of each key of a history, by its operations and answers; and how many threads its processes have."""
+"""The model of each key of a history, by its operations and answers; and the number of threads of its processes."""
 from __future__ import annotations
 
 from typing import Dict, Mapping, NamedTuple, Optional, Sequence
@@ -25,8 +25,8 @@ class Choice(NamedTuple):
 
 
 def chosen(facts: Facts, given: Optional[str], stated: Mapping[int, str], known: Mapping[int, Sequence[str]]) -> Choice:
-    """The model of each key: the one that the history states for it, else the given one, else one of the known possible ones, else one by
-    its operations."""
+    """The model of each key. It is the model that the history states for the key. Otherwise it is the given model, otherwise one of the
+    known possible models, and otherwise a model by its operations."""
     by_key: Dict[int, Sequence[str]] = {}
     for key, of_key in facts.keys.items():
         by_key[key] = [stated[key]] if key in stated else [given] if given else known[key] if key in known else possible(of_key)
@@ -50,7 +50,7 @@ def account_for(choice: Choice, account: Account) -> None:
 
 
 def _test_counter(key: int, facts: KeyFacts, models: Sequence[str]) -> None:
-    """A read of a set is answered by its members. One that is answered by a sum is of a counter."""
+    """Refuses a counter: a read of a set answers its members, and a read of a counter answers a sum."""
     if list(models) == ["set"] and facts.reads > facts.reads_of_nil + facts.reads_of_sets:
         raise Refused(f"key {key} has adds, and reads answered by integers: this is a counter, which jepmon does not judge "
                       "(jepsen.checker/counter does)")
@@ -80,7 +80,7 @@ def _counted(models: Dict[int, str]) -> str:
 
 
 def answered(facts: Facts) -> int:
-    """How many reads have an answer that says something: nil fits whatever a register holds."""
+    """The number of reads whose answer says something. Nil fits every value of a register."""
     return sum(key.reads - key.reads_of_nil for key in facts.keys.values())
 
 

@@ -1,4 +1,5 @@
-"""Files that are written at the end: that their place takes them is tested at the beginning, and each comes whole under its name."""
+"""Files that are written at the end. At the beginning the tool tests that it can write them. A file gets its name only when it is
+complete."""
 from __future__ import annotations
 
 import os
@@ -10,7 +11,7 @@ from ..forms import Refused
 from ..tools import command
 from ..tools.errors import OutputError
 
-AGAIN = "judge-again"  # the file by which a folder is known as one that was written here
+AGAIN = "judge-again"  # a folder with this file was written by this tool
 VERDICT = "verdict.txt"
 
 
@@ -42,7 +43,7 @@ class Page:
         put_keys(self.path.with_name(self.folder), keys)
 
     def remove(self) -> bool:
-        """Removes what an earlier run has written; whether there was anything."""
+        """Removes the files of an earlier run. Returns whether there were any."""
         was_there = self.path.is_file() and self.path.stat().st_size > 0
         if was_there:
             self.path.unlink()
@@ -51,7 +52,7 @@ class Page:
 
 
 class Folder:
-    """A folder, as --out names it: a new one, an empty one, or one that was written here before."""
+    """A folder, as --out names it: a new folder, an empty one, or one that this tool has written before."""
 
     def __init__(self, path: str) -> None:
         self.path = pathlib.Path(path)
@@ -77,8 +78,8 @@ class Folder:
             self._made.insert(0, path)
 
     def put(self, files: Dict[str, Optional[str]], copies: Mapping[str, str] = {}) -> None:
-        """Writes these files, the verdict last; those without a text are removed, as an earlier run may have left them. Copies are made
-        of files that are elsewhere."""
+        """Writes these files, the verdict last. Removes files without a text, which an earlier run may have left. Copies files that are
+        elsewhere."""
         remove(self.path / VERDICT)
         for name, path in copies.items():
             command.copy_file(path, self.path / name)
@@ -104,7 +105,7 @@ class Folder:
 
 
 def put_keys(folder: pathlib.Path, pages: Mapping[str, str]) -> None:
-    """Writes these pages into a folder, in place of those of an earlier run, which are known by their names."""
+    """Writes these pages into a folder. They replace the pages of an earlier run, which have such names."""
     try:
         if pages:
             folder.mkdir(exist_ok=True)
@@ -122,7 +123,7 @@ def put_keys(folder: pathlib.Path, pages: Mapping[str, str]) -> None:
 
 
 def _test_file(path: pathlib.Path, name: str) -> None:
-    """Tests that a file can be written at this place, as far as that is seen before. A refusal calls it by this name."""
+    """Tests that a file can be written at this place, as far as this can be known before. A refusal uses this name of the file."""
     try:
         if path.is_dir():
             raise Refused(f"{name}: this is a folder; name a file")
@@ -142,7 +143,7 @@ def _beside(path: pathlib.Path) -> pathlib.Path:
 
 
 def _is_special(path: pathlib.Path) -> bool:
-    """Whether it is a device or a pipe, which is written as it is."""
+    """Whether it is a device or a pipe, to which the tool writes directly."""
     return path.exists() and not stat.S_ISREG(path.stat().st_mode)
 
 

@@ -18,7 +18,7 @@ from .words import Given as Words
 from .words import NAME
 
 RATES = "rates.html"
-SHORT = 1_000_000  # nanoseconds: what a whole history takes more than
+SHORT = 1_000_000  # nanoseconds: a whole history takes longer than this
 
 
 Told = Tuple[str, str, str, int, str, Optional[int]]  # an event: its type, process, operation, key, part and time
@@ -33,7 +33,7 @@ class Timed(NamedTuple):
 
 
 class Given(NamedTuple):
-    """The history that a page is of, and what was found of it."""
+    """The history of a page, and the facts about it."""
 
     name: str
     form: str
@@ -41,7 +41,7 @@ class Given(NamedTuple):
     found: Recorded
     task: Task
     report: Report
-    lines: Mapping[int, KeyLine]  # of the report: those of keys that are not alive
+    lines: Mapping[int, KeyLine]  # the lines of the report on keys that are not alive
     told: Callable[[], Iterator[Told]]  # the events of clients
 
 
@@ -74,7 +74,7 @@ def beside(path: str) -> str:
 
 
 def put(path: str, text: str) -> None:
-    """Writes it; if another file has the name, that is said."""
+    """Writes the page. If another file has the name, prints this."""
     try:
         Page(path)
         command.write_file(path, text)
@@ -132,7 +132,7 @@ def read(given: Given) -> Optional[Timed]:
 
 
 def events_of(lines: Iterable[str], times: Optional[Iterable[Optional[int]]]) -> Iterator[Told]:
-    """The events of clients among these lines; their times are those of the history that it was made from, or stand in the lines."""
+    """The events of clients among these lines. Their times are those of the original history, or are in the lines."""
     now = iter(times if times is not None else ())
     for line in lines:
         if not line.startswith("{"):

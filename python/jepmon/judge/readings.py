@@ -1,4 +1,5 @@
-"""A verdict that rests on a guess is refused if the input, read another way, has another verdict: the options that settle it are named."""
+"""Refuses a verdict that depends on a guess: the input, read in another way, has another verdict. The refusal names the options that settle
+the guess."""
 from __future__ import annotations
 
 from typing import Callable, Dict, Iterator, List, Mapping, NamedTuple, Sequence
@@ -23,7 +24,7 @@ from .words import Given
 
 VERDICTS = ("legal", "illegal")
 OF_EMPTY_QUEUES = ("", "0", "-1", "None", "null", "NULL", "false", "False", "empty")  # answers that may say that there was nothing
-MOST_KEYS = 64  # illegal ones of which it is asked whether an answer came out of nowhere
+MOST_KEYS = 64  # illegal keys that are searched for an answer that nobody has written
 
 
 class Way(NamedTuple):
@@ -47,7 +48,7 @@ class Judged(NamedTuple):
 
 
 def test(given: Given, judged: Judged, judge: Callable[[Given], str]) -> None:
-    """Refuses a verdict that another reading of the input does not have. `judge` gives the verdict of such a reading."""
+    """Refuses a verdict if another reading of the input has another verdict. `judge` gives the verdict of such a reading."""
     if judged.word not in VERDICTS:
         return
     if not judged.found.is_own:
@@ -57,7 +58,7 @@ def test(given: Given, judged: Judged, judge: Callable[[Given], str]) -> None:
         _test_one(given, judged.word, tried, judge)
     if judged.word == "illegal" and any(guess.assumed == APART for guess in judged.found.account.guesses):
         raise Refused("the history is illegal, and by their times some clients had long ended when others began: say --skew 0ms if their clocks "
-                      "agree, or by how much they may be wrong, as --skew 5s")
+                      "agree, or by how much they may be wrong, for example --skew 5s")
 
 
 def _test_sets(judged: Judged) -> None:
@@ -99,7 +100,7 @@ def _ways(given: Given, judged: Judged) -> Iterator[Way]:
 
 
 def _of_both(guess: Guess, given: Given) -> Iterator[Way]:
-    """The readings by which an illegal history may be legal, and a legal one illegal."""
+    """The readings by which an illegal history may be legal, and a legal history illegal."""
     if guess.of == TYPE:
         yield Way(lambda given: given._replace(values=NUMBERS), guess.assumed, "they are one", "--values exact or --values number")
     if guess.option == BY_MAPPING:
@@ -113,7 +114,7 @@ def _of_both(guess: Guess, given: Given) -> Iterator[Way]:
 
 
 def _refusals_of_http(given: Given) -> Given:
-    """With statuses by which a server refuses what it was asked as failures."""
+    """The reading in which the HTTP statuses of a refused request are failures."""
     failures = {str(status): "fail" for status in range(400, 500)}
     return given._replace(mapping=given.mapping._replace(outcomes={**failures, **given.mapping.outcomes}))
 
@@ -125,7 +126,7 @@ def _with_outcome(what: str, kind: str) -> Callable[[Given], Given]:
 def _of_order(guess: Guess, judged: Judged) -> Iterator[Way]:
     """The readings that assume less about the order of events, or of messages."""
     if guess.option == EITHER:
-        yield Way(_ordered(TIMES), "events of several clients with one time took place in the order in which they stand", "they were open at once", EITHER)
+        yield Way(_ordered(TIMES), "events of several clients with one time took place in the order of their lines", "they were open at once", EITHER)
     elif guess.option == BY_TIMES and judged.found.translation is not None and are_mixed(judged.found.translation):
         yield Way(_ordered(LINES), "events took place in the order of their times", "they took place in that of their lines",
                   f"{BY_TIMES} or --order lines")
@@ -140,14 +141,14 @@ def _ordered(order: str) -> Callable[[Given], Given]:
 
 
 def are_mixed(made: Translation) -> bool:
-    """Whether the calls of clients go back in time from line to line more often than files of these clients do, one behind another."""
+    """Whether the calls of clients go back in time from line to line more often than in concatenated files of these clients."""
     begun = [(line, rank, process) for rank, (kind, process, line) in enumerate(made.moments()) if kind == ":invoke"]
     ranks = [rank for _, rank, _ in sorted(begun)]
     return sum(after < before for before, after in zip(ranks, ranks[1:])) >= len({process for _, _, process in begun})
 
 
 def _of_answers(given: Given, judged: Judged) -> Iterator[Way]:
-    """The reading by which answers out of nowhere are those of missing keys, or of the first values of keys."""
+    """The reading in which answers that nobody has written are those of missing keys, or the first values of keys."""
     if given.initial is not None or given.said.missing_is_judged:
         return
     dead = {line.key: line for line in judged.keys if line.status in DEAD}

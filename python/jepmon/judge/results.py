@@ -23,7 +23,7 @@ class Results(NamedTuple):
     found: Recorded
     task: Task
     report: Report
-    keys: Sequence[causes.Shown]  # those that are not legal; else the first that was decided afterwards
+    keys: Sequence[causes.Shown]  # the keys that are not legal; otherwise the first key that was decided afterwards
     lines: Sequence[str] = ()  # that tell the cause, for a terminal
     copies: Mapping[str, str] = {}  # files that are whole already: their names in the folder, and where they are
 
@@ -44,11 +44,11 @@ def write(to: Optional[Page], folder: Optional[Folder], results: Results) -> Non
         written = {**files(results), PAGE: pages.get(PAGE)}
         folder.put({name: each for name, each in written.items() if name not in results.copies}, results.copies)
         folder.put_keys(KEYS, {name: text for name, text in pages.items() if name != PAGE})
-        command.say(NAME, f"what came of it is in {folder.path}")
+        command.say(NAME, f"the results are in {folder.path}")
 
 
 def pages_of(results: Results, first: str, folder: str) -> Dict[str, str]:
-    """The page of the first key under its name, with links to those of the others, which have their names in the folder."""
+    """The page of the first key under its name, with links to the pages of the other keys, which have their names in the folder."""
     keys = [key for key in results.keys if key.events]
     if not keys:
         return {}

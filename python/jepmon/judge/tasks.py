@@ -1,4 +1,4 @@
-"""How a recorded history is to be judged, and what comes of one that is judged by one check."""
+"""The task for judging a recorded history, and the result of one check."""
 from __future__ import annotations
 
 from ..forms import Refused
@@ -26,5 +26,5 @@ def of(found: Recorded, given: Given) -> Task:
 
 
 def word_of(source: Source, given: Given) -> str:
-    """The verdict of a history, read as these words say."""
+    """The verdict on a history, read with these options."""
     return judged(of(recorded(source, given.said), given))[1].word

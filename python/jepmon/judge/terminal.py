@@ -1,4 +1,4 @@
-"""The cause on standard error: of the first bad key in full, of each other one in a line."""
+"""The cause on standard error: that of the first bad key in full, and that of each other bad key in a line."""
 from __future__ import annotations
 
 from typing import List, Sequence

@@ -23,7 +23,7 @@ from .judging import judged
 from .outputs import Folder, Page
 from .words import NAME, Given
 
-LARGE = 10_000_000  # characters of a history from which on it is said that reading it takes some time
+LARGE = 10_000_000  # characters of a history from which the tool says that reading takes some time
 
 
 def say(line: str) -> None:
@@ -113,7 +113,7 @@ def named(source: files.Source) -> Iterator[None]:
 
 
 def _whole(made: Translation) -> Tuple[Optional[str], Optional[Recorded]]:
-    """The history for one check, or why one does not take it."""
+    """The history for one check, or the reason why one check does not take it."""
     reason = made.reason_for_shards()
     try:
         return reason, of_translation(made) if reason is None else None
@@ -122,7 +122,7 @@ def _whole(made: Translation) -> Tuple[Optional[str], Optional[Recorded]]:
 
 
 def _judge_own(source: files.Source, given: Given, page: Optional[Page], folder: Optional[Folder]) -> Optional[int]:
-    """Judges a history in jepmon's own form; None if it is none after all, so that it is read as one of Jepsen's."""
+    """Judges a history in jepmon's own form. None if it is not in this form after all, so that it is read as a history of Jepsen."""
     with named(source):
         reason = "" if large.is_asked(given) else large.reason_of_own(source)
         found = of_own(source) if reason is None else None

@@ -1,4 +1,4 @@
-"""A history of another form than jepmon's own that is judged by shards: its events as those of the file."""
+"""A history in another form than jepmon's own, judged by shards: its events, with the facts in its file."""
 from __future__ import annotations
 
 from typing import Dict, List, Mapping, Sequence
@@ -18,7 +18,7 @@ def recorded(made: Translation, turned: Turned) -> Recorded:
 
 
 def with_lines(made: Translation, turned: Turned, keys: Mapping[int, Sequence[Event]]) -> Dict[int, List[Event]]:
-    """The events of each key with their lines in the file, and what else these say of them."""
+    """The events of each key, with their line numbers in the file and the times and errors that the file gives."""
     wanted = {event.index for events in keys.values() for event in events}
     lines = {index: line for index, line in enumerate(made.lines(turned.begun)) if index in wanted}
     further = made.beside(wanted, turned.begun)

@@ -1,4 +1,4 @@
-"""Decides keys that are over their budget by the later events (jepmon.wide), and adds the results to the report."""
+"""Decides keys over their budget with the help of later events (jepmon.wide), and adds the results to the report."""
 from __future__ import annotations
 
 from typing import Callable, Dict, Iterable, Iterator, List, NamedTuple, Optional, Tuple
@@ -12,7 +12,7 @@ from .hints import counted
 from .words import NAME
 
 TOGETHER = 200_000  # events of keys that are held at once
-SHARES = 4  # of the time that is left, by the number of keys that are left, which one key may take
+SHARES = 4  # one key may take this many times the remaining time divided by the remaining keys
 EventsOf = Callable[[List[int]], Dict[int, List[Event]]]
 
 
@@ -38,7 +38,7 @@ def over(lines: Iterable[str], options: Options) -> Iterator[Over]:
 
 
 def decisions(keys: List[Over], events: Iterable[Tuple[int, List[Event]]], seconds: int) -> Decisions:
-    """The results for these keys, found in at most this many seconds. Their events come key by key."""
+    """The results for these keys, found in at most this number of seconds. Their events come key by key."""
     found: Decisions = {}
     clock = Clock(seconds)
     options = {one.key: one.options for one in keys}
@@ -55,7 +55,7 @@ def decisions(keys: List[Over], events: Iterable[Tuple[int, List[Event]]], secon
 
 
 def decided_or_said(key: int, events: List[Event], options: Options, clock: Clock) -> Optional[Decided]:
-    """The result for a key. The verdict stands as it was, whatever comes of this."""
+    """The result for a key. A failure here does not change the verdict."""
     try:
         return decide(operations(events, options.concurrency), options, clock)
     except Exception as fault:
@@ -64,7 +64,7 @@ def decided_or_said(key: int, events: List[Event], options: Options, clock: Cloc
 
 
 def in_groups(keys: Iterable[Over], events_of: EventsOf) -> Iterator[Tuple[int, List[Event]]]:
-    """The events of each key, asked for together of as many keys as may be held at once."""
+    """The events of each key. They are requested together for as many keys as may be held at once."""
     for group in grouped(keys):
         events = events_of([one.key for one in group])
         for one in group:
@@ -102,7 +102,7 @@ def said(found: Decisions, total: int, seconds: int) -> Iterator[str]:
 
 
 class Marking:
-    """Marks the lines of keys that were decided, and finds the verdict of all."""
+    """Marks the lines of decided keys, and finds the verdict on all keys."""
 
     def __init__(self, found: Decisions) -> None:
         self._found = found
@@ -135,7 +135,7 @@ class Marking:
 
 
 def anew(report: Report, options: Options, events_of: EventsOf, seconds: int) -> Tuple[Report, Decisions]:
-    """The report with the lines of the keys that are over and were decided, and what was found of them."""
+    """The report with the new lines of the decided keys, and the results for these keys."""
     if report.word not in ("illegal", "unknown") or seconds == 0:
         return report, {}
     keys = list(over(report.text.splitlines(), options))

@@ -29,14 +29,14 @@ class Bad(NamedTuple):
 
 
 class Told(NamedTuple):
-    """The text about it; empty if a fault of this package was in the way, which standard error reports."""
+    """The text about the key. Empty after a fault of this package, which standard error reports."""
 
     cause: List[str]
     page: str
 
 
 def told(folder: RunFolder, bad: Bad) -> Told:
-    """The verdict stands whatever comes of this, so that nothing is raised."""
+    """The text about a bad key. Raises nothing, since a failure here must not change the verdict."""
     try:
         return _told(folder, bad)
     except (ProgramError, OSError) as fault:
@@ -67,7 +67,7 @@ def _told(folder: RunFolder, bad: Bad) -> Told:
 
 
 def read_again(folder: RunFolder) -> List[str]:
-    """The answers as the test read the key once more."""
+    """The answers of the reads of the key after the finding."""
     try:
         return (folder.path / AFTER).read_text("utf-8").splitlines()
     except OSError:
@@ -75,8 +75,8 @@ def read_again(folder: RunFolder) -> List[str]:
 
 
 def read(history: pathlib.Path, key: int) -> Tuple[List[Event], List[Fault]]:
-    """The events of the key, with their places in the whole history, and the faults that the history notes. The history is one that
-    was written here: an event a line."""
+    """The events of the key, with their places in the whole history, and the faults in its notes. This package has written the history,
+    with one event in each line."""
     with open(history, encoding="utf-8", newline="\n") as file:
         lines = file.read().split("\n")
     events: List[Event] = []
@@ -90,7 +90,7 @@ def read(history: pathlib.Path, key: int) -> Tuple[List[Event], List[Fault]]:
 
 
 def event_of(line: str, index: int, number: int) -> Event:
-    """The event of a line that was written here, fast: a key may have a hundred thousand."""
+    """The event of a line that this package has written. It is fast, since a key may have a hundred thousand events."""
     found = LINE.fullmatch(line)
     time = TIME.fullmatch(found[6] or "") if found is not None else None
     if found is None or time is None:
@@ -100,7 +100,7 @@ def event_of(line: str, index: int, number: int) -> Event:
 
 
 def report_of(bad: Bad, events: int) -> Report:
-    """The line of `jepmon check` about this key, as far as the reply has it."""
+    """The line of `jepmon check` on this key, as far as the reply has it."""
     verdict = Verdict(bad.reply.split(" ")[0], (bad.at, bad.key))
     status = "dead" if verdict.word == "illegal" else "over"
     return report_on([KeyLine(bad.key, bad.model, bad.budget, events, status, bad.at, bad.is_wide)], verdict)

@@ -1,4 +1,4 @@
-"""Clients of a live test, each in a thread of its own: one that raises, and Ctrl-C, end the others."""
+"""Clients of a live test, each in a thread of its own. An exception in one client, or Ctrl-C, ends the others."""
 from __future__ import annotations
 
 import collections
@@ -9,17 +9,17 @@ from typing import Callable, Deque, List, Optional, Protocol
 
 from .verdicts import NotLegal, Refused
 
-GLANCE = 0.05  # seconds between two looks at clients that go on: Ctrl-C that comes just before a wait is seen at its end
+GLANCE = 0.05  # seconds between two looks at running clients: a Ctrl-C just before a wait takes effect at its end
 
 
 class Test(Protocol):
     """The runner of clients."""
 
     failure: Optional[NotLegal]
-    broken_off: Optional[Refused]  # while clients are waited for, of which one has raised an exception
+    broken_off: Optional[Refused]  # set while the test waits for clients after one has raised an exception
 
     def settle(self, number: int) -> None:
-        """Lets the operations of this thread be those of the client of this number."""
+        """Makes the operations of this thread those of the client with this number."""
 
 
 def run_clients(test: Test, work: Callable[[int], object], threads: int) -> None:
@@ -35,7 +35,7 @@ def run_clients(test: Test, work: Callable[[int], object], threads: int) -> None
             faults.append(fault)
 
     started: List[threading.Thread] = []
-    # Ctrl-C is held back while threads start: it could leave a lock that one of them waits for taken for good.
+    # Ctrl-C waits while threads start: it could leave a lock taken for ever, for which a thread waits.
     mask = signal.pthread_sigmask(signal.SIG_BLOCK, [signal.SIGINT])
     try:
         try:
@@ -61,7 +61,8 @@ def run_clients(test: Test, work: Callable[[int], object], threads: int) -> None
 
 
 def raise_first(test: Test, faults: Deque[BaseException]) -> None:
-    """Raises what is not legal, else what a client has raised first. Keeps none: an exception holds all that its frames do."""
+    """Raises the verdict that is not legal, otherwise the first exception of a client. Keeps no exception, since an exception holds
+    everything in its frames."""
     first = faults[0] if faults else None
     faults.clear()
     try:

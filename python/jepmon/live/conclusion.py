@@ -1,4 +1,4 @@
-"""The files that a live test leaves in its folder: the verdict as soon as it has fallen, and at the end the cause and the page."""
+"""The files that a live test leaves in its folder: the verdict as soon as there is one, and at the end the cause and the page."""
 from __future__ import annotations
 
 import sys
@@ -16,11 +16,11 @@ class Conclusion(NamedTuple):
     length: int
     counts: Dict[str, Counter[str]]  # of outcomes, by operation
     dropped: Dict[int, Unknown]
-    ended_by: Optional[BaseException]  # that the test raised, where it did not come to its end
+    ended_by: Optional[BaseException]  # the exception of the test, if it did not come to its end
     model: str  # of the key that is not legal
     budget: int
     names: Mapping[int, object]  # what numbers stand for
-    by_ends: Sequence[int]  # keys of queues that are judged by their ends, since values are equal
+    by_ends: Sequence[int]  # keys of queues that are judged by their ends, since their values are equal
     kind: str  # by which the key that is not legal was judged
 
 
@@ -32,7 +32,8 @@ def leave_verdict(folder: RunFolder, conclusion: Conclusion) -> None:
 
 
 def leave_cause(folder: RunFolder, conclusion: Conclusion) -> None:
-    """The cause of an illegal or unknown verdict, in words and as a page. Nothing if the history does not have it; another line then says so."""
+    """Writes the cause of an illegal or unknown verdict, in words and as a page. Nothing if the history does not have it, which another
+    line then says."""
     failure = conclusion.failure
     if failure is None or failure.key is None or failure.index is None or folder.lost is not None:
         return
@@ -44,7 +45,7 @@ def leave_cause(folder: RunFolder, conclusion: Conclusion) -> None:
 
 
 def leave_page(folder: RunFolder) -> None:
-    """The page of the whole run, legal or not; of a part the run has it."""
+    """Writes the page of the whole run, legal or not. For a part, the page is that of the run."""
     if not folder.is_part:
         from ..rates.run import leave  # here, since a test without a folder needs no page
 
@@ -52,7 +53,7 @@ def leave_page(folder: RunFolder) -> None:
 
 
 def counts_text(conclusion: Conclusion, lost: Optional[str]) -> str:
-    """How many operations ended how, and what else is to be known of the run."""
+    """The number of operations by outcome, and further facts about the run."""
     lines: List[str] = [f"events: {conclusion.length}", *count_lines(conclusion.counts)]
     lines += [f"dropped: {unknown.reply}" for unknown in conclusion.dropped.values()]
     lines += [f"judged by ends, since values are equal: key {key}" for key in conclusion.by_ends]
@@ -64,13 +65,13 @@ def counts_text(conclusion: Conclusion, lost: Optional[str]) -> str:
 
 
 def say_if_idle(counts: Dict[str, Counter[str]]) -> None:
-    """Says on standard error that nothing worked: that is legal, and says nothing of the store."""
+    """Says on standard error that no operation was ok: such a run is legal, but says nothing about the store."""
     total = sum(sum(counted.values()) for counted in counts.values())
     if total and not any(counted["ok"] for counted in counts.values()):
         print(f"jepmon: none of {total} operations was ok, so nothing was judged", file=sys.stderr)
 
 
 def count_lines(counts: Dict[str, Counter[str]]) -> List[str]:
-    """How many operations ended how, a line for each name."""
+    """The number of operations by outcome, with a line for each name."""
     return [f"{name}: " + ", ".join(f"{counted[outcome]} {outcome}" for outcome in ("ok", "fail", "info"))
             for name, counted in sorted(counts.items())]

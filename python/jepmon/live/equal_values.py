@@ -1,5 +1,5 @@
-"""Queues whose values are equal, in a live test: the kind wide-fifo-queue leaves such a key, and then it is judged by its ends, from its first
-event on."""
+"""Queues with equal values in a live test. The kind wide-fifo-queue does not decide such a key. Then the key is judged by its ends, from
+its first event on."""
 from __future__ import annotations
 
 from typing import List, Optional, Sequence, Set
@@ -14,19 +14,19 @@ PATIENCE = 600.0  # seconds in which all events of a key are judged again
 
 
 class ByEnds:
-    """The keys that are judged by ends since their values are equal. The first one is reported on standard error."""
+    """The keys that are judged by ends, since their values are equal. Standard error reports the first such key."""
 
     def __init__(self, has_said: Optional[Set[str]] = None) -> None:
         self.keys: Set[int] = set()
-        self._left: Set[int] = set()  # keys that were over by their ends, too
+        self._left: Set[int] = set()  # keys that exceeded their budget by their ends too
         self._has_said = set() if has_said is None else has_said  # what the whole test has reported
 
     def kind(self, key: int, kind: str) -> str:
-        """The kind of a key, if this is the one of its model."""
+        """The kind of a key, if this is the kind of its model."""
         return model_of(DIFFERING) if key in self.keys else kind
 
     def may_take(self, key: int, kind: str) -> bool:
-        """Whether a key that is over by this kind is to be judged by its ends."""
+        """Whether a key that exceeds its budget by this kind is to be judged by its ends."""
         return kind == DIFFERING and key not in self._left
 
     def take(self, key: int) -> None:
@@ -51,7 +51,7 @@ def command_of(key: int) -> Line:
 
 
 def is_further(key: int, index: int, reply: str) -> bool:
-    """Whether the verdict by its ends judges a key further than up to this index."""
+    """Whether the judgement by ends reaches further than this index."""
     found = verdict_in(reply)
     if reply.startswith("refused"):
         return False
@@ -59,7 +59,7 @@ def is_further(key: int, index: int, reply: str) -> bool:
 
 
 def replies_by(lines: Sequence[Line], reply: str) -> List[str]:
-    """The replies to lines that were all sent, by the verdict on all of them: legal up to the event that it names."""
+    """The replies to lines that were sent together, by the verdict on all of them: legal up to the event that the verdict names."""
     verdict: Optional[Verdict] = verdict_in(reply)
     if verdict is None or verdict.found is None:
         return [reply] * len(lines)

@@ -1,4 +1,4 @@
-"""The exchange of a live test with the running program, whose faults are Refused, as are those of the test."""
+"""The exchange of a live test with the running program. Faults of the program, and of the test, are raised as Refused."""
 from __future__ import annotations
 
 import os
@@ -9,11 +9,11 @@ from ..program import Options, ProgramError, Script, by_ends_note, find_program
 from .hints import hint_of_refusal
 from .verdicts import Refused
 
-PATIENCE = 10.0  # seconds for what is not worth more, as another model that is tried
+PATIENCE = 10.0  # seconds for a question that is not worth more, such as a try of another model
 
 
 class Exchange:
-    """A running `jepmon script`: lines go in, and the reply to each comes out. One thread at a time may use it."""
+    """A running `jepmon script`, which replies to each line. One thread at a time may use it."""
 
     def __init__(self, options: Options, timeout: float, program: Union[str, os.PathLike[str], None]) -> None:
         self._lock, self._options = threading.Lock(), options
@@ -29,7 +29,7 @@ class Exchange:
             raise refused(fault) from None
 
     def replies(self, lines: List[str], timeout: Optional[float] = None) -> List[str]:
-        """Sends lines, and waits for the reply to each. Refused if the program has ended, or gives none in time."""
+        """Sends lines, and waits for the reply to each. Raises Refused if the program has ended, or does not reply in time."""
         try:
             with self._lock:
                 return self._script.replies(lines, timeout)
@@ -37,7 +37,7 @@ class Exchange:
             raise refused(fault) from None
 
     def kind(self, model: Optional[str] = None) -> str:
-        """The kind by which keys of this model are judged, or those of which no model was named."""
+        """The kind by which keys of this model are judged. Without a model, the kind of keys for which no model was named."""
         return self._options.kind(self.program, model)
 
     def model_line(self, key: int, model: str) -> str:
@@ -48,8 +48,8 @@ class Exchange:
         return by_ends_note(self._options._replace(model=model), self.program)
 
     def is_legal_as(self, key: int, index: int, model: str) -> bool:
-        """Whether what the key has seen up to this event is legal by this model. The verdict has fallen, so the program is free to judge it
-        again."""
+        """Whether the events of the key up to this one are legal by this model. There is a verdict already, so the program is free to judge
+        the key again."""
         try:
             reply = self.replies([f"[:rewind {index + 1}]", self.model_line(key, model)], PATIENCE)[1]
         except Refused:
@@ -57,7 +57,7 @@ class Exchange:
         return not reply.startswith((f"illegal key {key} ", f"unknown key {key} ", "refused "))
 
     def end(self) -> None:
-        """Ends the program, once the replies have come that are awaited."""
+        """Ends the program, after the awaited replies."""
         with self._lock:
             self._script.end()
 

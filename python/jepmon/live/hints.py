@@ -39,14 +39,13 @@ def hint_of_refusal(refusal: str) -> str:
 
 
 def hint_of_unknown(kind: str, names: AbstractSet[str], enqueues: int, dequeues: int) -> str:
-    """Advice about a key over its budget, which is judged by this kind and has seen operations of these names, with the number of completed
-    enqueues and dequeues."""
+    """Advice about a key over its budget: by its kind, the names of its operations, and the numbers of completed enqueues and dequeues."""
     return BY_KIND.get(kind) or (UNKNOWN_QUEUE.format(enqueues, dequeues) if "enqueue" in names else UNKNOWN)
 
 
 def hint_of_model(key: int, model: str, names: AbstractSet[str], is_legal_as: Callable[[str], bool]) -> str:
-    """The model that may have been meant for an illegal key, if any. Its own model lacks an operation that the key has seen, or the key's
-    events are legal by another one."""
+    """The model that may have been meant for an illegal key, if any. Either its own model lacks an operation of the key, or the key's
+    events are legal by another model."""
     others = [other for other in MODELS if other != model and names <= MODELS[other]]
     strange = sorted(names - MODELS.get(model, frozenset(names)))
     if strange:

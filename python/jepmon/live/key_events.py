@@ -1,4 +1,4 @@
-"""The events of each key in a live test: its last events, which operations it has seen, and how they ended."""
+"""The events of each key in a live test: its last events, its operations, and their outcomes."""
 from __future__ import annotations
 
 import collections
@@ -16,7 +16,7 @@ class Told:
     def __init__(self) -> None:
         self.sources = Sources()
         self._events: Dict[int, Deque[Tuple[int, int, str]]] = {}  # the last ones of each key: index, process and text
-        self._names: Dict[int, Set[str]] = {}  # of the operations that each key has seen, but for the write that begins it
+        self._names: Dict[int, Set[str]] = {}  # of the operations of each key, except for the write that begins it
         self._outcomes: Counter[Tuple[int, str, str]] = collections.Counter()  # of a key, by operation and outcome
         self._pending: Counter[int] = collections.Counter()  # operations of each key that are open
         self._timeouts: Counter[int] = collections.Counter()  # operations of each key that timed out; reads do not count
@@ -31,20 +31,20 @@ class Told:
         self.sources.tell(kind, process, name, key, part, index)
 
     def replace(self, key: int, index: int, line: str) -> None:
-        """Another event was sent instead of the event of this index."""
+        """Replaces the event of this index, since another event was sent instead."""
         events = self._events[key]
         for place, (at, process, _) in enumerate(events):
             if at == index:
                 events[place] = index, process, line
 
     def forget(self, key: int, process: int) -> None:
-        """Takes an operation that failed out of the events that are shown: what did not take place explains nothing."""
+        """Removes a failed operation from the events that are shown, since it explains nothing."""
         events = self._events[key]
         for event in [event for event in events if event[1] == process][-2:]:
             events.remove(event)
 
     def last_events(self, key: Optional[int], index: int) -> Tuple[str, ...]:
-        """The last events of the key up to this index, each a line for people; the one of this index is marked."""
+        """The last events of the key up to this index, each a line for people. The event of this index is marked."""
         events = self._events.get(key, ()) if key is not None else ()
         return tuple(readable(f"  {at} {'<--' if at == index else '   '} {line}") for at, _, line in events if at <= index)
 
@@ -64,11 +64,11 @@ class Told:
         return self._names.get(key, set())
 
     def ended(self, key: int, name: str, outcome: str) -> int:
-        """How many operations of the key, of this name, have ended so."""
+        """The number of operations of the key with this name and this outcome."""
         return self._outcomes[key, name, outcome]
 
     def timeouts(self, key: int) -> int:
-        """How many operations of the key have ended as :info and may yet take place; reads do not count."""
+        """The number of operations of the key that ended as :info and may yet take place. Reads do not count."""
         return self._timeouts[key]
 
     def pending(self, key: int) -> int:

@@ -1,4 +1,4 @@
-"""Keys for a test with faults: writes leave a key after some timeouts, and reads stay on it."""
+"""Keys for a test with faults: after some timeouts of a key, writes go to another key, and reads stay."""
 from __future__ import annotations
 
 import random
@@ -24,7 +24,7 @@ class Keys:
     the lost values again, and passes. So read at read_key, which also gives keys that writes have left, and read all of `used`
     at the end.
 
-    A key has room for another operation if fewer than `most` of its operations are open, or if none is open. A key without room is given
+    A key has room for another operation if fewer than `most` of its operations are open, or if none is open. A key without room is returned
     only if there is no other.
 
     The room has both numbers, by the kind of the keys: 8 and 10 for registers; 8 and 8 with compare and set; no limit and 64 for sets; 8
@@ -59,8 +59,8 @@ class Keys:
             return self._drawn(self._open, draws or self._draws)
 
     def read_key(self, draws: Optional[random.Random] = None) -> int:
-        """Any key that was ever used: half the time one of those open to writes, else one that writes have left, if there is
-        one. A key that the monitor has dropped is no longer judged, and is given only if there is no other."""
+        """Any key that was ever used: half the time a key that is open to writes, otherwise a key that writes have left, if there is one. A
+        key that the monitor has dropped is no longer judged, and is returned only if there is no other."""
         drawn = draws or self._draws
         with self._lock:
             still_open, left = self._judged(self._open), self._judged(self._left)

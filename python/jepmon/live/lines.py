@@ -1,5 +1,5 @@
-"""The lines that the threads of a live test tell, in one order. While one thread awaits replies the others queue their lines, and the next
-one sends all of them together. An invocation, which changes no verdict, waits in the queue for the next line with an awaited reply."""
+"""The lines of the threads of a live test, in one order. While one thread waits for replies, the others queue their lines, and the next
+thread sends all of them together. An invocation changes no verdict, so it waits in the queue for the next line whose reply is awaited."""
 from __future__ import annotations
 
 import _thread
@@ -18,7 +18,7 @@ class End:
         self.thread, self.process, self.name = thread, process, name
         self.invoked = invoked  # the part of its invocation
         self.counts = counts  # not the write by which a key begins
-        self.is_lost = False  # whether it is an ok that is told as an info
+        self.is_lost = False  # whether it is an ok that is sent as an info
 
 
 class Line:
@@ -37,7 +37,7 @@ Answer = Callable[[List[Line]], None]
 
 
 class LineQueue:
-    """The caller has the lock, and has it again when a call returns."""
+    """A queue of lines. The caller of each method has the lock, and has it again when the call returns."""
 
     def __init__(self, lock: OwnedLock) -> None:
         self.lines: List[Line] = []  # those that nobody has sent yet
@@ -49,8 +49,8 @@ class LineQueue:
         self.lines.append(line)
 
     def ask(self, line: Line, answer: Answer) -> None:
-        """Queues a line, and returns when it was answered: by this thread, or by the one that leads. `answer` has the lines answered
-        that are next; it is called with the lock, and lets it go while it awaits replies."""
+        """Queues a line, and returns when it has a reply, through this thread or through the leading thread. `answer` gets the replies to
+        the next lines. It is called with the lock, and releases the lock while it waits for replies."""
         self.lines.append(line)
         try:
             if self._is_led:
@@ -58,7 +58,7 @@ class LineQueue:
             if not line.is_answered:
                 self._is_led = line._leads = True
                 self._lead(answer)
-        except BaseException:  # as Ctrl-C: the line is told all the same, and the others must not wait for this thread
+        except BaseException:  # such as Ctrl-C: the line is sent all the same, and the others must not wait for this thread
             self._leave(line)
             raise
 
@@ -83,7 +83,7 @@ class LineQueue:
             self._hand_over()
 
     def _hand_over(self) -> None:
-        """Lets the first thread that waits lead, if one does."""
+        """Makes the first waiting thread the leader, if a thread waits."""
         for line in self.lines:
             if line._ready is not None:
                 line._leads = True

@@ -44,8 +44,8 @@ class LiveTest:
         raise NotImplementedError
 
     def run(self, work: Callable[[int], object], threads: int) -> None:
-        """Runs work(0) to work(threads - 1), each in a thread of its own. Raises a verdict that is not legal, else the first exception of
-        a thread. An exception in one thread, and Ctrl-C, end each other one at its next operation or fault."""
+        """Runs work(0) to work(threads - 1), each in a thread of its own. Raises a verdict that is not legal, otherwise the first exception
+        of a thread. An exception in one thread, or Ctrl-C, ends each other thread at its next operation or fault."""
         run_clients(self._judge, work, threads)
 
     def note(self, text: str) -> None:
@@ -54,8 +54,8 @@ class LiveTest:
 
     @contextlib.contextmanager
     def fault(self, text: str) -> Iterator[None]:
-        """Notes a fault that lasts as long as this block, such as "cut n1 off". If the test has ended it does not begin, and raises
-        the exception of an operation; so a thread of faults ends with the clients."""
+        """Notes a fault that lasts as long as this block, such as "cut n1 off". If the test has ended, the fault does not begin, and the
+        exception of an operation is raised. So a thread that injects faults ends with the clients."""
         text = folded(text)
         self._judge.note(BEGIN, text)
         try:
@@ -77,7 +77,7 @@ class LiveTest:
         self, kind: Optional[Type[BaseException]], error: Optional[BaseException], trace: Optional[TracebackType]
     ) -> None:
         if error is not None and not self._judge.lock.is_here:
-            return  # a forked process ends, and the test goes on elsewhere
+            return  # a forked process ends, and the test continues elsewhere
         verdict = self._close(error)
         if error is None and self.failure is not None:
             raise copy.copy(self.failure)

@@ -1,4 +1,4 @@
-"""The live test: judges what clients do to a store while they do it. It drives the program `jepmon script`.
+"""The live test: judges the operations of clients on a store while they happen. It drives the program `jepmon script`.
 
     from jepmon import Monitor
 
@@ -66,8 +66,8 @@ class Monitor(LiveTest):
                  If that is illegal or unknown, the end of the monitor's block, or close, adds the cause in words and a page. The
                  first line of the exception names the folder. If a file cannot be written during the test, standard error says so
                  once, and the test goes on
-    unknown      "raise": a key over its budget ends the test with Unknown. "drop": the key is judged up to there and its later
-                 operations are not recorded; the other keys go on, and nothing is raised. See dropped. The log takes the event back
+    unknown      "raise": a key over its budget ends the test with Unknown. "drop": the monitor judges the key up to there and does not
+                 record its later operations; the other keys go on, and nothing is raised. See dropped. The log takes the event back
     initial      the value of each register before its first operation; else it is missing. begin names the value of one key
     absent       the store's answer for a missing key instead of None, such as "" or 0; writing it deletes the key
     by_ends      judges keys by all their possible outcomes (ends), as `jepmon check --model register` does. Else it judges them as wide
@@ -159,7 +159,8 @@ class Monitor(LiveTest):
     # --- What is said of a key ---
 
     def begin(self, key: int, value: Optional[int] = ABSENT) -> None:
-        """Names the first value of a register. Without it, the first operation on the key records that of Monitor(initial=..), or ABSENT."""
+        """Names the first value of a register. Without this call, the first operation on the key records the value of Monitor(initial=..),
+        or ABSENT."""
         self._telling.begin(key_of(key), self._brought(key, value))
 
     def set_model(self, key: int, model: str) -> None:
@@ -214,7 +215,8 @@ class Monitor(LiveTest):
     # --- The end ---
 
     def close(self) -> str:
-        """Ends the program. Gives the final verdict: `legal`, or the reply that was not; after dropped keys that of the first one."""
+        """Ends the program. Returns the final verdict: `legal`, or the reply that was not legal. After dropped keys it is the verdict of
+        the first one."""
         return self._close(None)
 
     def __enter__(self) -> Monitor:

@@ -1,5 +1,5 @@
-"""Numbers for values that are not integers: the results of Monitor.number. Equal things have one number. Things that Python takes to be
-equal and a store tells apart have numbers of their own: True, 1 and 1.0, also within tuples and frozen sets."""
+"""Numbers for values that are not integers: the results of Monitor.number. Equal things have the same number. Things that are equal in
+Python, but not in a store, have different numbers: True, 1 and 1.0, also within tuples and frozen sets."""
 from __future__ import annotations
 
 import numbers
@@ -17,7 +17,7 @@ class Numbers:
     def __init__(self, names: Dict[int, object]) -> None:
         self._names = names  # what each number stands for, where it is shown
         self._numbers: Dict[Hashable, Number] = {}
-        self._sorts: Dict[int, bool] = {}  # of each key whether the values that were brought in are numbers for something
+        self._sorts: Dict[int, bool] = {}  # for each key, whether the values that were brought in are numbers of other things
         self._lock = threading.Lock()
 
     def number(self, thing: Hashable) -> Number:
@@ -30,7 +30,8 @@ class Numbers:
             return found
 
     def test(self, key: int, value: int) -> None:
-        """Tests that a written value is of the sort of those before it: the integer 0 and the number of "a" may be the same."""
+        """Tests that a written value is of the same sort as the values before it, since the integer 0 and the number of "a" may be the
+        same."""
         is_number = isinstance(value, Number)
         if self._sorts.setdefault(key, is_number) != is_number:
             one, others = ("by Monitor.number", "not") if is_number else ("not by Monitor.number", "are")

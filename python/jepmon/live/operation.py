@@ -20,7 +20,7 @@ class Teller(Protocol):
     missing: Missing
 
     def invoke(self, name: str, key: int, part: str) -> Optional[int]:
-        """The thread of jepmon that it is on; none if it was not told."""
+        """Records the invocation. Returns its thread of jepmon, or None if it was not recorded."""
 
     def complete(self, kind: str, thread: int, name: str, key: int, part: str, invoked: str) -> None:
         """The operation on this thread ends so."""
@@ -31,8 +31,8 @@ class Teller(Protocol):
 
 class Block:
     """The block of an operation, as a client uses it. The client may set `value` of a read or a dequeue until the block ends. Setting
-    anything else is an AttributeError at once. The end of the block raises it again if the client has caught it, and records an :info,
-    since nobody knows what the client meant. The package itself writes into __dict__."""
+    anything else raises an AttributeError at once. If the client has caught this error, the end of the block raises it again. The operation
+    is then an :info, since nobody knows what the client meant. The package itself writes into __dict__."""
 
     value: Value = UNSET  # of a read or a dequeue: what it answered
     _name: str
@@ -70,7 +70,7 @@ class Block:
 
     @property
     def recorded(self) -> bool:
-        """Whether the operation was recorded: not if its key or object was no longer judged."""
+        """Whether the operation was recorded. It was not recorded if its key or object was no longer judged."""
         return self._told
 
     @property
@@ -80,7 +80,7 @@ class Block:
 
     @property
     def was_answered_no(self) -> bool:
-        """Whether the client called op.fail(), so that the store has answered."""
+        """Whether the client called op.fail(), which means that the store has answered."""
         return self._said == "fail"
 
     def fail(self) -> None:
@@ -136,7 +136,7 @@ class Operation(Block):
         return outcome is not None
 
     def _end_misused(self, error: Optional[BaseException]) -> bool:
-        """Tells an :info, and lets the fault of the client go further whatever the test expects."""
+        """Records an :info, and raises the fault of the client, whatever exceptions the test expects."""
         assert self._misused is not None
         self._complete("info", self._part)
         if error is None:
@@ -157,7 +157,7 @@ class Operation(Block):
         self._complete(outcome, part)
 
     def _answer(self) -> str:
-        """The part of the :ok: an answer, or what the invocation had."""
+        """The part of the :ok: an answer, or the part of the invocation."""
         if self._name not in ANSWERED:
             return self._part
         if self.value is UNSET:

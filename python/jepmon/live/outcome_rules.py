@@ -1,4 +1,4 @@
-"""How an exception in the block of an operation ends it: as a :fail, as an :info, and whether it goes further."""
+"""How an exception in the block of an operation ends the operation: as a :fail or as an :info, and whether it is raised again."""
 from __future__ import annotations
 
 from typing import NamedTuple, Optional, Tuple, Type
@@ -6,7 +6,7 @@ from typing import NamedTuple, Optional, Tuple, Type
 from .verdicts import Failed
 
 Exceptions = Tuple[Type[BaseException], ...]
-CUT = (ConnectionResetError, ConnectionAbortedError, BrokenPipeError)  # while the answer was awaited, for all that is known
+CUT = (ConnectionResetError, ConnectionAbortedError, BrokenPipeError)  # possibly while the client waited for the answer
 
 
 class Endings(NamedTuple):
@@ -17,23 +17,24 @@ class Endings(NamedTuple):
 
 
 def endings(expected: Exceptions, failed: Exceptions) -> Endings:
-    """The named classes, if they differ from each other: a class in both would be both."""
+    """The named classes. They must be different, since a class in both lists would have both outcomes."""
     for name, classes in (("expected", expected), ("failed", failed)):
         if not isinstance(classes, tuple) or not all(isinstance(one, type) and issubclass(one, BaseException) for one in classes):
-            raise TypeError(f"{name} is a tuple of classes of exceptions, as (TimeoutError,), not {classes!r}")
+            raise TypeError(f"{name} is a tuple of classes of exceptions, such as (TimeoutError,), not {classes!r}")
     both = [one.__name__ for one in failed if one in expected]
     if both:
-        raise ValueError(f"{both[0]} is in expected and in failed: an operation that it ends took place perhaps, or certainly not")
+        raise ValueError(f"{both[0]} is in expected and in failed: perhaps the operation that it ends took place, or certainly not; name it in one of the two")
     return Endings(expected, failed)
 
 
 def outcome_of(error: BaseException, ends: Endings) -> Optional[str]:
-    """The outcome by which an exception ends an operation and goes no further: "fail" or "info"; None for one that goes on.
+    """The outcome of an operation that this exception ends, if the exception is not raised again: "fail" or "info". None if it is raised
+    again.
 
-    If it is of classes in both, the more special one decides: with failed=(ConnectionRefusedError,) and expected=(OSError,) a
-    refused connection is a "fail". If no class of failed is below each of expected that it is of, it is an "info", which is
-    the cautious one: an :info makes no false alarm. So is a timeout, or a connection that was cut, where failed has no such class
-    itself: with failed=(OSError,) a TimeoutError is an "info", with failed=(TimeoutError,) a "fail"."""
+    If both `failed` and `expected` cover the exception, the more special class decides: with failed=(ConnectionRefusedError,) and
+    expected=(OSError,) a refused connection is a "fail". If no class of `failed` is more special, the outcome is "info". This is the
+    cautious choice, since an :info makes no false alarm. A timeout, or a connection that was cut, is an "info" unless `failed` names its
+    class itself: with failed=(OSError,) a TimeoutError is an "info", and with failed=(TimeoutError,) a "fail"."""
     if isinstance(error, Failed):
         return "fail"
     as_info = [one for one in ends.expected if isinstance(error, one)]
@@ -44,5 +45,5 @@ def outcome_of(error: BaseException, ends: Endings) -> Optional[str]:
 
 
 def is_unsure(kind: Type[BaseException]) -> bool:
-    """Whether exceptions of the class leave open whether the request was carried out."""
+    """Whether, after an exception of this class, the request may or may not have been carried out."""
     return any(one in CUT or "timeout" in one.__name__.lower() for one in kind.__mro__)

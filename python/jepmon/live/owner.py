@@ -1,17 +1,17 @@
-"""The process that a live test is of. A process that was forked from it has a copy of the monitor, which learns nothing of what the others
-do: its events would make a history that never was."""
+"""The process of a live test. A process that was forked from it has a copy of the monitor, which does not get the events of the other
+processes. So its events would make a history that never happened."""
 from __future__ import annotations
 
 import os
 import threading
 from typing import NoReturn
 
-CURE = "let threads of that process do the operations, or send it what came of them"
+CURE = "let threads of that process do the operations, or send it their results"
 
 
 class OwnedLock:
-    """A lock that no other process than its own takes: there it raises a ValueError. A lock that another thread held at a fork is never
-    free in the new process."""
+    """A lock that only its own process may take. In another process it raises a ValueError, since a lock that another thread held at a fork
+    is never free in the new process."""
 
     def __init__(self) -> None:
         self._process, self._lock = os.getpid(), threading.Lock()

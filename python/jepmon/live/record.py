@@ -1,4 +1,4 @@
-"""Writes down what a live test tells, with the time of each event: to a log, and to the folder of the run."""
+"""Writes the events and notes of a live test, with the time of each event, to a log and to the folder of the run."""
 from __future__ import annotations
 
 import time
@@ -21,7 +21,7 @@ class Record:
         return self.folder.name if self.folder is not None else ""
 
     def write(self, line: str, kept: str) -> None:
-        """A line that is sent: it goes to the log. The part that is kept of it, if not empty, goes to the folder."""
+        """Writes a sent line to the log, and its kept part, if it is not empty, to the folder."""
         if self.log is None and self.folder is None:
             return
         now = time.monotonic_ns() - self._begun
@@ -31,7 +31,7 @@ class Record:
             self.folder.append(timed(kept, now))
 
     def needs_script(self) -> None:
-        """A command follows, which `jepmon check` does not take."""
+        """Notes that a command follows, which `jepmon check` does not take."""
         if self.folder is not None:
             self.folder.needs_script()
 

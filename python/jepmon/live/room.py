@@ -1,4 +1,5 @@
-"""How many operations of one object a test has at once, so that the object stays below the default budget (docs/guide/BUDGETS.md)."""
+"""The number of operations of one object that a test has open at once, so that the object stays below the default budget
+(docs/guide/BUDGETS.md)."""
 from __future__ import annotations
 
 from typing import Dict, NamedTuple, Optional
@@ -18,15 +19,15 @@ class Room(NamedTuple):
         return self.timeouts is not None and timeouts >= self.timeouts
 
     def holds(self, pending: int, timeouts: int) -> bool:
-        """Whether one more operation may begin beside these: an object with none open is never full."""
+        """Whether one more operation may begin in addition to these. An object without open operations is never full."""
         return pending == 0 or self.at_once(pending, timeouts) < self.most
 
     def at_once(self, pending: int, timeouts: int) -> int:
         return pending + timeouts if self.counts_timeouts else pending
 
 
-BY_ENDS = Room(3, 6, True)  # of each model that is judged by ends, but for
-LOCKS = Room(8, 12, True)  # whose operations bring few ends
+BY_ENDS = Room(3, 6, True)  # of each model that is judged by ends, except a mutex
+LOCKS = Room(8, 12, True)  # of a mutex: thirteen operations, open or timed out, have at most 3,432 ends
 QUEUES = Room(8, THREADS, False)  # a dequeue that timed out may have taken a message that was lost
 WIDE: Dict[str, Room] = {
     "wide-register": Room(8, 10, False), "wide-cas-register": Room(8, 8, False), "wide-set": Room(None, THREADS, False),

@@ -1,4 +1,4 @@
-"""The folder of a run of a live test: its history, the options, the verdict, and what came of it.
+"""The folder of a run of a live test: its history, the options, the verdict, the cause and the page.
 
     runs/20261127T193005.123/history.edn   what the clients did, an event a line, with :time; written as it happens
                              judge-again   a script with the command that judges it again
@@ -10,9 +10,9 @@
                              run.html      rates, latencies and faults over time, and all keys (docs/guide/PAGE.md); made at the end
     runs/latest                            a link to the newest
 
-`jepmon check` on the history, with these options, gives the verdict of the run. Notes of faults stand in it where they were taken
-(history/fault_notes.py), and check passes over them. Only where a key was given another model or budget the history has lines that are commands,
-and is judged by `jepmon script`; then judge-again does that.
+`jepmon check` on the history, with these options, gives the verdict of the run. Notes of faults are in the history at their moments
+(history/fault_notes.py), and check skips them. If a key got another model or budget, the history has commands too. Then judge-again runs
+`jepmon script` instead of `jepmon check`.
 """
 from __future__ import annotations
 
@@ -29,7 +29,7 @@ from ..program import Options
 
 HISTORY, AGAIN, VERDICT, COUNTS, NAMES = "history.edn", "judge-again", "verdict.txt", "counts.txt", "names.txt"
 CAUSE, PAGE, LATEST = "cause.txt", "page.html", "latest"
-RUN_PAGE, RUN_FACTS = "run.html", "run.json"  # the facts are those of the test that knows more of a run, as jepmon-test
+RUN_PAGE, RUN_FACTS = "run.html", "run.json"  # a test that knows more about a run, such as jepmon-test, has written the facts
 AFTER, LOST, CRASH = "after.txt", "lost.txt", "crash.txt"  # what jepmon-test has learned after a finding: of the bad key, of messages, of a crash
 CLIENTS_LOG = "clients.log"  # of client libraries, in a test by jepmon-test
 PART = "part-"  # how the folders of parts begin, in that of a run without an end
@@ -43,12 +43,12 @@ exec "${{JEPMON:-jepmon}}" {again}
 
 
 class RunFolder:
-    """A folder that is there already, and empty. An OSError says that it can't be begun. After that, lines that it can't write are lost. It
-    says so once, on standard error, and the test goes on without."""
+    """A folder that already exists and is empty. An OSError says that it can't be used. After that, lines that can't be written are lost.
+    Standard error then says so once, and the test continues without the folder."""
 
     def __init__(self, path: pathlib.Path, begun: datetime.datetime, options: Options, program: str, is_part: bool = False) -> None:
         self.options, self.program, self.begun = options, program, begun
-        self.is_part = is_part  # of a run without an end, which has a page of its own
+        self.is_part = is_part  # a part of a run without an end, which has its own page
         self.lost: Optional[str] = None  # what could not be written first, and why
         self.is_script = False  # whether the history has lines that `jepmon check` does not take
         self._size = 0  # of the history, in whole lines
@@ -80,11 +80,11 @@ class RunFolder:
         self._size += len(data)
 
     def _cut(self) -> None:
-        """Lets the history end with a whole line, and be written no further, since a history with a gap says something else."""
+        """Ends the history with a whole line, and writes nothing more, since a history with a gap would say something else."""
         try:
             self._history.truncate(self._size)
         except OSError:
-            pass  # then the line that is cut off stays, and it is said all the same that the history is lost
+            pass  # then the cut line stays, and the message that the history is lost comes all the same
         self._history.close()
 
     # --- The other files ---
@@ -97,7 +97,7 @@ class RunFolder:
 
     @property
     def again(self) -> str:
-        """The words after `jepmon` that judge the history again, in this folder."""
+        """The words after `jepmon` that judge the history in this folder again."""
         words = " ".join(self.options.words(self.program))
         return f"script {words} < {HISTORY}" if self.is_script else f"check {HISTORY} {words}"
 
@@ -106,7 +106,7 @@ class RunFolder:
         return SCRIPT.format(begun=self.begun.isoformat(), program=self.program, path=path, again=self.again)
 
     def put(self, name: str, text: str, executable: bool = False) -> None:
-        """Writes a file as a whole, under its name only once it is whole."""
+        """Writes a whole file. It gets its name only when it is complete."""
         try:
             write_whole(self.path / name, text, executable)
         except OSError as fault:
@@ -123,8 +123,8 @@ class RunFolder:
 
 @contextlib.contextmanager
 def new_folder(out: Union[str, os.PathLike[str]], begun: datetime.datetime) -> Iterator[pathlib.Path]:
-    """A folder named by the time, which no other run has, for the block to fill; then `latest` names it. An OSError of the block leaves
-    none."""
+    """Makes a folder, named by the time, that no other run has. The block fills it, and then `latest` names it. An OSError in the block
+    removes the folder."""
     try:
         path = _made_folder(pathlib.Path(out), begun)
         try:

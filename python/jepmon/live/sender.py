@@ -1,4 +1,4 @@
-"""Tells the events of a live test to the running program, in one order, and stops at the first reply that is not `legal`."""
+"""Sends the events of a live test to the running program, in one order, and stops at the first reply that is not `legal`."""
 from __future__ import annotations
 
 import copy
@@ -32,18 +32,18 @@ def test_unknown(unknown: str) -> None:
 
 
 class Telling:
-    """One pipe, and so one lock: the order of its lines is the history. The lock is free while replies are awaited. Monitor is its face
-    to the test."""
+    """The sender has one pipe, and so one lock: the order of the lines is the history. The lock is free while a thread waits for replies.
+    Monitor is its public class."""
 
     def __init__(self, exchange: Exchange, record: Record, options: Options, unknown: str, endings: Endings,
                  homes: Optional[Dict[int, int]] = None, missing: Missing = Missing(), has_said: Optional[Set[str]] = None) -> None:
         self.lock = OwnedLock()
         self.unknown, self.endings, self.missing = unknown, endings, missing
         self.told = Told()
-        self.dropped: Dict[int, Unknown] = {}  # keys over their budget that are not told any more, and what was said of them
+        self.dropped: Dict[int, Unknown] = {}  # keys over their budget, whose events are no longer sent, and their verdicts
         self.length = 0  # events that were told
         self.failure: Optional[NotLegal] = None
-        self.broken_off: Optional[Refused] = None  # while clients are waited for, of which one has raised an exception
+        self.broken_off: Optional[Refused] = None  # set while the test waits for clients after one has raised an exception
         self.verdict: Optional[str] = None
         self._exchange, self._record, self._options = exchange, record, options
         self._queue = LineQueue(self.lock)
@@ -54,25 +54,25 @@ class Telling:
         self._budgets: Dict[int, int] = {}  # likewise
         self._begun: Set[int] = set()
         self._by_ends = ByEnds(has_said)
-        self._behind: Dict[int, int] = {}  # of a thread: how far its process in the run's folder is behind, by dropped keys
+        self._behind: Dict[int, int] = {}  # for each thread: by how much its process in the run's folder is behind, because of dropped keys
 
     @property
     def is_closed(self) -> bool:
         return self.verdict is not None
 
     def kind(self, model: Optional[str]) -> str:
-        """The kind by which keys of this model are judged, or those of which no model was named."""
+        """The kind by which keys of this model are judged. Without a model, the kind of keys for which no model was named."""
         return self._exchange.kind(model)
 
     # --- Operations ---
 
     def settle(self, number: int) -> None:
-        """Lets the operations of this thread be those of the client of this number, as far as it is free."""
+        """Makes the operations of this thread those of the client with this number, if it is free."""
         with self.lock:
             self._processes.settle(number)
 
     def invoke(self, name: str, key: int, part: str) -> Optional[int]:
-        """Tells an invocation, and gives the thread of jepmon that it is on; none if the key was dropped."""
+        """Records an invocation, and returns its thread of jepmon. None if the key was dropped."""
         with self.lock:
             self._test_running()
             if key not in self.dropped and self.is_register(key):
@@ -108,11 +108,13 @@ class Telling:
             self._complete("ok", thread, "write", key, part, part, counts=False)
 
     def _invoke(self, thread: int, name: str, key: int, part: str) -> None:
-        """An invocation is sent with the next completion: it changes no verdict, so nothing is found later by it."""
+        """Queues an invocation, which is sent with the next completion. It changes no verdict, so no violation is found later because of
+        this."""
         self._queue.put(self._event("invoke", self._processes.process(thread), name, key, part))
 
     def _complete(self, kind: str, thread: int, name: str, key: int, part: str, invoked: str, counts: bool = True) -> None:
-        """Tells a completion, and waits for its reply. Its thread is free only then, so that no event of it follows in the queue."""
+        """Records a completion, and waits for its reply. Its thread is free only then, so that no other event of the thread follows in the
+        queue."""
         process = self._processes.process(thread)
         end = End(kind, thread, process, name, invoked, counts)
         line = self._event(kind, process, name, key, part, end)
@@ -129,8 +131,8 @@ class Telling:
         return self._by_ends.kind(key, self._exchange.kind(self.model_of(key)))
 
     def _in_full(self, lines: List[Line], replies: List[str]) -> List[str]:
-        """The replies to lines that were all sent, if keys that are over by equal values are judged by their ends. A key that these do not
-        judge further stays as it is."""
+        """The replies to lines that were sent together, after keys that exceed their budget by equal values are judged by their ends. If
+        the ends do not judge a key further, it stays as it is."""
         while True:
             reply = next((reply for reply in replies if reply != "legal"), "legal")
             found = verdict_in(reply)
@@ -153,25 +155,25 @@ class Telling:
     # --- Keys over their budget ---
 
     def _is_dropped(self, at_key: int, index: int, line: Line) -> bool:
-        """Whether an `unknown` of at_key is that of this line's event, and ends nothing."""
+        """Whether the `unknown` of at_key belongs to the event of this line, and does not end the test."""
         return self.unknown == "drop" and (at_key, index) == (line.key, line.index)
 
     def _drop(self, unknown: Unknown, lines: List[Line]) -> List[Line]:
-        """Takes back the ok that met too many outcomes, the first of the lines, and the events behind it; gives the lines to send instead.
-        So the key is legal up to there, with its operation open, and the verdict is that of the other keys again."""
+        """Takes back the ok that met too many outcomes (the first of the lines) and the events behind it. Returns the lines to send
+        instead. So the key is legal up to this ok, with its operation open, and the verdict is again that of the other keys."""
         assert unknown.key is not None
         self.dropped[unknown.key] = unknown
         for line in [*lines, *self._queue.lines]:
             if line.end is not None and line.end.kind == "ok" and line.key == unknown.key:
                 self._lose(line, line.end)
         again = [Line(f"[:rewind {lines[0].index}]"), *lines]
-        for line in [*again, *self._queue.lines]:  # those in the queue stand in the log already, and were taken back there too
+        for line in [*again, *self._queue.lines]:  # the log already has the queued lines, and they were taken back there too
             self._record.write(line.text, "")
         return again
 
     def _lose(self, line: Line, end: End) -> None:
-        """Records an ok of a dropped key as an :info, which brings no further outcomes. The run's folder has the ok, as it happened, in
-        which the process goes on."""
+        """Records an ok of a dropped key as an :info, which adds no outcomes. The run's folder has the real ok, after which the process
+        continues."""
         assert line.key is not None
         end.kind, end.is_lost = "info", True
         line.text = event_line("info", end.process, end.name, line.key, end.invoked)
@@ -195,7 +197,7 @@ class Telling:
             self._command(f"[:budget {key} {budget}]")
 
     def note(self, kind: str, text: str) -> None:
-        """No fault begins once the test has ended; that one has ended is noted as long as the monitor is not closed."""
+        """Notes a fault. No fault begins after the end of the test, but the end of a fault is noted until the monitor is closed."""
         with self.lock:
             if kind == BEGIN:
                 self._test_running()
@@ -217,7 +219,7 @@ class Telling:
             raise copy.copy(self.failure)
 
     def _event(self, kind: str, process: int, name: str, key: int, part: str, end: Optional[End] = None) -> Line:
-        """The line of the next event, once it is written down."""
+        """The line of the next event, after it was written to the log and the folder."""
         self._test_not_ended()
         line = Line(event_line(kind, process, name, key, part), key, self.length, end)
         kept = event_line(kind, self._kept(process), name, key, part) if self._behind else line.text
@@ -237,13 +239,12 @@ class Telling:
     def _write_down(self, text: str, kept: str) -> None:
         try:
             self._record.write(text, kept)
-        except BaseException:  # as Ctrl-C: it is not known what of the line stands where
+        except BaseException:  # such as Ctrl-C: nobody knows which part of the line was written
             self.failure = Refused(BROKEN_OFF, folder=self._record.name)
             raise
 
     def _ask(self, line: Line) -> None:
-        """Has the line sent, with all that is queued, and waits for its reply. Raises what is not legal, also if it was found
-        before."""
+        """Has the line sent with all queued lines, and waits for its reply. Raises a verdict that is not legal, also an earlier one."""
         self._queue.ask(line, self._answer)
         if self.failure is not None:
             raise copy.copy(self.failure)
@@ -258,7 +259,7 @@ class Telling:
             lines = self._not_legal(lines[legal:], replies[legal:]) if legal < len(replies) else []
 
     def _replies(self, lines: List[Line], timeout: Optional[float] = None) -> List[str]:
-        """The replies, for which it waits without the lock; none if the exchange fails."""
+        """Waits for the replies without the lock. Returns no replies if the exchange fails."""
         failure: Optional[NotLegal] = None
         self.lock.release()
         try:
@@ -266,7 +267,7 @@ class Telling:
         except Refused as refused:
             failure = copy.copy(refused)  # without the frames that it was raised in
             return []
-        except BaseException:  # as Ctrl-C: no later reply can be told from those that may come yet
+        except BaseException:  # such as Ctrl-C: later replies can't be distinguished from those that may still come
             failure = Refused(BROKEN_OFF)
             raise
         finally:
@@ -292,7 +293,8 @@ class Telling:
     # --- What is not legal ---
 
     def _not_legal(self, lines: List[Line], replies: List[str]) -> List[Line]:
-        """The first of these replies is not legal. Gives the lines to send now, if it is of a key that is dropped; else the test ends."""
+        """Treats a first reply that is not legal. If it is for a key that is dropped, returns the lines to send now. Otherwise the test
+        ends."""
         line, reply = lines[0], replies[0]
         verdict = verdict_in(reply)
         if verdict is None or verdict.found is None:
@@ -316,15 +318,15 @@ class Telling:
         return []
 
     def _illegal_behind(self, lines: List[Line], replies: List[str]) -> Tuple[List[Line], List[str]]:
-        """The first reply that is `illegal`, also among the replies to lines that were written down behind these and not sent yet: it is
-        the verdict on everything that was written down. Nothing, if there is none."""
+        """The first reply that is `illegal`, also among the replies to later lines that were recorded but not yet sent: the verdict is
+        about all recorded lines. None if no reply is `illegal`."""
         rest = list(self._queue.lines)
         lines, replies = lines + rest, replies + (self._replies(rest) if rest else [])
         place = next((place for place, reply in enumerate(replies) if reply.startswith("illegal")), len(lines))
         return lines[place:], replies[place:]
 
     def _fail(self, failure: NotLegal) -> None:
-        """Each operation that waits raises the reply that is not legal, and so does each later one. The run's folder has it before."""
+        """Makes each waiting and each later operation raise the reply that is not legal. The run's folder gets it before."""
         failure.folder = self._record.name
         self.failure = failure
         if self._record.folder is not None:
@@ -338,7 +340,7 @@ class Telling:
                           sorted(self.equal_values), self._kind_of(key))
 
     def _conclude(self, ended_by: Optional[BaseException]) -> None:
-        """Leaves in the run's folder what came of it."""
+        """Leaves the results in the run's folder."""
         if self._record.folder is not None:
             conclusion = self._conclusion(ended_by)
             self._record.folder.close()

@@ -1,4 +1,4 @@
-"""The possible sources of a value that a key answers: its operations that put values in, and which of them failed."""
+"""The possible sources of a value that a key answers: the key's operations that brought values in, and which of them failed."""
 from __future__ import annotations
 
 import collections
@@ -12,10 +12,10 @@ MOST_HINTS = 16
 
 
 class Sources:
-    """Learns each recorded event, and says what is strange in an illegal answer."""
+    """Learns each recorded event, and describes the strange part of an illegal answer."""
 
     def __init__(self) -> None:
-        self.are_new = False  # whether no store can have held anything under its keys before
+        self.are_new = False  # whether the store cannot have held anything under these keys before
         self._brought: Counter[Tuple[int, str]] = collections.Counter()  # how often, by what did not fail
         self._failed: Dict[Tuple[int, str], str] = {}  # the last operation that failed, in words
         self._began: Dict[int, int] = {}  # the index at which a process has invoked
@@ -37,7 +37,7 @@ class Sources:
         if event is None or event[1] != "ok" or event[3] not in ANSWERED:
             return ""
         name, key, values = event[3], int(event[4]), re.findall("-?[0-9]+", event[5])
-        if event[5].startswith("#"):  # of many members those alone that no other operation brought in
+        if event[5].startswith("#"):  # only those of the members that no other operation brought in
             values = [value for value in values if self._brought[key, value] == 0]
         hints = (self._hint_of_value(name, key, value) for value in values)
         return "\n".join([hint for hint in hints if hint][:MOST_HINTS])

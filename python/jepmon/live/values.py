@@ -1,4 +1,4 @@
-"""Keys and values of a live test, as jepmon gets them: integers, and ABSENT for the answer of a missing key."""
+"""Keys and values of a live test in the form for jepmon: integers, and ABSENT for the answer of a missing key."""
 from __future__ import annotations
 
 from typing import Any, Iterable, NamedTuple, Tuple, Union
@@ -21,13 +21,13 @@ def told(value: Any) -> Any:
 
 
 class Missing(NamedTuple):
-    """The value of a register before its first operation, and the answer in addition to None that means a missing key."""
+    """The value of a register before its first operation, and the answer that, in addition to None, means a missing key."""
 
     initial: int = ABSENT
     answers: Tuple[Any, ...] = ()  # none or one, which may be of any type
 
     def seen(self, value: Any) -> Any:
-        """None for an answer that means a missing key. False and 0 are two answers, as 1 and 1.0 are."""
+        """The answer, or None if it means a missing key. False and 0 are two answers, and so are 1 and 1.0."""
         return None if any(type(value) is type(answer) and value == answer for answer in self.answers) else value
 
 

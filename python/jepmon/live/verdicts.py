@@ -1,4 +1,4 @@
-"""The exceptions of a live test: replies of jepmon that are not `legal`. They are shown as jepmon.Illegal and so on."""
+"""The exceptions of a live test: replies of jepmon that are not `legal`. Their shown names are jepmon.Illegal and so on."""
 from __future__ import annotations
 
 from typing import Optional, Tuple
@@ -11,9 +11,9 @@ class Failed(Exception):
 
 
 class JepmonError(Exception):
-    """A reply of jepmon that is not `legal`, with its key and index if it names them, the last events of the key, and a hint, which may
-    be empty. `status` is the exit status of jepmon for it. `folder` is that of the run, if Monitor(out=..) keeps one; the first line
-    of the text names it."""
+    """A reply of jepmon that is not `legal`, with its key and index if it names them, the last events of the key, and a hint, which may be
+    empty. `status` is jepmon's exit status for this reply. `folder` is the folder of the run, if Monitor(out=..) keeps one, and the first
+    line of the text names it."""
 
     __module__ = "jepmon"
     status = 3

@@ -1,4 +1,4 @@
-"""The folder of a run of a test without an end: a folder for each part, and what joins them.
+"""The folder of a run of a test without an end: a folder for each part, and files about all parts.
 
     runs/20261127T193005.123/part-0001/   as the folder of a run of Monitor: its history, judge-again, the verdict, its objects' names
                              part-0002/   (names.txt), and the cause and the page if it is illegal or unknown
@@ -65,8 +65,8 @@ exit "$status"
 
 
 class LongFolder:
-    """It is made with the first part. An OSError says that it can't be. Later, lines that it can't write are lost; it says so once, on
-    standard error, and the test goes on without."""
+    """The folder is made with the first part. An OSError says that it can't be made. Later, lines that can't be written are lost. Standard
+    error then says so once, and the test continues without the folder."""
 
     def __init__(self, out: Union[str, "os.PathLike[str]"], begun: datetime.datetime, keep: Optional[int], page: bool = True) -> None:
         self.path: Optional[pathlib.Path] = None
@@ -95,7 +95,7 @@ class LongFolder:
             return None
 
     def _here(self, name: str) -> pathlib.Path:
-        """As it is shown if that is right still: the test may have gone to another folder."""
+        """The shown path, if it is still right: the test may have changed its working folder."""
         assert self.path is not None
         return self._shown / name if self._shown.absolute() == self.path else self.path / name
 
@@ -109,7 +109,7 @@ class LongFolder:
         return self._open[-1]
 
     def closed(self, part: Part, telling: Telling) -> None:
-        """Notes the result of a part. If only some legal ones are kept, the oldest are removed."""
+        """Records the result of a part. If only some legal parts are kept, removes the oldest."""
         said = f"{part.name}: {telling.length} events, {len(part.objects)} objects: {telling.verdict or 'no verdict'}"
         lost = "its folder" if part.folder is None else part.folder.lost
         self.lost = self.lost or lost

@@ -1,4 +1,4 @@
-"""A handle of a test without an end: it goes on as long as the test, while the objects behind it are replaced."""
+"""A handle of a test without an end. It lasts as long as the test, while its objects are replaced."""
 from __future__ import annotations
 
 from typing import TYPE_CHECKING, List, Optional
@@ -11,10 +11,10 @@ if TYPE_CHECKING:
 
 
 class Handle(Operations):
-    """LongMonitor.fresh makes it. Each block is an operation on one of its objects, whose name is op.name. A change goes to an object that
-    is not replaced yet. One of two reads goes to a replaced one, until it was read eight times since, because reads alone see lost data. A
-    dequeue goes to a replaced one until it was found empty twice. If each object has its operations open already, a new one comes beside
-    them."""
+    """LongMonitor.fresh makes it. Each block is an operation on one of its objects, whose name is op.name. A change uses an object that is
+    not replaced yet. Every second read uses a replaced object until it has answered eight reads since, because only reads show lost data. A
+    dequeue uses a replaced object until it was found empty twice. If all objects have as many open operations as they may, a new object is
+    added."""
 
     def __init__(self, parts: Parts, model: str, changes: Optional[int]) -> None:
         self.model = model
@@ -33,7 +33,7 @@ class Handle(Operations):
 
     @property
     def objects(self) -> List[LongObject]:
-        """Those that are still judged. At the end of the test, when its faults are over, read each of them once more."""
+        """The objects that are still judged. At the end of the test, when its faults are over, read each of them once more."""
         return self._parts.objects_of(self)
 
     # --- The caller has the lock of the test ---
@@ -57,7 +57,7 @@ class Handle(Operations):
             self._replaced = [one for one in self._replaced if not (one.is_over or one.is_read_enough)]
 
     def _drawn(self, objects: List[LongObject]) -> Optional[LongObject]:
-        """One that has room, from a place that is drawn; None if none has."""
+        """An object with room, searched from a random place. None if no object has room."""
         place = self._parts.draws.randrange(len(objects)) if objects else 0
         return next((one for one in objects[place:] + objects[:place] if one.has_room), None)
 

@@ -1,11 +1,11 @@
-"""How much of one program a test without an end uses."""
+"""The part of one program's limits that a test without an end uses."""
 from __future__ import annotations
 
 from typing import NamedTuple, Optional
 
 from ..history import kinds
 
-MOST_EVENTS = kinds.EVENTS // 4 * 3  # so that a quarter more is left for what is read once more, and for what is open then
+MOST_EVENTS = kinds.EVENTS // 4 * 3  # so that a quarter more remains for later reads, and for operations that are open then
 
 
 class Limits(NamedTuple):
@@ -17,12 +17,13 @@ class Limits(NamedTuple):
 
     @property
     def last_events(self) -> int:
-        """After this number nothing more begins on an object that was replaced."""
+        """After this number of events no operation begins on a replaced object."""
         return self.events + self.events // 4
 
     @property
     def share(self) -> int:
-        """Operations that are open at once by handles; the others are for objects that a client holds, as a lock to be released."""
+        """The number of operations of handles that may be open at once. The others are for objects that a client holds, such as a lock that
+        it has to release."""
         return max(1, self.threads // 4 * 3)
 
 

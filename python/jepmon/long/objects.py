@@ -18,7 +18,7 @@ CHANGES = ("write", "cas", "add", "enqueue", "acquire")
 
 
 class Operations:
-    """The operations of an object, each a block; whoever has them says which object it is."""
+    """The operations of an object, each a block. The subclass decides which object it is."""
 
     _parts: Parts
 
@@ -55,8 +55,8 @@ class Operations:
 
 
 class LongObject(Operations):
-    """An object, as long as it is judged. A handle chooses among some objects. Operations that belong together need one of them: the
-    release of a lock that of its acquire, a cas that of the read before it. The numbers change under the lock of the test."""
+    """An object, as long as it is judged. A handle chooses one of several objects. Operations that belong together need the same object: a
+    release needs the object of its acquire, and a cas the object of the read before it. The numbers change under the lock of the test."""
 
     def __init__(self, parts: Parts, part: Part, key: int, name: str, model: str, changes: Optional[int]) -> None:
         self.part, self.key, self.name, self.model = part, key, name, model
@@ -94,7 +94,7 @@ class LongObject(Operations):
 
     @property
     def is_read_enough(self) -> bool:
-        """Since it was replaced. A lock has nothing to read, and its release is to be judged."""
+        """Whether it was read often enough since it was replaced. A lock has nothing to read, and its release has to be judged."""
         if self.model == "mutex":
             return self._held <= 0
         return self._answers >= (EMPTY if self.model in QUEUES else ANSWERS)
@@ -114,7 +114,7 @@ class LongObject(Operations):
         return self.part.has_room and self._room.holds(self.open, self.timeouts)
 
     def ended(self, name: str, outcome: Optional[str], is_answered: bool) -> None:
-        """An operation of it has ended so: a dequeue that failed with an answer has found it empty."""
+        """Records the end of an operation. A dequeue that failed with an answer has found the queue empty."""
         self._changes += name in CHANGES
         self._held += ((name, outcome) == ("acquire", "ok")) - (name == "release" and outcome != "fail")
         if outcome == "info" and name != "read":

@@ -15,7 +15,8 @@ if TYPE_CHECKING:
 
 
 class LongOperation(Block):
-    """As Operation. Its object is chosen where the block begins, and it ends there, whatever has come in its place."""
+    """An Operation on an object that is chosen when its block begins. It ends on the same object, even if another object has replaced that
+    one."""
 
     _parts: Parts
     _chooser: Union[Handle, LongObject]
@@ -73,13 +74,13 @@ class LongOperation(Block):
 
     def _end(self, is_answered: bool) -> None:
         inner = self._inner
-        self.__dict__.update(_inner=None)  # an operation that a client keeps does not keep its program's events
+        self.__dict__.update(_inner=None)  # so that a client that keeps an operation does not keep its program's events
         if inner is not None and not isinstance(inner._telling, Nobody):
             self._parts.end(self.object, self._name, self.outcome, self.recorded, is_answered)
 
 
 class Nobody:
-    """Stands for a program that was closed: it records nothing, and operations end as they would."""
+    """Replaces a program that was closed: it records nothing, and operations end as usual."""
 
     def __init__(self, parts: Parts, model: str) -> None:
         self.endings, self.missing, self._model = parts.endings, parts.missing, model

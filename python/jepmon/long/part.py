@@ -18,8 +18,9 @@ if TYPE_CHECKING:
 
 
 class Part:
-    """A part is current; then retired, if each of its objects is replaced, and read a few times more. Then it is shut, if nothing begins
-    any more; and closed, with its program, once nothing is open. The caller has the lock of the test, but where it is said."""
+    """A part is first current. It is retired when each of its objects has been replaced. Clients read the old objects a few times more. It
+    is shut when no operation begins in it any more. It is closed, with its program, when no operation is open. The caller has the lock of
+    the test, except if a method says otherwise."""
 
     def __init__(self, number: int, settings: Settings, limits: Limits, folders: Optional[LongFolder]) -> None:
         self.number, self.limits, self.model = number, limits, settings.model
@@ -72,7 +73,7 @@ class Part:
 
     @property
     def is_done(self) -> bool:
-        """Whether nothing more has to begin: its objects were read enough, or it has no place for more events."""
+        """Whether no operation has to begin in it: its objects were read enough, or it has no room for more events."""
         return self.is_retired and (self.waiting == 0 or self.length >= self.limits.last_events)
 
     @property
@@ -82,7 +83,7 @@ class Part:
 
     @property
     def equal_values(self) -> AbstractSet[int]:
-        """Queues that are judged by their ends since values are equal, by key."""
+        """Queues that are judged by their ends, since their values are equal, by key."""
         return self.telling.equal_values if self.telling is not None else frozenset()
 
     def counts(self) -> Dict[str, Counter[str]]:
@@ -108,6 +109,6 @@ class Part:
             self.telling.note(kind, text)
 
     def leave(self) -> None:
-        """Its program was closed. Objects that clients hold may keep the part, but none of its events."""
+        """Forgets the events after its program was closed. Objects that clients hold may keep the part, but not its events."""
         self.telling = None
         self.objects, self.makers = [], []

@@ -1,4 +1,4 @@
-"""The parts of a test without an end: which one a new object goes to, when they are replaced, and when they are closed."""
+"""The parts of a test without an end: the part of a new object, and when parts are replaced and closed."""
 from __future__ import annotations
 
 import contextlib
@@ -24,7 +24,7 @@ from .tally import Tally
 
 
 class Parts:
-    """One lock for all of them: of it a part's own lock may be taken, and never the other way round."""
+    """One lock for all parts. A thread that has it may take the lock of a part, but never the other way round."""
 
     def __init__(self, settings: Settings, limits: Limits, folder: Optional[LongFolder], forget: Optional[Callable[[str], object]]) -> None:
         self.lock = OwnedLock()
@@ -32,7 +32,7 @@ class Parts:
         self.tally = Tally()
         self.failure: Optional[NotLegal] = None
         self.failed_part = ""
-        self.broken_off: Optional[Refused] = None  # while clients are waited for, of which one has raised an exception
+        self.broken_off: Optional[Refused] = None  # set while the test waits for clients after one has raised an exception
         self.is_closed = False
         self._settings, self._limits, self._folder, self._forget = settings, limits, folder, forget
         self._freed = threading.Condition(self.lock)  # type: ignore[arg-type]
@@ -54,13 +54,13 @@ class Parts:
         return self._settings.missing
 
     def settle(self, number: int) -> None:
-        """Lets the operations of this thread be those of the client of this number, as far as it is free."""
+        """Makes the operations of this thread those of the client with this number, if it is free."""
         self._settings.homes[threading.get_ident()] = number
 
     # --- Operations ---
 
     def begin(self, chooser: Union[Handle, LongObject], name: str) -> Tuple[LongObject, Optional[Telling]]:
-        """The object on which an operation begins, and whom to tell of it: nobody if its part is shut."""
+        """The object on which an operation begins, and the receiver of its events. Nobody receives them if the part is shut."""
         with self.lock:
             self._test_running()
             one = chooser.choose(name)
@@ -75,7 +75,7 @@ class Parts:
             return one, one.part.telling
 
     def end(self, one: LongObject, name: str, outcome: Optional[str], told: bool, is_answered: bool) -> None:
-        """The outcome of an operation there; None if it could not begin."""
+        """Records the outcome of an operation. None if it could not begin."""
         with self.lock:
             one.open -= 1
             one.part.open -= 1
@@ -92,7 +92,8 @@ class Parts:
         self._close(due, None)
 
     def _wait_for_room(self, one: LongObject) -> None:
-        """An operation of an object that a client holds can go to no other part. Some threads are kept for those."""
+        """Waits for a thread. An operation on an object that a client holds cannot use another part, so some threads are kept for such
+        operations."""
         deadline = time.monotonic() + self._settings.timeout
         while one.part.open >= self._limits.threads and not one.is_over:
             if not self._freed.wait(max(0.0, deadline - time.monotonic())) and time.monotonic() >= deadline:
@@ -113,7 +114,7 @@ class Parts:
         return copy.copy(self.failure)
 
     def _fail(self, part: Part, failure: NotLegal) -> None:
-        """The first part that is not legal has the verdict, with the name of its object, also if the clients were broken off before."""
+        """Records the verdict of the first part that is not legal, with the name of its object, also if the clients had to stop before."""
         if self.failure is not None and self.failed_part:
             if failure.status == 1 and part.name != self.failed_part:
                 self.tally.also_illegal[part.name] = failure.reply
@@ -126,7 +127,7 @@ class Parts:
             self._folder.put_verdict(self.tally.verdict(failure, part.name))
 
     def note(self, kind: str, text: str) -> None:
-        """A note of a fault stands in each part; one that holds is noted in new parts too."""
+        """Notes a fault in each part. A fault that lasts is noted in new parts too."""
         with self.lock:
             if kind == BEGIN:
                 self._test_running()
@@ -139,7 +140,7 @@ class Parts:
     # --- Objects ---
 
     def new_object(self, maker: Handle, changes: Optional[int]) -> LongObject:
-        """An object that is replaced after so many changes. The caller has the lock."""
+        """Makes an object that is replaced after this number of changes. The caller has the lock."""
         for current in list(self._current):
             self._test(current)
         part = next(filter(lambda current: current.has_room, self._current), None) or self._part()
@@ -185,7 +186,7 @@ class Parts:
         return part
 
     def _test(self, part: Part) -> None:
-        """Whether it is to be retired, or to be shut. There are at most as many retired ones as current ones."""
+        """Tests whether a part is to be retired or shut. There are at most as many retired parts as current parts."""
         if self.is_closed:
             return
         if not part.is_retired and part.is_full:
@@ -204,9 +205,9 @@ class Parts:
         self._shut.append(part)
 
     def _close(self, parts: List[Part], ended_by: Optional[BaseException]) -> None:
-        """Ends their programs. The caller has no lock, since that takes as long as jepmon takes for its last replies."""
+        """Ends the programs of these parts. The caller has no lock, since this takes as long as jepmon needs for its last replies."""
         over: List[str] = []
-        with contextlib.ExitStack() as closing:  # each of them, also where Ctrl-C comes meanwhile
+        with contextlib.ExitStack() as closing:  # each of them, also if Ctrl-C comes meanwhile
             for part in reversed(parts):
                 closing.callback(lambda part=part: over.extend(self._close_one(part, ended_by)))
         if self._forget is not None:
@@ -234,7 +235,7 @@ class Parts:
     # --- The end ---
 
     def close(self, ended_by: Optional[BaseException]) -> str:
-        """Closes all parts, and gives the verdict, once those are closed too that other threads were about to close."""
+        """Closes all parts, and returns the verdict. It waits for parts that other threads are closing."""
         with self.lock:
             is_first, self.is_closed = not self.is_closed, True
             parts, self._current, self._retired, self._shut = self.running, [], [], []

@@ -1,4 +1,4 @@
-"""The results of the closed parts of a test, in as few words after a day as after a minute."""
+"""The results of the closed parts of a test. They need no more room after a day than after a minute."""
 from __future__ import annotations
 
 import collections
@@ -21,7 +21,7 @@ class Tally:
         self.counts: Dict[str, Counter[str]] = {}  # of outcomes, by operation
         self.unjudged = 0  # operations that were not told
         self.undrained = 0  # queues that were judged no more before they were found empty
-        self.also_illegal: Dict[str, str] = {}  # of other parts, which were found illegal before all had ended
+        self.also_illegal: Dict[str, str] = {}  # other parts that were found illegal before all had ended
         self.dropped = 0  # objects that were over their budget
         self.first_dropped: List[str] = []  # their names, and where
 
@@ -36,16 +36,16 @@ class Tally:
             self.first_dropped.append(f"{unknown.reply} of {part.name}: {part.objects[key].name}")
 
     def verdict(self, failure: Optional[NotLegal], of: str) -> str:
-        """The line of the verdict, by itself if all was judged; else also the things that were not judged, a line each."""
+        """The line of the verdict. If something was not judged, a line for each such thing follows."""
         first = self.first_dropped[0].partition(":")[0] if self.first_dropped else "legal"
         lines = [first if failure is None else failure.reply + (f" of {of}" if of else "")]
         lines += [f"also {reply} of {part}" for part, reply in self.also_illegal.items()]
         if self.dropped:
-            lines.append(f"not judged to their end: {self.dropped} objects that were over their budget, as {self.first_dropped[0]}")
+            lines.append(f"not judged to their end: {self.dropped} objects that were over their budget, such as {self.first_dropped[0]}")
         if self.undrained:
-            lines.append(f"not judged to their end: {self.undrained} queues that may hold messages yet; let consumers keep up")
+            lines.append(f"not judged to their end: {self.undrained} queues that may still hold messages; let consumers keep up")
         if self.unjudged:
-            lines.append(f"not judged: {self.unjudged} operations, which began on an object when it was judged no more")
+            lines.append(f"not judged: {self.unjudged} operations, which began on an object after its judging had ended")
         return "\n".join(lines)
 
 

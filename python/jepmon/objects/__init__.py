@@ -1,8 +1,8 @@
 """The effect of each operation on the six objects: the table of models of docs/FORMATS.md, in Python.
 
-A state is None or an integer (a register), a boolean (a mutex: is it held), a tuple (a queue, its front first; without an order:
-ascending) or a frozenset (a set). The proved program has these tables by itself; this is a second writing of them, for words and
-pictures, and it is tested against the program.
+A state is None or an integer (a register), a boolean (a mutex: is it held), a tuple (a queue, its front first; without an order: ascending)
+or a frozenset (a set). The proved program has these tables itself. This is a second version of them, for words and pictures, and tests
+compare it with the program.
 """
 from __future__ import annotations
 
@@ -49,8 +49,8 @@ def _release(state: bool, _part: Part) -> List[Outcome]:
 
 
 def _acquire_by(state: Optional[int], part: int) -> List[Outcome]:
-    """The part is the operation's number from 0. The state is one more while it holds the lock, and as much below 0 after a
-    release."""
+    """An acquire whose part is the operation's number n, from 0. The state is n + 1 while it holds the lock, and after a release -(n +
+    1)."""
     return [] if state is not None and state > 0 else [(part + 1, None)]
 
 
@@ -72,7 +72,7 @@ def _enqueue_in_its_place(state: Tuple[int, ...], part: int) -> List[Outcome]:
 
 
 def _dequeue_any(state: Tuple[int, ...], _part: Part) -> List[Outcome]:
-    """One outcome for each value that is in, by ascending value."""
+    """One outcome for each different value in the queue, by ascending value."""
     return [(state[:place] + state[place + 1:], value) for place, value in enumerate(state)
             if place == 0 or state[place - 1] != value]
 
@@ -101,7 +101,7 @@ RULES: Dict[Tuple[str, str], Rule] = {
 
 
 def nowhere(_state: State, _part: Part) -> List[Outcome]:
-    """The rule of an operation that the object does not have: it takes place nowhere."""
+    """The rule of an operation that the object does not have: it never takes place."""
     return []
 
 

@@ -1,11 +1,11 @@
-"""Walks through the events of one key, and keeps what can be after each: its ends.
+"""Walks through the events of one key, and keeps the possible outcomes after each event: the ends.
 
 An end is the result of one possible order of the operations. It has the state, the open operations that have taken place in it, each with
-its answer, and the timed-out ones that have (but not reads, which decide nothing). The words are those of docs/guide/BUDGETS.md. If no
-end goes on the key is dead; if an ok meets more ends than the budget it is over. The proved program says both, and this walk must say
-the same: it is there to show what the program only counts. The program counts something else for wide kinds, so there `follow` gives up
-instead. It is tested against the program, and not proved. If it would take too long it gives up, and then
-nothing that it has found may be shown.
+its answer, and the timed-out operations that have taken place (except reads, which decide nothing). The words are those of
+docs/guide/BUDGETS.md. If no end remains, the key is dead. If there are more ends than the budget at an ok, the key is over. The proved
+program says both, and this walk must say the same: the walk shows what the program only counts. For wide kinds the program counts something
+else, so `follow` gives up there. Tests compare the walk with the program, and it is not proved. If the walk would take too long it gives
+up, and then none of its results may be shown.
 
     walked = walk(of_key(events, 7), "register", 4096)
     walked.status            # "alive", "dead", "over", or "gave up"
@@ -48,7 +48,7 @@ class TooMany(Exception):
 
 
 class Step(NamedTuple):
-    """An event, and how many ends there were just before it, if it is an ok: this is what the budget bounds."""
+    """An event, and the number of ends just before it, if it is an ok. The budget bounds this number."""
 
     event: Event
     ends: Optional[int]
@@ -58,7 +58,7 @@ class End(NamedTuple):
     """The result of one possible order."""
 
     state: State
-    taken: Mapping[int, Found]  # of the operations that are open or have timed out those that took place, with what each found
+    taken: Mapping[int, Found]  # the open or timed-out operations that took place, each with its found value
     link: Link
 
     @property
@@ -84,9 +84,8 @@ class Live(NamedTuple):
 
 
 class Walker:
-    """The walk, event by event. If an event kills the key, the ends just before it are kept, and the walk goes no further. A
-    probe is an invocation that is taken for an operation that changes nothing and finds the state. It gives up when too much was
-    tried."""
+    """The walk, event by event. If an event makes the key dead, the walk keeps the ends just before it and stops. A probe is an invocation
+    that counts as an operation that changes nothing and finds the state. The walk gives up when it has tried too much."""
 
     def __init__(self, model: str, budget: int, work: int = WORK) -> None:
         self.model, self.budget, self.work = model, budget, work
@@ -107,7 +106,7 @@ class Walker:
         return other
 
     def take(self, event: Event) -> Optional[int]:
-        """Goes on by an event of the key: the number of ends just before it, if it is an ok. TooMany if these are more than
+        """Takes the next event of the key. Returns the number of ends just before it, if it is an ok. Raises TooMany if this number exceeds
         the budget."""
         if event.kind == "invoke":
             self._invoke(event)
@@ -128,8 +127,8 @@ class Walker:
         return count
 
     def can_have(self, operation: int, test: Callable[[State], bool]) -> bool:
-        """Whether in one of the ends the state passes the test, or this operation has taken place and its answer, if any, passes the
-        test."""
+        """Whether there is an end whose state passes the test. For a given operation: whether there is an end in which it has taken place
+        and its answer, if any, passes the test."""
         live = self.live.get(operation)
         if any(map(test, {state for state, _, _ in self._ends})):
             return True
@@ -145,12 +144,12 @@ class Walker:
         return live is not None and all(seats & live.seat for _, seats, _ in self._ends)
 
     def count_without(self, operation: int) -> int:
-        """In how many of the ends that are held it has not taken place."""
+        """The number of held ends in which it has not taken place."""
         live = self.live[operation]
         return sum(not seats & live.seat for _, seats, _ in self._ends)
 
     def _after(self, event: Event, operation: Live) -> Dict[Place, Link]:
-        """The ends that go on with this completion or crash of an operation."""
+        """The ends that remain after this completion or crash of an operation."""
         if event.kind == "ok":
             return self.after_ok(operation, event.value)
         if event.kind == "fail":
@@ -163,7 +162,7 @@ class Walker:
         return self._ends
 
     def complete(self, most: int = UNBOUNDED) -> Dict[Place, Link]:
-        """All ends at this point, including those by invocations since the last ok. TooMany if they are more than most."""
+        """All ends at this point, including those by invocations since the last ok. Raises TooMany if there are more than `most`."""
         if self._fresh:
             new = self._reach(self._fresh, list(self._ends), {}, most)
             everything, moves = list(self.live.values()), {}  # type: Tuple[List[Live], Dict[State, List[Move]]]
@@ -175,8 +174,8 @@ class Walker:
         return self._ends
 
     def after_ok(self, operation: Live, answer: Part) -> Dict[Place, Link]:
-        """The ends that remain if the operation completes with this answer. The ends are complete before. A nil agrees with any value of
-        a register; an operation without an answer agrees with every answer."""
+        """The ends that remain if the operation completes with this answer. `complete` was called before. A nil agrees with any value of a
+        register, and an operation without an answer agrees with every answer."""
         seat = operation.seat
         if not operation.answers:
             return {(state, seats ^ seat, finds): link for (state, seats, finds), link in self._ends.items() if seats & seat}
@@ -220,7 +219,7 @@ class Walker:
         self._seats.append(operation.seat)
 
     def _without(self, operation: Live, before: Dict[Place, Link]) -> Dict[Place, Link]:
-        """These ends, whether or not the operation took place in them, and whatever it found: one that changes nothing."""
+        """These ends without an operation that changes nothing, whether or not it took place in them, and whatever it found."""
         seat = operation.seat
         ends: Dict[Place, Link] = {}
         for (state, seats, finds), link in before.items():
@@ -228,7 +227,7 @@ class Walker:
         return ends
 
     def _reach(self, operations: List[Live], places: List[Place], moves: Dict[State, List[Move]], most: int) -> List[Place]:
-        """Puts in the ends that one of the operations reaches from these, and gives those that are new."""
+        """Adds the ends that one of the operations reaches from these ends, and returns the new ends."""
         ends, new = self._ends, []
         for place in places:
             state, seats, finds = place
@@ -285,8 +284,8 @@ class Walk:
         return self.steps[-1].event if self.status == "dead" else None
 
     def ends(self) -> List[End]:
-        """The ends after the last event; of a dead key the ends just before the fatal event. None if it is over or gave up. GaveUp is raised if
-        there are too many; the budget does not bound them if the last event is not an ok."""
+        """The ends after the last event. For a dead key these are the ends just before the fatal event. None if the key is over or the walk
+        gave up. Raises GaveUp if there are too many ends: the budget does not bound them if the last event is not an ok."""
         return self.walker.ends() if self.status in ("alive", "dead") else []
 
     def while_open(self, invocation: int, work: int = WORK) -> Optional[Set[State]]:
@@ -304,7 +303,8 @@ class Walk:
 
 
 def walk(events: Iterable[Event], model: str, budget: int, work: int = WORK) -> Walk:
-    """Walks through the events of one key, up to the one at which it is dead or over, or to the end. It gives up after so much work."""
+    """Walks through the events of one key, up to the event at which the key is dead or over, or to the end. Gives up after this much
+    work."""
     walker = Walker(model, budget, work)
     steps: List[Step] = []
     stops = [Stop(0, walker.copy(UNBOUNDED))]
@@ -323,8 +323,8 @@ def walk(events: Iterable[Event], model: str, budget: int, work: int = WORK) -> 
 
 
 def follow(events: Iterable[Event], options: Options, program: Optional[str] = None, work: int = WORK) -> Walk:
-    """A walk through the events of a key that the program has judged with these options. With more ends than the budget it gave up, if the
-    program has counted something else: the outcomes of a wide kind."""
+    """A walk through the events of a key that the program has judged with these options. If there are more ends than the budget, and the
+    program has counted something else (for a wide kind), the status is "gave up"."""
     walked = walk(events, options.model, options.budget, work)
     return dataclasses.replace(walked, status="gave up") if walked.status == "over" and options.is_wide(program) else walked
 

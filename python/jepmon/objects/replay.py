@@ -1,5 +1,5 @@
-"""One order of operations, one after another, on an object that is changed in place: what jepmon.objects says of each, in about the time
-that the operation itself takes. An outcome of jepmon.objects is a whole new state, and a long queue has many."""
+"""Runs one order of operations on an object that is changed in place. The results are those of jepmon.objects, in about the time of the
+operations themselves. An outcome of jepmon.objects is a whole new state, which is large for a long queue."""
 from __future__ import annotations
 
 import collections
@@ -8,14 +8,15 @@ from typing import Callable, Counter, Deque, Dict, Optional, Set, Tuple, cast
 from . import START, Found, Part, State, rule
 
 Wanted = Optional[Tuple[Found]]  # the answer that a read or a dequeue has to find; None: any one
-Taken = Optional[Tuple[Found]]  # what was found; None where the operation can't take place so
+Taken = Optional[Tuple[Found]]  # the found value; None if the operation can't take place in this way
 
 
 class Object:
     """An object at its start."""
 
     def take(self, name: str, part: Part, wanted: Wanted = None) -> Taken:
-        """The operation takes place, where it can; else nothing is changed. Where several answers are right it finds the least."""
+        """Carries out the operation if it can take place, and otherwise changes nothing. If several answers are right, it finds the least
+        one."""
         raise NotImplementedError
 
     def state(self) -> State:
@@ -28,7 +29,7 @@ def fits(found: Found, wanted: Wanted) -> bool:
 
 
 class ByRules(Object):
-    """An object whose states are small, so that it takes them from jepmon.objects."""
+    """An object with small states, which it takes from jepmon.objects."""
 
     def __init__(self, model: str) -> None:
         self._model, self._state = model, START[model]

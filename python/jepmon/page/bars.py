@@ -16,13 +16,13 @@ LINES = 20  # at most, with the line of indices and the one of the fatal event
 EVENTS = 60
 LABEL = 28
 FRAME = 5  # what a bar has around its label
-TAIL = 4  # how far a bar goes on behind the last event, where it is open then
+TAIL = 4  # how far a bar continues behind the last event, if its operation is open
 PLAIN = str.maketrans({"\u251c": "|", "\u2524": "|", "\u2500": "-", "\u254c": ".", "\u2550": "=", "\u255e": "|", "\u2561": "|",
                        "\u2192": ">", "\u2717": "x", "\u2026": "~", "\u25b2": "^"})
 
 
 class Drawn(NamedTuple):
-    """Some events, the lanes of the operations there, and at which character each event stands."""
+    """Some events, the lanes of the operations there, and the character position of each event."""
 
     events: Sequence[Event]
     lanes: List[layout.Lane]
@@ -35,8 +35,8 @@ class Drawn(NamedTuple):
 
 
 def bars(given: PageInput, width: int = WIDTH, lines: int = LINES, plain: bool = False) -> str:
-    """The bars of the smallest illegal part, if there is one and it has room, else of the last events up to the fatal one.
-    Plain: in ASCII."""
+    """The bars of the smallest illegal part, if there is one and it fits. Otherwise the bars of the last events up to the fatal one.
+    `plain`: in ASCII."""
     labels = Labels(given.names)
     fatal = fatal_of(given.verdict)
     drawn = fitting(given, fatal, labels, width)
@@ -66,7 +66,8 @@ def fitting(given: PageInput, fatal: Optional[int], labels: Labels, width: int) 
 
 
 def tells(operation: Operation, fatal: Optional[int]) -> bool:
-    """Whether the operation says anything of the object's states: one that failed does not, nor does a read that timed out."""
+    """Whether the operation says anything about the object's states. A failed operation does not, and neither does a read that timed
+    out."""
     ended = operation.completion
     if ended is None or ended.index == fatal:
         return True
@@ -105,7 +106,7 @@ def rows(drawn: Drawn, labels: Labels, fatal: Optional[int], lines: int, word: s
     scale.write(0, "event")
     for event, column in zip(drawn.events, drawn.columns):
         scale.write(drawn.names + column, str(event.index))
-    every: List[Tuple[bool, int, str]] = []  # of each row: whether the fatal bar is in it, where it was last told of, its text
+    every: List[Tuple[bool, int, str]] = []  # of each row: whether the fatal bar is in it, the place of its last event, its text
     for lane in drawn.lanes:
         for row in range(lane.rows):
             line = Line(room)
@@ -152,7 +153,7 @@ def draw(line: "Line", bar: layout.Bar, drawn: Drawn, labels: Labels, fatal: Opt
 
 
 class Line:
-    """A line of characters that are put in their columns; characters without room are left out."""
+    """A line of characters in columns. Characters without room are left out."""
 
     def __init__(self, width: int) -> None:
         self.cells: Dict[int, str] = {}

@@ -22,7 +22,7 @@ def fatal_of(verdict: str) -> Optional[int]:
 
 
 def number(value: int) -> str:
-    """With a comma between thousands, as of counts; an index has none, so that it is found in the file."""
+    """A number with commas between thousands, for counts. An index has no commas, so that it can be found in the file."""
     return f"{value:,}"
 
 
@@ -31,7 +31,7 @@ def counted(value: int, of: str) -> str:
 
 
 def agreement(given: PageInput) -> Tuple[bool, str]:
-    """Whether what the walk found may be shown; else why not, if there was a walk."""
+    """Whether the walk's results may be shown. If not, the reason, if there was a walk."""
     walked = given.walked
     if walked is None:
         return False, ""
@@ -48,7 +48,7 @@ def agreement(given: PageInput) -> Tuple[bool, str]:
 
 
 def headline(page: Page) -> str:
-    """The cause in one sentence; if none was given, that of the verdict."""
+    """The cause in one sentence. Without a cause, the verdict in one sentence."""
     given = page.given
     if given.headline:
         return given.headline

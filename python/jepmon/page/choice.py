@@ -1,4 +1,4 @@
-"""Which events of a key a page shows: all of them, or, of a long history, those around the fatal one."""
+"""The events of a key that a page shows: all events, or the events around the fatal one if the history is long."""
 from __future__ import annotations
 
 from typing import AbstractSet, List, NamedTuple, Optional, Sequence
@@ -7,11 +7,11 @@ from ..history import Event, Operation, operations
 from .layout import stays
 
 MOST = 10_000  # events on a page
-AFTER = 500  # of them behind the fatal one, where not all have room
+AFTER = 500  # of them behind the fatal one, if not all fit
 
 
 class Choice(NamedTuple):
-    """The events that are shown, and the operations, with those that were open before the first of these events. Then the operations of the
+    """The shown events, and the shown operations, with those that were open before the first of these events. Then the operations of the
     smallest part that are further away, and the numbers of hidden events before and after."""
 
     events: Sequence[Event]

@@ -25,8 +25,8 @@ CHANGES = OPERATIONS - {"read"}
 
 
 class Page(NamedTuple):
-    """The data of a page: the input, the part that is shown, the operations of the smallest illegal part, and the fatal event's index. It
-    also has the results of the walks through all events and through those of the part alone, if they may be shown."""
+    """The data of a page: the input, the shown part of it, the operations of the smallest illegal part, and the fatal event's index. It
+    also has the results of the walks through all events and through the events of the part alone, if these may be shown."""
 
     given: PageInput
     choice: Choice
@@ -38,7 +38,7 @@ class Page(NamedTuple):
 
 
 def text_of(value: Any) -> str:
-    """The value as JSON that can stand within a script element, whatever it has in it."""
+    """The value as JSON that may be within a script element, whatever text it contains."""
     text = json.dumps(value, ensure_ascii=False, separators=(",", ":"), check_circular=False)
     for strange in "<>&\u2028\u2029":
         text = text.replace(strange, f"\\u{ord(strange):04x}")
@@ -87,8 +87,7 @@ def field_names(events: Sequence[Event]) -> List[str]:
 
 
 def event_row(event: Event, names: Sequence[str], most: int) -> List[Any]:
-    """Index, line, text (0 if it is the one that the script puts together by itself), and the further fields, nulls at the
-    end left out."""
+    """Index, line, text (0 if the script can make this text by itself), and the further fields, without nulls at the end."""
     fields = [field_text(event.fields[name]) if name in event.fields else None for name in names]
     while fields and fields[-1] is None:
         fields.pop()
@@ -114,8 +113,8 @@ def field_text(value: Any) -> str:
 
 
 def operation_row(operation: Operation, numbers: Mapping[int, int], labels: Labels) -> List[Any]:
-    """Process, client, name, kind, label, the numbers of its events (-1: none), and how it ended. Then the parts of its events as they are
-    (the second one if it is another), and the meaning of its numbers. Empty fields at the end are left out."""
+    """Process, client, name, kind, label, the numbers of its events (-1: none), and its outcome. Then the parts of its events (the second
+    part only if it differs), and the meaning of its numbers. Empty fields at the end are left out."""
     asked, ended = operation.invocation, operation.completion
     parts = [part_text(asked.value), part_text(ended.value) if ended is not None and ended.value != asked.value else ""]
     row = [asked.process, operation.thread, asked.name, CHANGE if asked.name in CHANGES else READ,
@@ -138,8 +137,9 @@ def other_labels(page: Page, operations: Sequence[Operation], of_invocation: Map
 
 
 def view_row(of: View, walked: Optional[Walked], numbers: Mapping[int, int], of_invocation: Mapping[int, int]) -> Dict[str, Any]:
-    """The columns' events and gaps, the width, and the lanes. Then the bars in the order of their invocations (operation, lane, row, first
-    column, last column, and the column of its event), the bands of faults, and the values that the object could hold just before an ok."""
+    """The columns' events and gaps, the width, the lanes, the bars, the bands of faults, and the values that the object could hold just
+    before an ok. The bars are in the order of their invocations. A bar has its operation, lane, row, first column, last column, and the
+    column of its event."""
     bars = [[of_invocation[bar.operation.invocation.index], number, bar.row, bar.begin, bar.end, bar.told]
             for number, lane in enumerate(of.lanes) for bar in lane.bars]
     return {

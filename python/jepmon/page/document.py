@@ -1,5 +1,4 @@
-"""Puts a page together: the template, filled with words and the data; its style and script stand in it, so that it needs
-nothing else."""
+"""Puts a page together: the template, filled with words and data. The page contains its style and script, so it needs nothing else."""
 from __future__ import annotations
 
 import base64
@@ -79,13 +78,12 @@ def resource(name: str) -> str:
 
 
 def hashed(text: str) -> str:
-    """The name by which a policy of the page allows this text alone as style or script, whatever else may have come into the
-    page."""
+    """The hash by which the page's content security policy allows only this text as style or script, whatever other text is in the page."""
     return f"'sha256-{base64.b64encode(hashlib.sha256(text.encode('utf-8')).digest()).decode()}'"
 
 
 def linked(text: str, page: Page) -> str:
-    """The text as HTML, in which each event that it speaks of, and that is shown, is a button that leads there."""
+    """The text as HTML. Each event that the text mentions is a button that leads to this event, if the page shows the event."""
     shown = {event.index for each in page.choice.operations for event in each[:2] if event is not None}
 
     def button(found: Match[str]) -> str:
@@ -108,7 +106,7 @@ def switch(page: Page) -> str:
 
 
 def legend(page: Page) -> str:
-    """The meaning of the bars: those that are there."""
+    """The meaning of the bars that occur on the page."""
     every = page.choice.operations
     reads = any(each.invocation.name == "read" for each in every)
     shown: List[Tuple[str, str, str]] = []

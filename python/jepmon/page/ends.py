@@ -1,5 +1,5 @@
-"""The table of the ends just before the fatal event, which readers know as outcomes: the value of the object, and the open operations that
-have taken place."""
+"""The table of the ends (possible outcomes) just before the fatal event: the value of the object, and the open operations that have taken
+place."""
 from __future__ import annotations
 
 import collections
@@ -44,8 +44,8 @@ as numbered dots.</p>
 
 
 def pending_of(ends: Sequence[End], page: Page) -> List[int]:
-    """The operations that were open or had timed out, by the index of their invocations. First comes the one of the fatal event, then those
-    that took place in some ends and not in others, and last those that did in all."""
+    """The operations that were open or had timed out, by the index of their invocations. First comes the operation of the fatal event, then
+    the operations that took place in only some ends, and last those that took place in all ends."""
     counts = collections.Counter(index for end in ends for index in end.taken)
     fatal = [each.invocation.index for each in page.choice.operations
              if each.completion is not None and each.completion.index == page.fatal]

@@ -1,4 +1,4 @@
-"""Faults as bands: which faults there are, and from the times in which they held to places among the events of a key."""
+"""Faults as bands: converts the times of faults into places among the events of a key."""
 from __future__ import annotations
 
 import bisect
@@ -14,8 +14,7 @@ NO_ROW = -1
 
 
 class Band(NamedTuple):
-    """A fault among the events of a view: from `begin` to `end` in the view's own measure. Its text stands in this row of a
-    strip."""
+    """A fault among the events of a view: from `begin` to `end` in the units of the view. Its text is in this row of a strip."""
 
     text: str
     begin: int
@@ -24,10 +23,10 @@ class Band(NamedTuple):
 
 
 def spans(faults: Sequence[AnyFault], events: Sequence[Event]) -> List[Tuple[str, int, int]]:
-    """The text of each fault that held at some of these events, and the gaps in which it began and ended. Gap i is between event i and
-    event i + 1, -1 before the first, and the last one after the last. Faults by time are left out if an event has no :time, and so are
-    faults that were over before the first event or began after the last. Those of one text that meet are one: a nemesis may begin what
-    holds already, and end none of it."""
+    """The text of each fault that was active at some of these events, and the gaps in which it began and ended. Gap i is between event i
+    and event i + 1. Gap -1 is before the first event, and the last gap is after the last event. Faults by time are left out if an event has
+    no :time. So are faults that were over before the first event or began after the last one. Faults with the same text that meet are one
+    fault: a nemesis may begin a fault that is already active, and end only one."""
     indices = [event.index for event in events]
     times = [event.fields["time"] for event in events if isinstance(event.fields.get("time"), int)]
     times = list(itertools.accumulate(times, max))  # clocks may be set back
@@ -45,7 +44,7 @@ def spans(faults: Sequence[AnyFault], events: Sequence[Event]) -> List[Tuple[str
 
 
 def joined(found: Sequence[Tuple[str, int, int]]) -> List[Tuple[str, int, int]]:
-    """The spans, by their begins; those of one text that overlap are one. Moments stay as they are."""
+    """The spans, ordered by their beginnings. Overlapping spans with the same text become one. Moments stay as they are."""
     made: List[Tuple[str, int, int]] = []
     last: Dict[str, int] = {}  # the place in what was made, by text
     for text, begin, end in found:
@@ -59,8 +58,8 @@ def joined(found: Sequence[Tuple[str, int, int]]) -> List[Tuple[str, int, int]]:
 
 
 def rows(bands: Sequence[Tuple[str, int, int]], room: Callable[[str], int]) -> List[Band]:
-    """The bands with a row for each, so that no text (which takes so much room from its band's begin on) meets another in its
-    row. Where ROWS are taken a band has none (NO_ROW), and is a shade without a text."""
+    """The bands, each with a row, so that no text overlaps another text in its row. A text takes this much room from the beginning of its
+    band. If all ROWS are taken, a band has no row (NO_ROW), and is a shade without a text."""
     taken: List[int] = []  # of each row: up to where it is taken
     found: List[Band] = []
     for text, begin, end in bands:

@@ -1,4 +1,4 @@
-"""Makes the data of a page from an order of a key's operations that was found afterwards."""
+"""Makes the data of a page from an order of a key's operations that a search found afterwards."""
 from __future__ import annotations
 
 from typing import Dict, Mapping, Optional, Sequence
@@ -14,7 +14,7 @@ from .labels import Labels
 
 def ordered(events: Sequence[Event], model: str, concurrency: int, order: Sequence[int], dead: Optional[int],
             names: Mapping[int, str]) -> Walked:
-    """The data of a page if all operations have this order, or those of the events before the one at which the key is dead."""
+    """The data of a page for this order of all operations, or of the operations before the event at which the key is dead."""
     labels = Labels(names)
     before = [event for event in events if dead is None or event.index < dead]
     by_id = {each.invocation.index: each for each in operations(before, concurrency)}

@@ -1,4 +1,4 @@
-"""From a walk through a key's events (jepmon.objects.configurations) to the words of a page."""
+"""Converts a walk through a key's events (jepmon.objects.configurations) into the words of a page."""
 from __future__ import annotations
 
 from typing import Dict, Iterable, List, Mapping, Sequence, Tuple
@@ -47,12 +47,12 @@ def state_words(model: str, state: State, labels: Labels) -> str:
 
 
 def found_words(taken: Mapping[int, Found], live: Mapping[int, walk.Live], labels: Labels) -> Dict[int, str]:
-    """The answer of each operation that has taken place and has not been answered; "" if there is nothing to find."""
+    """The answer of each operation that has taken place and has not returned. The answer is "" if the operation finds nothing."""
     return {id: labels.value(found) if id in live and live[id].answers else "" for id, found in taken.items()}
 
 
 def held(given: walk.Walk, labels: Labels) -> List[Tuple[int, str]]:
-    """For each ok, the values that the object could hold just before it. Nothing, if that would take too long."""
+    """For each ok, the values that the object could hold just before it. Empty if this would take too long."""
     walker = walk.Walker(given.model, 1 << 62, WORK)
     said: List[Tuple[int, str]] = []
     try:

@@ -9,9 +9,9 @@ from ..history.kinds import BUDGET
 
 
 class Fault(NamedTuple):
-    """A fault, and the time in which it held: from `begin` to `end`. By "index" these are numbers of earlier events of the whole history
-    (for a nemesis' event: its index). By "time" they have the unit of the events' :time. An end of None: it held to the end of the history.
-    An end that is the begin: it is one moment, as a reply that was lost."""
+    """A fault, and its time from `begin` to `end`. By "index" these are numbers of earlier events of the whole history (for a nemesis'
+    event its index). By "time" they have the unit of the events' :time. If the end is None, the fault lasted to the end of the history. If
+    the end equals the beginning, the fault is one moment, such as a lost reply."""
 
     text: str
     begin: int
@@ -23,9 +23,9 @@ AnyFault = Union[Fault, notes.Fault]
 
 
 class End(NamedTuple):
-    """One way in which the events before the fatal one may have gone. It has the value of the object after it, in words. It has the open or
-    timed-out operations that have taken place in it, by the index of their invocation, each with its answer in words ("" if it has none).
-    And it has one order of the operations that leads there, by the index of their invocations."""
+    """A possible outcome of the events before the fatal one. It has the value of the object, in words. It has the open or timed-out
+    operations that have taken place, by the index of their invocation, each with its answer in words ("" if it has none). It also has one
+    order of the operations that leads to this outcome, by the index of their invocations."""
 
     state: str
     taken: Mapping[int, str]
@@ -33,8 +33,8 @@ class End(NamedTuple):
 
 
 class Walked(NamedTuple):
-    """The result of a walk through the key's events. It ended at event `at` as "dead" (no end goes on), "over" (more ends than the budget),
-    or "gave-up" (more than it would follow); as "alive" it came to the last event."""
+    """The result of a walk through the key's events. It ended at event `at` as "dead" (no end remains), "over" (more ends than the budget),
+    or "gave-up" (too many ends). If it is "alive", it reached the last event."""
 
     ended: str
     at: Optional[int]
@@ -42,7 +42,7 @@ class Walked(NamedTuple):
     held: Sequence[Tuple[int, str]] = ()  # for each ok: its index, and what the object could hold just before it, in words
     ends: Sequence[End] = ()  # just before the event at which it ended
     fatal_count: int = 0  # how many ends there were then; `ends` may be some of them
-    is_order: bool = False  # no walk found it: the one end is that of an order which was found afterwards
+    is_order: bool = False  # whether the only end comes from an order that was found afterwards, and not from a walk
 
 
 class Other(NamedTuple):

@@ -22,7 +22,7 @@ ALSO_PRINTED = {"\u200d", "\u200c"}  # joiners within letters and signs
 
 
 def printable(text: str) -> str:
-    """The text so that whatever shows it obeys nothing in it: a control character stands there as its escape."""
+    """The text with escapes instead of control characters, so that no terminal or browser obeys them."""
     if text.isprintable():
         return text
     return "".join(c if c.isprintable() or c in ALSO_PRINTED else c.encode("unicode_escape", "surrogatepass").decode()
@@ -30,12 +30,12 @@ def printable(text: str) -> str:
 
 
 def cut(text: str, most: int) -> str:
-    """The text, or as much of it as `most` characters have room for, with an ellipsis."""
+    """The text. If it is longer than `most` characters, as much of it as fits, with an ellipsis."""
     return text if len(text) <= most else text[: max(0, most - 1)] + CUT
 
 
 class Labels:
-    """Values and operations in words, if some values stand for others: `names` says for which."""
+    """Values and operations in words. If some numbers stand for other values, `names` has these."""
 
     def __init__(self, names: Mapping[int, str]) -> None:
         self.names = names
@@ -50,7 +50,7 @@ class Labels:
         return self.integer(value)
 
     def members(self, members: FrozenSet[int]) -> str:
-        """A set, the least members first, and of a great one how many more there are."""
+        """A set, the least members first. For a large set, also the number of further members."""
         left = len(members) - MEMBERS
         shown = sorted(members) if left <= 0 else heapq.nsmallest(MEMBERS, members)
         return "{" + " ".join(map(self.integer, shown)) + (f" and {left} more" if left > 0 else "") + "}"
@@ -61,7 +61,7 @@ class Labels:
         return "ABSENT" if value == ABSENT else str(value)
 
     def operation(self, operation: Operation) -> str:
-        """The operation with its value; of one that answers, its answer if there is one."""
+        """The operation with its value, or with its answer if it has one."""
         asked, ended = operation.invocation, operation.completion
         if asked.name in ANSWERED:
             answered = ended is not None and ended.kind == "ok"
@@ -69,7 +69,7 @@ class Labels:
         return asked.name + ("" if asked.value is None else " " + self.value(asked.value))
 
     def stands_for(self, *events: Optional[Event]) -> str:
-        """Which numbers of these events stand for which values: "3 stands for blue"; empty if none does."""
+        """The numbers in these events that stand for other values: "3 stands for blue". Empty if there are none."""
         found = {number for event in events if event is not None for number in numbers(event.value) if number in self.names}
         return "; ".join(f"{number} stands for {printable(self.names[number])}" for number in sorted(found)[:12])
 

@@ -1,4 +1,4 @@
-"""If the bars of operations stand: the row of each, and the gaps between events that leave room for the labels.
+"""The positions of the bars of operations: the row of each bar, and the gaps between events that leave room for the labels.
 
 A place is the number of an event among those that are shown, from 0; gap i is from event i to event i + 1. The page (in pixels), the
 picture of the README (in pixels) and the terminal (in characters) have the same layout.
@@ -9,12 +9,12 @@ from typing import Dict, Iterable, List, NamedTuple, Sequence, Tuple
 
 from ..history import Operation
 
-LATE_ROWS = 6  # below a client's own, for what timed out; with more at once the oldest bar is cut where the newest begins
+LATE_ROWS = 6  # below a client's own row, for timed-out operations; if more are needed, the newest bar cuts the oldest
 
 
 class Bar(NamedTuple):
-    """The bar of an operation: from event `begin` to event `end`, or to the right edge (`end` is then the number of events).
-    Row 0 of a lane is the client's own; those below have what timed out and may take place later. `told` is the place of the
+    """The bar of an operation: from event `begin` to event `end`, or to the right edge (`end` is then the number of events). Row 0 of a
+    lane is the client's own row. The rows below have operations that timed out and may take place later. `told` is the place of the
     :info."""
 
     operation: Operation
@@ -39,8 +39,8 @@ def stays(operation: Operation) -> bool:
 
 
 def lanes(operations: Sequence[Operation], places: Dict[int, int], last: int) -> List[Lane]:
-    """The lanes of these operations, whose events' indices have these places. Operations that began at place `last` or before stay to the
-    right edge if they timed out. Later ones have no judged event, and stay only to their :info."""
+    """The lanes of these operations; `places` has the place of each event's index. If an operation that began at place `last` or before
+    timed out, its bar reaches the right edge. The bar of a later operation, which has no judged event, ends at its :info."""
     of_thread: Dict[int, List[Operation]] = {}
     for operation in operations:
         of_thread.setdefault(operation.thread, []).append(operation)
@@ -64,7 +64,7 @@ def lane(thread: int, operations: Sequence[Operation], places: Dict[int, int], l
 
 
 def row_for(late: List[int], bars: List[Bar], begin: int) -> int:
-    """A row below the first for one more bar; the oldest bar there is cut if there is no further row."""
+    """A row below the first for one more bar. If there is no further row, the oldest bar there is cut."""
     if len(late) < LATE_ROWS:
         late.append(-1)
         return len(late)
@@ -74,8 +74,7 @@ def row_for(late: List[int], bars: List[Bar], begin: int) -> int:
 
 
 def gaps(least: Sequence[int], spans: Iterable[Tuple[int, int, int]]) -> List[int]:
-    """The gaps: at least so wide each, and wide enough that each span (from event, to event, how much room its label needs) has
-    it."""
+    """The gaps. Each gap has at least its given width, and each span (from event, to event, room for its label) gets enough room."""
     wide = list(least)
     for begin, end, need in sorted(spans, key=lambda span: span[1] - span[0]):
         begin, end = max(begin, 0), min(end, len(wide))
@@ -91,7 +90,7 @@ def gaps(least: Sequence[int], spans: Iterable[Tuple[int, int, int]]) -> List[in
 
 
 def widen(wide: List[int], begin: int, end: int, by: int) -> None:
-    """Widens these gaps by so much together, as evenly as may be."""
+    """Widens these gaps by this amount together, as evenly as possible."""
     each, left = divmod(by, end - begin)
     for gap in range(begin, end):
         wide[gap] += each + (1 if gap - begin < left else 0)

@@ -1,5 +1,5 @@
-"""The picture of a bad key as one SVG file, for a document: the bars, the fatal event, and what the object could hold. It has
-both a light and a dark look, and a ground of its own, so that it can be read on any page.
+"""The picture of a bad key as one SVG file, for a document: the bars, the fatal event, and the values that the object could hold. It has a
+light and a dark look, and its own background, so that it can be read on any page.
 
     python3 -m jepmon.page.picture examples/stale-replica.edn 3 > docs/stale-replica.svg  # the file, and how many clients
 """
@@ -39,7 +39,7 @@ RULES = """text { font: 12px ui-monospace, SFMono-Regular, Menlo, Consolas, "Dej
 
 
 def picture(history: str, concurrency: int, model: str = "register", budget: int = BUDGET) -> str:
-    """The picture of the first key of the history that is illegal; else of its first one."""
+    """The picture of the first illegal key of the history. If no key is illegal, of the first key."""
     events = read_history(history)
     keys = list(dict.fromkeys(event.key for event in events if event.key >= 0))
     walks = {key: walk.walk(of_key(events, key), model, budget) for key in keys}
@@ -94,7 +94,7 @@ class Drawing:
         self.width, self.height = self.right + FRAME, self.bottom + HELD
 
     def x(self, place: int) -> int:
-        """The position of the event at this place; before the first and behind the last the edge."""
+        """The position of the event at this place. Before the first and behind the last event it is the edge."""
         if place < 0:
             return NAMES
         return NAMES + round(self.laid.places[place] * STRETCH) if place < len(self.laid.places) else self.right

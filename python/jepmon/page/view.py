@@ -23,7 +23,7 @@ BAND_LABEL = 170  # a fault's text gets no more
 
 
 class View(NamedTuple):
-    """Events by their indices, if each stands, how wide all is, the lanes, and the bands of faults."""
+    """Events by their indices, their positions, the whole width, the lanes, and the bands of faults."""
 
     columns: List[int]
     places: List[int]
@@ -45,8 +45,8 @@ def of_letter(letter: str) -> int:
 
 def view(events: Sequence[Event], operations: Sequence[Operation], fatal: int, given: Sequence[AnyFault], labels: Labels,
          walked: Optional[Walked] = None) -> View:
-    """The view of these operations: `events` are the key's own events, `fatal` is the index of the fatal one (the last one's where there is
-    none). The results of a walk get room as well."""
+    """The view of these operations. `events` are the key's own events, and `fatal` is the index of the fatal event, or of the last one if
+    no event is fatal. The results of a walk get room too."""
     shown = {event.index for operation in operations for event in operation if isinstance(event, Event)}
     columns = [event for event in events if event.index in shown]
     places = {event.index: place for place, event in enumerate(columns)}
@@ -68,14 +68,14 @@ def room_of_band(text: str) -> int:
 
 
 def least(events: Sequence[Event], counts: Dict[int, int]) -> List[int]:
-    """The least gap between each event and the next, so that their indices, and the numbers of ends, have room side by side."""
+    """The least gap between each event and the next, so that their indices and the numbers of ends fit side by side."""
     rooms = [SMALL_LETTER * max(len(str(event.index)), len(str(counts.get(event.index, "")))) for event in events]
     return [max(LEAST_GAP, round((left + right) / 2 + BESIDE)) for left, right in zip(rooms, rooms[1:])]
 
 
 def needed_by_held(walked: Optional[Walked], places: Dict[int, int], fatal: int) -> Iterable[Tuple[int, int, int]]:
-    """How much room it takes to say what the object could hold, from one ok to the next: of the fatal event all, of others
-    little."""
+    """The room for the values that the object could hold, from one ok to the next. The fatal event gets all the room that it needs, and
+    other events little."""
     begin = 0
     for index, text in walked.held if walked else ():
         if index in places:
@@ -85,7 +85,7 @@ def needed_by_held(walked: Optional[Walked], places: Dict[int, int], fatal: int)
 
 
 def needed(lanes: Iterable[layout.Lane], labels: Labels) -> Iterable[Tuple[int, int, int]]:
-    """How much room each bar's label needs, and between which events."""
+    """The room that each bar's label needs, and the two events between which it is."""
     for lane in lanes:
         for bar in lane.bars:
             text = labels.operation(bar.operation)

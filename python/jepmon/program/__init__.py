@@ -1,7 +1,7 @@
 """The program `jepmon`: where it is, a check of a recorded history by it, and a running `jepmon script`.
 
-Whatever goes wrong with the program itself (there is none, it can't be run, it died, it gave no reply) is a ProgramError, whose text is one
-line. The program's answer about a history is a Report, also if that is a refusal.
+Every failure of the program itself (it is missing, it can't be run, it died, it gave no reply) is a ProgramError, whose text is one line.
+The program's answer about a history is a Report, also if it is a refusal.
 """
 from __future__ import annotations
 
@@ -38,11 +38,11 @@ class Options(NamedTuple):
         return kind_of(model, model not in WIDE or self.by_ends or WIDE[model] not in wide_kinds(program))
 
     def is_wide(self, program: Optional[str] = None) -> bool:
-        """Whether this program counts the outcomes of the model in the other way."""
+        """Whether this program judges the model by its wide kind."""
         return self.kind(program) != model_of(self.model)
 
     def of_line(self, line: KeyLine, program: Optional[str] = None) -> Options:
-        """The options by which a key was judged alone, by its line in a report with these options: by ends if its values are equal
+        """The options by which a key was judged, by its line in a report with these options. These are by ends if its values are equal
         (equal_values.py)."""
         own = self._replace(model=line.model, budget=line.budget, workers=None)
         return own._replace(by_ends=self.by_ends or not line.is_wide and own.is_wide(program))
@@ -53,7 +53,7 @@ class Options(NamedTuple):
 
 
 def by_ends_note(options: Options, program: Optional[str] = None) -> str:
-    """A sentence beside an `unknown` if this program lacks the wide kind by which the options ask; else nothing."""
+    """A sentence to add to an `unknown` if this program lacks the wide kind for the options. Otherwise empty."""
     if options.by_ends or model_of(options.model) not in WIDE or options.is_wide(program):
         return ""
     return (f"{find_program(program)} does not have the kind {kind_of(options.model, False)}, so it judged by ends, as --by-ends does: "
@@ -62,8 +62,8 @@ def by_ends_note(options: Options, program: Optional[str] = None) -> str:
 
 def check(history: History, options: Options = Options(), program: Optional[str] = None,
           timeout: Optional[float] = None) -> Report:
-    """Has a recorded history judged: its bytes, or the file of this path. Queues whose values are equal are judged by their ends, and the
-    report is the one on all keys. A file is read a second time then."""
+    """Has the program judge a recorded history: its bytes, or the file at this path. Queues with equal values are judged again by their
+    ends, for which a file is read a second time. The report is about all keys."""
     file, raw = ("/dev/stdin", history) if isinstance(history, bytes) else (os.fspath(history), None)
 
     def asked(by: Options) -> Report:
@@ -74,8 +74,8 @@ def check(history: History, options: Options = Options(), program: Optional[str]
 
 def run_check(words: List[str], raw: Optional[bytes] = None, program: Optional[str] = None, timeout: Optional[float] = None,
               stderr: Optional[int] = None) -> Tuple[str, str, int]:
-    """Runs `jepmon check` with these words: its standard output, its standard error if it is taken, and its status. Its last
-    line is a verdict or a refusal, as its status says; if it printed nothing, it has refused an option."""
+    """Runs `jepmon check` with these words. Returns its standard output, its standard error if it is captured, and its status. The last
+    line is a verdict or a refusal, which the status tests. If the program printed nothing, it has refused an option."""
     name = find_program(program)
     try:
         ran = subprocess.run([name, "check"] + words, input=raw, stdin=None if raw is not None else subprocess.DEVNULL,

@@ -1,6 +1,6 @@
 """Queues whose values are equal. The kind wide-fifo-queue judges a queue up to the first ok before which two enqueues of one value have not
-failed: from there on it is over. The plain kind judges such a queue by its ends. So a key that is over by the wide kind is judged by the
-plain kind too, and its line in the report is that of the kind which judged it further."""
+failed. From this ok on, the key is over. The plain kind judges such a queue by its ends. So a key that is over by the wide kind is also
+judged by the plain kind. Its line in the report comes from the kind that judged it further."""
 from __future__ import annotations
 
 from typing import TYPE_CHECKING, Callable, Iterable, List, Mapping, Optional, Sequence
@@ -27,7 +27,7 @@ def in_full(options: Options, asked: Callable[[Options], Report]) -> Report:
 
 
 def joined(report: Report, by_ends: Report) -> Report:
-    """The report with the lines of the keys that were judged further by ends."""
+    """The report in which keys that were judged further by ends have the lines of this judgement."""
     if [line.key for line in report.keys] != [line.key for line in by_ends.keys]:
         return report  # memory may have run out
     lines = [further(line, other) if is_left(line) else line for line, other in zip(report.keys, by_ends.keys)]
@@ -36,12 +36,12 @@ def joined(report: Report, by_ends: Report) -> Report:
 
 
 def further(line: KeyLine, by_ends: KeyLine) -> KeyLine:
-    """That of the two lines of a key which judges it further."""
+    """The line of a key, of these two, that judges it further."""
     return line if by_ends.status == "over" and (by_ends.index or 0) <= (line.index or 0) else by_ends
 
 
 def keys_by_ends(lines: Iterable[KeyLine], options: Options, program: Optional[str] = None) -> List[int]:
-    """The keys of a report by these options that were judged by ends since their values are equal."""
+    """The keys of a report by these options that were judged by ends, since their values are equal."""
     return [line.key for line in lines if not line.is_wide and options.kind(program, line.model) == DIFFERING]
 
 

@@ -1,4 +1,4 @@
-"""If the program `jepmon` is, and which wide kinds it has."""
+"""The path of the program `jepmon`, and its wide kinds."""
 from __future__ import annotations
 
 import functools
@@ -19,8 +19,8 @@ KIND = re.compile("wide-[a-z]+(?:-[a-z]+)*")
 
 
 def find_program(named: Optional[str] = None) -> str:
-    """The path of the program: the named one, or the one that JEPMON names; else the one built or released in the repository of this
-    package. Else it is the `jepmon` in the Python interpreter's folder or on the PATH. Nothing is built."""
+    """The path of the program: the named one, or the one that JEPMON names. Otherwise it is the program that was built or released in the
+    repository of this package. Otherwise it is the `jepmon` in the Python interpreter's folder or on the PATH. Builds nothing."""
     found = named or os.environ.get("JEPMON")
     if found:
         return os.fspath(found)
@@ -69,4 +69,4 @@ def _said(words: List[str], raw: bytes = b"") -> Optional[str]:
     try:
         return subprocess.run(words, input=raw, stdout=subprocess.PIPE, stderr=subprocess.DEVNULL, timeout=PROMPT).stdout.decode("utf-8", "replace")
     except (OSError, subprocess.TimeoutExpired):
-        return None  # whoever asks it for a verdict will say so
+        return None  # whoever asks it for a verdict will report this

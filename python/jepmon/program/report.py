@@ -80,7 +80,7 @@ class Report(NamedTuple):
     text: str  # standard output
     keys: List[KeyLine]
     verdict: str  # the last line
-    word: str  # the verdict's first: "legal", "illegal", "unknown" or "refused"
+    word: str  # the first word of the verdict: "legal", "illegal", "unknown" or "refused"
     key: Optional[int]
     index: Optional[int]  # type: ignore[assignment]  # of the event that the verdict names, or at which events are refused
     status: int
@@ -98,7 +98,7 @@ def report_of(output: str, error: str, status: int) -> Report:
 
 
 def report_on(lines: Sequence[KeyLine], verdict: Verdict, error: str = "") -> Report:
-    """The report of these lines and this verdict."""
+    """The report with these lines and this verdict."""
     index, key = verdict.found or (None, None)
     text = "".join(f"{line}\n" for line in [*(line.text for line in lines), verdict.line])
     return Report(text, list(lines), verdict.line, verdict.word, key, index, verdict.status, error)

@@ -17,13 +17,13 @@ PATIENCE = 10.0  # seconds that the program may take to end
 
 
 class Script:
-    """A running `jepmon script`: a line goes in, and the reply to it comes out. One thread at a time may use it."""
+    """A running `jepmon script`, which replies to each line. One thread at a time may use it."""
 
     def __init__(self, words: List[str], timeout: float = 60.0, program: Optional[str] = None) -> None:
         words = [find_program(program), "script"] + words
         self._name, self._timeout = " ".join(words), timeout
         self._unread = b""  # what has come after the last reply
-        self._errors: IO[bytes] = tempfile.TemporaryFile()  # not a pipe, which a program that says much would fill
+        self._errors: IO[bytes] = tempfile.TemporaryFile()  # not a pipe, which a program that prints much would fill
         try:
             # a session of its own, so that Ctrl-C in a terminal ends the test and not the program under it
             self._child = subprocess.Popen(words, bufsize=0, stdin=subprocess.PIPE, stdout=subprocess.PIPE, stderr=self._errors,
@@ -49,11 +49,11 @@ class Script:
             raise
 
     def reply(self, line: str, timeout: Optional[float] = None) -> str:
-        """Sends a line, and waits for the reply to it. A ProgramError if it has ended, or gives none in time."""
+        """Sends a line, and waits for its reply. Raises a ProgramError if the program has ended, or does not reply in time."""
         return self.replies([line], timeout)[0]
 
     def replies(self, lines: List[str], timeout: Optional[float] = None) -> List[str]:
-        """Sends these lines together, and waits for the reply to each. They are few, so that their replies fit into a pipe."""
+        """Sends these lines together, and waits for the reply to each. They must be few, so that their replies fit into a pipe."""
         seconds = self._timeout if timeout is None else min(timeout, self._timeout)
         deadline = time.monotonic() + seconds
         try:
@@ -94,14 +94,14 @@ class Script:
         return ProgramError(f"{self._name} has ended, {how}{self._errors_told()}")
 
     def _errors_told(self) -> str:
-        """The end of its standard error; a refusal's line alone, without the usual cause."""
+        """The end of its standard error. For a refusal only its line, without the usual cause."""
         file = self._errors.fileno()
         text = os.pread(file, 2000, max(0, os.fstat(file).st_size - 2000)).decode(errors="replace").strip()
         refusals = [line for line in text.splitlines() if line.startswith("refused ")]
         return f": {refusals[-1] if refusals else text}" if text else ""
 
     def end(self, patience: float = PATIENCE) -> None:
-        """Ends it by the end of its input, else by force. A second call does nothing."""
+        """Ends the program by the end of its input, or else by force. A second call does nothing."""
         self._input.close()
         try:
             self._child.wait(timeout=patience)
@@ -121,7 +121,7 @@ _running: "weakref.WeakSet[Script]" = weakref.WeakSet()
 
 
 def _leave_to_parent() -> None:
-    """In a process that was forked: a program ends at the end of its input, which this process is not to keep open."""
+    """Closes the input in a forked process. The program ends at the end of its input, so this process must not keep the input open."""
     for script in _running:
         script._input.close()
 

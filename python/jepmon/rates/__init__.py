@@ -1,4 +1,4 @@
-"""The page of rates: how many operations a second ended how, how long each took, and what faults did, of a run or of a recorded history.
+"""The page of rates of a run or of a recorded history: operations per second by outcome, latencies, and the effects of faults.
 
     gathered = rates.Gathered()
     found = rates.read(lines, gathered)         # a history with times, an event a line

@@ -1,4 +1,5 @@
-"""The charts as SVG: rates and latencies over time, a pair for each operation, above them the faults, whose shades go through all."""
+"""The charts as SVG: rates and latencies over time, a pair for each operation. The faults are above them, and their shades are behind all
+charts."""
 from __future__ import annotations
 
 import html
@@ -9,7 +10,7 @@ from .gathered import OUTCOMES, STEPS, Gathered, Sort
 from .history import Fault
 from .strips import Row, depths, rows
 
-WIDTH, LEFT, RIGHT = 1100, 158, 22  # pixels: the names of faults, and the scales, stand on the left
+WIDTH, LEFT, RIGHT = 1100, 158, 22  # pixels: the names of faults, and the scales, are on the left
 FIELD = WIDTH - LEFT - RIGHT
 HEAD, AXIS = 20, 20  # above and below the field of a chart
 RATES, STRIP = 96, 18
@@ -18,11 +19,11 @@ POINTS = 240  # of a line of rates, at most
 TICKS = 14
 NAME = 23  # characters of a fault's name beside its row
 SECOND = 1_000_000_000
-LEVELS = (1, 6)  # operations in a cell, from which on it is fainter, and in full
+LEVELS = (1, 6)  # numbers of operations in a cell: from the first on the mark is faint, from the second on full
 
 
 class Chart:
-    """Where things stand: the same in each chart of a page."""
+    """The positions, which are the same in each chart of a page."""
 
     def __init__(self, gathered: Gathered, faults: Sequence[Fault]) -> None:
         self.gathered = gathered
@@ -76,7 +77,7 @@ class Chart:
     # --- Operations ---
 
     def rates(self, name: str) -> str:
-        """How many of these operations ended a second, a line for each outcome."""
+        """The number of these operations that ended per second, with a line for each outcome."""
         joined = max(1, math.ceil(self.end / self.gathered.column / POINTS), math.ceil(SECOND / 4 / self.gathered.column))
         wide = joined * self.gathered.column
         sorts = [(name, outcome) for outcome in OUTCOMES if (name, outcome) in self.gathered.ended]
@@ -94,7 +95,7 @@ class Chart:
         return self.framed(f"{name}: operations a second, by how they ended", RATES, body)
 
     def latencies(self, name: str) -> str:
-        """How long each took: a mark stands for all that began in one column and took about as long."""
+        """The latencies. A mark stands for all operations that began in one column and took about the same time."""
         sorts = [(name, outcome) for outcome in OUTCOMES if (name, outcome) in self.gathered.cells]
         steps = [step for sort in sorts for _, step in self.gathered.cells[sort]]
         low, high = (min(steps) // STEPS, max(steps) // STEPS + 1) if steps else (0, 1)
@@ -118,7 +119,7 @@ class Chart:
 
 
 def runs(cells: Sequence[Tuple[int, int]], join: bool) -> Iterator[Tuple[int, int, int]]:
-    """The cells, as column, step and how many follow one another above it: one each, or all that do."""
+    """The cells, as column, step, and the number of cells above it that follow one another: each cell alone, or all of them together."""
     place = 0
     while place < len(cells):
         column, step = cells[place]
@@ -143,7 +144,7 @@ def scale(marks: Sequence[Tuple[float, str]], y: Callable[[float], float]) -> It
 
 
 def path(points: Sequence[Tuple[float, float]]) -> str:
-    """The line through these points, without those between two at one height."""
+    """The line through these points, without points between two others at the same height."""
     kept = [point for place, point in enumerate(points)
             if not (0 < place < len(points) - 1 and points[place - 1][1] == point[1] == points[place + 1][1])]
     return "M" + "L".join(f"{x:.1f} {y:.1f}" for x, y in kept)
@@ -155,7 +156,7 @@ def ticks(seconds: float) -> List[float]:
 
 
 def nice(value: float) -> float:
-    """The least of 1, 2, 5, 10, 20, .. and their tenth parts that is not below it."""
+    """The least of 1, 2, 5, 10, 20, .. and their tenths that is not below the value."""
     power = 10.0 ** math.floor(math.log10(max(value, 1e-3)))
     return next((round(power * step, 9) for step in (1, 2, 5) if power * step >= value * (1 - 1e-9)), power * 10)
 

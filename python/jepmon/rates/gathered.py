@@ -8,9 +8,9 @@ from typing import Counter, Dict, List, Tuple
 
 from .moments import Moments
 
-COLUMN = 10_000_000  # nanoseconds of a column, as long as a run has no more than COLUMNS of them; then columns are joined in twos
+COLUMN = 10_000_000  # nanoseconds of a column, while a run has at most COLUMNS of them; then pairs of columns are joined
 COLUMNS = 480
-BITS = 6  # of a latency that are kept for quantiles: bins are 1/64 of it wide
+BITS = 6  # of a latency that are kept for quantiles: a bin is 1/64 of the latency wide
 STEPS = 12  # of a latency's decade, in which a picture shows it
 OUTCOMES = ("ok", "fail", "info")
 
@@ -70,7 +70,7 @@ class Gathered:
         return sum(self.ended.get((name, outcome), collections.Counter()).values())
 
     def quantile(self, sort: Sort, share: float) -> int:
-        """The latency, in nanoseconds, that such a share of the operations did not exceed: to 1/64 above it at most."""
+        """The latency, in nanoseconds, that this share of the operations did not exceed. The result is at most 1/64 too great."""
         bins = self.bins[sort]
         left, place = share * sum(bins.values()), 0
         for place in sorted(bins):

@@ -1,4 +1,4 @@
-"""Reads what a history with times says of rates: each operation as it is gathered, each key's counts, and the faults."""
+"""Reads a history with times for the page of rates: each operation, the counts of each key, and the faults."""
 from __future__ import annotations
 
 from typing import Dict, Iterable, List, NamedTuple
@@ -12,7 +12,7 @@ SLACK = 1_000_000  # nanoseconds between the notes of one fault in two parts
 
 
 class Fault(NamedTuple):
-    """A fault by its time, in nanoseconds from the begin of the run. One of a moment ends if it began."""
+    """A fault and its time, in nanoseconds since the beginning of the run. A fault of one moment ends when it begins."""
 
     text: str
     begin: int
@@ -37,11 +37,11 @@ class Read:
     def __init__(self) -> None:
         self.keys: Dict[int, Key] = {}
         self.faults: List[Fault] = []
-        self.untimed = 0  # events without a time, and nothing is said about it
+        self.untimed = 0  # events without a time, which are not reported
 
 
 class Begun(NamedTuple):
-    """An operation that is open. A write of ABSENT that comes first on its key says what the key begins with, and is none."""
+    """An open operation. A first write of ABSENT to a key is the initial value of the key, and not an operation."""
 
     name: str
     time: int
@@ -112,8 +112,8 @@ class Reader:
 
 
 def joined(faults: Iterable[Fault]) -> List[Fault]:
-    """The faults by their begins. Those of one text that meet are one: each part of a run notes it, and a nemesis may begin one that holds
-    already."""
+    """The faults, ordered by their beginnings. Faults with the same text that meet are one fault: each part of a run notes a fault, and a
+    nemesis may begin a fault that is already active."""
     last: Dict[str, Fault] = {}
     made: List[Fault] = []
     for fault in sorted(faults, key=lambda each: each.begin):

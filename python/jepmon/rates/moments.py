@@ -1,5 +1,5 @@
-"""Moments of a run. Only the gaps between them count, so a byte for each slot of time suffices, and the memory does not grow with their
-number."""
+"""Moments of a run. Only the gaps between them matter, so a byte for each slot of time is enough, and the memory does not grow with the
+number of moments."""
 from __future__ import annotations
 
 SLOT = 1_000_000  # nanoseconds
@@ -29,12 +29,13 @@ class Moments:
         self.slot *= 2
 
     def after(self, moment: int) -> "int | None":
-        """The first one from this moment on, to the slot; None if there is none."""
+        """The first recorded moment from this moment on, exact to a slot. None if there is none."""
         place = self._marks.find(MARK, max(0, moment) // self.slot)
         return None if place < 0 else place * self.slot
 
     def longest_gap(self, begin: int, end: int) -> int:
-        """The longest time without one that the span from begin to end meets: from the last one before it to the first one after it."""
+        """The longest time without a recorded moment that overlaps the span from begin to end. It may reach from the last moment before the
+        span to the first one after it."""
         first = self._marks.rfind(MARK, 0, max(0, begin) // self.slot + 1)
         last = self._marks.find(MARK, max(0, end) // self.slot)
         first, last = max(0, first), last if last >= 0 else max(first, end // self.slot)

@@ -1,4 +1,4 @@
-"""The page of a run, from its folder: of jepmon-test, of Monitor and of LongMonitor, legal or not, also of one that was broken off."""
+"""The page of a run, made from its folder: for runs of jepmon-test, Monitor and LongMonitor, legal or not, also for an interrupted run."""
 from __future__ import annotations
 
 import json
@@ -29,7 +29,7 @@ class Drawn(NamedTuple):
 
 
 def leave(folder: pathlib.Path, is_said: bool = False) -> None:
-    """Writes the page of a run into its folder. The verdict stands whatever comes of this, so that nothing is raised. The message about the
+    """Writes the page of a run into its folder. Raises nothing, since a failure here must not change the verdict. The message about the
     folder may have been printed already."""
     try:
         write_whole(folder / RUN_PAGE, render(page_of(folder)))
@@ -41,7 +41,7 @@ def leave(folder: pathlib.Path, is_said: bool = False) -> None:
 
 
 def page_of(folder: pathlib.Path, whole: bool = False) -> RatesPage:
-    """The page of the run in this folder. For a long run it has the newest parts, unless it is to have the `whole`."""
+    """The page of the run in this folder. For a long run it has only the newest parts, unless `whole` is set."""
     drawn = read_parts(folder, whole)
     facts = facts_of(folder)
     command = facts.pop("command", "")
@@ -69,7 +69,7 @@ def parts_of(folder: pathlib.Path) -> List[pathlib.Path]:
 
 
 def verdict_of(folder: pathlib.Path) -> str:
-    """The first line of its verdict. If the test was killed it has none."""
+    """The first line of the run's verdict. Empty if the test was killed."""
     return text_of(folder / VERDICT).split("\n")[0] or f"{NO_VERDICT}: the test was killed, or is still running"
 
 

@@ -1,4 +1,5 @@
-"""Faults as bars above the charts: a row for each kind of fault, or several where faults of a kind overlap; and how many hold when."""
+"""Faults as bars above the charts: a row for each kind of fault, or several rows if faults of a kind overlap. Also the number of active
+faults at each time."""
 from __future__ import annotations
 
 from typing import Dict, Iterator, List, NamedTuple, Sequence, Tuple
@@ -8,7 +9,7 @@ from .history import Fault
 
 KINDS = 24  # that have rows of their own
 ROWS = 6  # of a kind
-BARS = 1500  # from so many on, bars that have no pixel between them are one
+BARS = 1500  # with more bars than this, bars without a pixel between them become one
 DEEPEST = 3  # faults at once that shades tell apart
 OTHERS = "other faults"
 
@@ -46,7 +47,7 @@ def rows(faults: Sequence[Fault], end: int, pixels: int) -> List[Row]:
 
 
 def _laid(faults: Sequence[Fault], pixel: int) -> List[List[Bar]]:
-    """In as many rows as overlaps need; the last row also has those without a row of their own."""
+    """Distributes the bars over as many rows as overlaps need. The last row also has the bars for which no row is left."""
     laid: List[List[Bar]] = []
     for fault in faults:
         bar = Bar([fault.text], ", ".join(nodes_of(fault.text)), fault.begin, fault.end)
@@ -69,7 +70,7 @@ def _thinned(bars: Sequence[Bar], pixel: int) -> Iterator[Bar]:
 
 
 def depths(faults: Sequence[Fault], pixel: int) -> Iterator[Tuple[int, int, int]]:
-    """Spans in which 1, 2, or DEEPEST and more faults hold: their begin, end and number. No moment is in two of them. A fault is at least a
+    """Spans with 1, 2, or at least DEEPEST active faults: their beginning, end and number. No moment is in two spans. A fault is at least a
     pixel long."""
     changes: Dict[int, int] = {}
     for fault in faults:

@@ -12,7 +12,7 @@ from .given import KeyRow
 from .history import Fault
 
 SHARES = ((0.5, "50 %"), (0.9, "90 %"), (0.99, "99 %"), (0.999, "99.9 %"))
-FAULTS = 400  # that are listed one by one: those with the longest time without an ok
+FAULTS = 400  # that are listed one by one, those with the longest time without an ok
 KEYS = 2000  # that are listed: first those that are not legal, then the newest
 SECOND = 1_000_000_000
 Cell = Tuple[str, str]  # a text, and the class of its cell
@@ -27,7 +27,7 @@ class Effect(NamedTuple):
 
 
 def latencies(gathered: Gathered) -> str:
-    """How each operation ended, and the latencies of those that were ok."""
+    """The outcomes of each operation, and the latencies of operations that were ok."""
     rows: List[List[Cell]] = []
     for name in gathered.names:
         row = [(name, "")] + [(f"{gathered.count(name, outcome):,}", "number") for outcome in OUTCOMES]
@@ -40,7 +40,7 @@ def latencies(gathered: Gathered) -> str:
 
 
 def effects(gathered: Gathered, faults: Sequence[Fault]) -> List[Effect]:
-    """Of each fault. The note that all faults are over is not one."""
+    """The effect of each fault. The note that all faults are over is not a fault."""
     found = []
     for fault in faults:
         if fault.text == OVER:

@@ -1,4 +1,4 @@
-"""`jepmon-runs`: all runs of a folder at a glance, as lines and as a page, index.html, that leads to the page of each.
+"""`jepmon-runs`: all runs of a folder, as lines and as a page, index.html, with links to the page of each run.
 
 summary.py  what a run's folder says of it
 index.py    the page; jepmon-test makes it again at each end

@@ -23,7 +23,7 @@ BADGES = ("legal", "illegal", "unknown", "lost", "crashed")
 
 
 def leave(folder: pathlib.Path) -> None:
-    """Makes the page of a folder again. The verdict of a run stands whatever comes of this, so that nothing is raised."""
+    """Makes the page of a folder again. Raises nothing, since a failure here must not change the verdict of a run."""
     try:
         put(folder, summaries(folder))
     except OSError as fault:
@@ -33,7 +33,7 @@ def leave(folder: pathlib.Path) -> None:
 
 
 def put(folder: pathlib.Path, runs: Sequence[Summary]) -> None:
-    """Writes the page. A file of that name which is none is left alone, and a FileExistsError says so."""
+    """Writes the page. If a file of this name is not such a page, leaves it unchanged and raises a FileExistsError."""
     path = folder / INDEX
     if path.exists() and MARK not in path.read_text("utf-8", errors="replace")[:400]:
         raise FileExistsError(17, "this file is there, and is not a page of jepmon-runs", str(path))

@@ -3,7 +3,7 @@
     from jepmon import program, shards
     report = shards.check("history.edn", program.Options(concurrency=200), jobs=4)
 
-docs/guide/LARGE.md says why the report is, byte for byte, the one that one check without limits would print, and what is in which file.
+docs/guide/LARGE.md says why the report is, byte for byte, that of one check without limits, and what each file has.
 """
 from __future__ import annotations
 

@@ -1,9 +1,9 @@
 """The second pass: the events of keys as texts that one `jepmon check` judges, one key behind another.
 
-Keys and processes get new numbers. A key's number is its place in the text. In each key a process has a thread of its own, of 64; where
-there are more processes than that, each operation gets a free one. After an :info, and if a key leaves an operation open and another key
-follows, a thread goes on as process + 64. An :info ends open operations before the next key. It changes no status: no ok follows it, and an
-operation that may take place later makes nothing illegal.
+Keys and processes get new numbers. The number of a key is its place in the text. In each key a process has its own thread, one of 64. If
+there are more processes, each operation gets a free thread. If a key leaves operations open and another key follows, an :info ends these
+operations. It changes no status: no ok of the key follows it, and an operation that may take place later does not make a history illegal.
+After an :info a thread continues as process + 64.
 """
 from __future__ import annotations
 
@@ -21,12 +21,12 @@ from .sizes import Sizes
 
 FULL, WIDE = "full", "wide"
 CLOSING = b"]}\n"
-NOWHERE = (1 << 64) - 1  # the place of an event that stands in no history
+NOWHERE = (1 << 64) - 1  # the place of an event that is in no history
 
 
 class KeyMap(NamedTuple):
-    """A key of a batch: its own number, how many events it has in the history, and how many in the batch. If the batch has not all
-    of them, cut says why, and cut_place is the index in the history of the first that it has not."""
+    """A key of a batch: its own number, the number of its events in the history, and the number in the batch. If the batch does not have
+    all of them, `cut` says why, and `cut_place` is the index in the history of the first missing event."""
 
     key: int
     events: int
@@ -44,7 +44,7 @@ class Batch(NamedTuple):
 
 
 class Spelling(NamedTuple):
-    """How an event begins, of one type and operation, by threads; the end of the event before comes first."""
+    """The beginnings of events of one type and operation, by threads. Each begins with the end of the event before."""
 
     kind: bytes
     name: bytes
@@ -55,7 +55,7 @@ class Spelling(NamedTuple):
 
 
 class Threads:
-    """The threads of a batch: the current process of each, and how the heads of their events are spelled."""
+    """The threads of a batch: the current process of each thread, and the spellings of the heads of their events."""
 
     def __init__(self, threads: int) -> None:
         self.all = range(threads)
@@ -109,11 +109,11 @@ class BatchText:
         self.places = array.array(NUMBERS)
 
     def has_place(self, events: int) -> bool:
-        """Whether a key with this number of events may follow those that are here."""
+        """Whether a key with this number of events may be added."""
         return len(self.keys) < self._sizes.keys and len(self._heads) + len(self._open) + events <= self._sizes.events
 
     def add(self, key: int, events: Events, rest: Optional[Rest]) -> None:
-        """Adds the events of a key. If there are more than these, their tester is given."""
+        """Adds the events of a key. If the key has more events, their tester is given."""
         self._close()
         rows = list(map(self._rows.__getitem__, events[1:self._sizes.events * FIELDS:FIELDS]))
         processes = collections.Counter([row[0] for row in rows])
@@ -147,7 +147,7 @@ class BatchText:
             self._threads.crash(thread)
 
     def _add_by_operation(self, rows: Sequence[Row], events: Events) -> None:
-        """Each operation has a thread that is free. If none is, the key is cut."""
+        """Adds a key in which each operation has a free thread. If no thread is free, the key is cut."""
         free = list(self._threads.all)
         invoked: Dict[int, Tuple[int, int]] = {}  # of a process: the thread, and the place of the invocation
         for place, (process, heads, spelling, crashes) in enumerate(rows):
@@ -192,7 +192,7 @@ class BatchText:
 
 
 def batches_of(keys: Dict[bytes, Events], rests: Dict[bytes, Rest], sizes: Sizes) -> Iterator[Batch]:
-    """The batches of a shard. The events of a key are dropped once it is in one."""
+    """The batches of a shard. The events of a key are dropped once a batch has the key."""
     text = BatchText(sizes)
     for key in list(keys):
         events = keys.pop(key)

@@ -1,5 +1,5 @@
-"""The events of a shard by their keys. For a key with more events than one check takes, it keeps the first ones and tests those behind
-them, since no program sees them."""
+"""The events of a shard by their keys. If a key has more events than one check takes, this module keeps the first events. It tests the
+later events itself, since no program sees them."""
 from __future__ import annotations
 
 import functools
@@ -18,7 +18,7 @@ Events = List[Any]  # one behind another: the part, the code and the place of ea
 
 
 class KeysEvents(Dict[bytes, Callable[[Tuple[bytes, int, int]], None]]):
-    """Takes the events of keys: for each key what takes the part, the code and the place of its next event."""
+    """Takes the events of keys: for each key a function that takes the part, the code and the place of its next event."""
 
     def __init__(self) -> None:
         super().__init__()
@@ -31,7 +31,7 @@ class KeysEvents(Dict[bytes, Callable[[Tuple[bytes, int, int]], None]]):
 
 
 class Rest:
-    """Tests the events of one key that the program does not see, as the program would; a Doubt if one is refused."""
+    """Tests the events of one key that the program does not see, in the same way as the program. Raises a Doubt if an event is refused."""
 
     def __init__(self) -> None:
         self.count = 0
@@ -52,7 +52,7 @@ class Rest:
 
 @functools.lru_cache(maxsize=KNOWN)
 def event_of(kind: bytes, process: int, name: bytes, part: bytes) -> Event:
-    """An event of any key; a Doubt if its part is none."""
+    """An event of any key. Raises a Doubt if its part is invalid."""
     try:
         elements = list(Reader(part).elements())
         if len(elements) != 1:
@@ -63,7 +63,7 @@ def event_of(kind: bytes, process: int, name: bytes, part: bytes) -> Event:
 
 
 def events_of(sources: Sequence[Source], shard: int, most: int) -> Tuple[Dict[bytes, Events], Dict[bytes, Rest]]:
-    """The events of each key of a shard, and the tester of those of a key with more than `most`. Such a key keeps `most` + 1 of them."""
+    """The events of each key of a shard, and the tester for each key with more than `most` events. Such a key keeps `most` + 1 events."""
     keys = KeysEvents()
     rests: Dict[bytes, Rest] = {}
     count = 0
@@ -80,6 +80,6 @@ def events_of(sources: Sequence[Source], shard: int, most: int) -> Tuple[Dict[by
 
 
 def test_rest(events: Events, rest: Rest, most: int) -> None:
-    """Tests what is new of a key with many events, and drops what is not kept."""
+    """Tests the new events of a key with many events, and drops those that are not kept."""
     rest.take(events[FIELDS * (most + 1):] if rest.count else events)
     del events[FIELDS * (most + 1):]

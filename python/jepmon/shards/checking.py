@@ -1,4 +1,4 @@
-"""A check of a history of any length: its report is, byte for byte, the one that one `jepmon check` without limits would print."""
+"""A check of a history of any length. Its report is, byte for byte, that of one `jepmon check` without limits."""
 from __future__ import annotations
 
 import contextlib
@@ -27,7 +27,7 @@ def check(history: History, options: Options = Options(), jobs: Optional[int] = 
     options    as of `jepmon check`; but the concurrency has no upper limit, nor has the number of keys or events
     jobs       how many processes work side by side; by default as many as there are processors
     program    the program, if it is not the one that `find_program` finds
-    temporary  the folder for temporary files, which take about half the room of the history
+    temporary  the folder for temporary files: about half the room of a file of events, and the data of a pipe or of texts too
     out        where the report is written, as it is made. Then it is not held, and the Report has no text and no keys
 
     A key with more events than a check takes, or more operations open at once, is judged up to there. Its line has the status `full I` or
@@ -51,7 +51,7 @@ def check(history: History, options: Options = Options(), jobs: Optional[int] = 
 def opened(history: History, options: Options, jobs: Optional[int] = None, *, program: Optional[str] = None,
            temporary: Optional[str] = None, progress: Optional[Progress] = None, sizes: Sizes = Sizes(),
            finds_threads: bool = False) -> Iterator[Session]:
-    """The session of a check, whose temporary files and processes are gone at its end. Refused if it ends by that."""
+    """The session of a check. At its end its temporary files and processes are gone. Raises Refused if the check ends with a refusal."""
     with temporary_folder(temporary) as folder, Team(jobs_of(jobs)) as team:
         tools = Tools(find_program(program), folder, team, sizes, progress or Progress())
         try:
@@ -61,7 +61,7 @@ def opened(history: History, options: Options, jobs: Optional[int] = None, *, pr
 
 
 def refusal_of(options: Options) -> Optional[str]:
-    """The refusal of options that are out of their limits, as `jepmon check` has it; the concurrency has no upper one."""
+    """The refusal of options outside their limits, as `jepmon check` prints it. The concurrency has no upper limit."""
     if options.budget not in BUDGETS:
         return "refused 9 BadBudget"
     return "refused 10 BadConcurrency" if options.concurrency < 1 else None

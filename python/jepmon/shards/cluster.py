@@ -1,7 +1,7 @@
 """Judges shards on a Dask cluster (https://distributed.dask.org). Its workers need the program `jepmon`, and nothing of this package.
 
-A task has the text of its shard with it, so that another worker can do it if one dies. A report that does not come is none: if a task
-fails again and again, the scheduler is lost, or all workers are gone, there is no verdict.
+A task contains the text of its shard, so that another worker can do it if a worker dies. Without a report on each shard there is no
+verdict: this happens if a task fails again and again, the scheduler is lost, or all workers are gone.
 """
 from __future__ import annotations
 
@@ -95,10 +95,10 @@ class Tasks:
         self._running[future] = shard
 
     def _threads(self, left: int) -> int:
-        """How many threads the workers have; a ShardsError if there was no worker for long."""
+        """The number of threads of the workers. Raises a ShardsError if there was no worker for too long."""
         try:
             workers: Dict[str, Any] = self._client.scheduler_info()["workers"]
-        except Exception as fault:  # of whatever kind: without its scheduler the cluster says nothing more
+        except Exception as fault:  # of any class: without its scheduler the cluster gives no more answers
             raise ShardsError(f"the Dask scheduler at {self._address} is lost, and {left} shards are not judged") from fault
         now = time.monotonic()
         if workers:
@@ -131,7 +131,7 @@ class Tasks:
 
 
 def checker() -> Callable[[bytes, List[str], str], str]:
-    """What a worker does. It is made here, so that it is sent as it is, and a worker needs no module of this package."""
+    """The function of a worker. It is made here, so that it is sent with the task, and a worker needs no module of this package."""
     def check(text: bytes, words: List[str], program: str) -> str:
         import os
         import shutil

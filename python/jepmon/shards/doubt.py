@@ -5,8 +5,8 @@ from ..tools.errors import ProgramError
 
 
 class Doubt(Exception):
-    """Something that is refused, or that is not read on the quick way. The exact way says which. The text is for the case that it
-    finds nothing, which is a fault of this package or of the program."""
+    """Something is refused, or the quick reader cannot read it. The exact reader decides which. The text is for the case that the exact
+    reader finds nothing, which is a fault of this package or of the program."""
 
 
 class ShardsError(ProgramError):

@@ -35,7 +35,7 @@ class Refusal(Exception):
 
 
 class Event(NamedTuple):
-    """An event that has passed test 5. Of the nemesis the process is None, and only the index counts."""
+    """An event that has passed test 5. For the nemesis the process is None, and only the index matters."""
 
     stated: Optional[int]  # the index
     kind: bytes
@@ -52,14 +52,14 @@ class Event(NamedTuple):
 
 
 def plain_event(match: "re.Match[bytes]") -> Event:
-    """The event that PLAIN has matched; Refusal 5 if it is none."""
+    """The event that PLAIN has matched. Raises Refusal 5 if it is not an event."""
     stated, kind, process, name, key, _, number, old, new = match.groups()
     part = int(number) if number else (("vector", (int(old), int(new))) if old else None)
     return tested(None if stated is None else int(stated), kind, int(process), name, int(key), part)
 
 
 def event_of(element: Element) -> Event:
-    """The event that an element is; Refusal 5 if it is none."""
+    """The event that an element spells. Raises Refusal 5 if it spells none."""
     if not is_tagged(element, "map"):
         raise Refusal(5)
     fields: Dict[bytes, Element] = {key[1]: value for key, value in element[1] if is_tagged(key, "keyword")}
@@ -82,7 +82,7 @@ def event_of(element: Element) -> Event:
 
 
 def tested(stated: Optional[int], kind: bytes, process: int, name: bytes, key: int, part: Element) -> Event:
-    """The event of a client; Refusal 5 if something is outside the tables."""
+    """The event of a client. Raises Refusal 5 if something is outside the tables."""
     if stated is not None and stated not in kinds.INDICES:
         raise Refusal(5)
     if process not in kinds.PROCESSES or name not in NAMES or key not in KEYS or not is_part(kind, name, part):
@@ -131,13 +131,14 @@ def text_of(part: Element) -> bytes:
 
 
 def is_completion_of(invoked: Event, event: Event) -> bool:
-    """Test 4: whether the completion has the name, the key and, save for an answer, the part of its invocation."""
+    """Test 4: whether the completion has the name, the key and (except for an answer) the part of its invocation."""
     answered = event.kind == b"ok" and event.name in (b"read", b"dequeue")
     return (event.name, event.key) == (invoked.name, invoked.key) and (answered or event.part == invoked.part)
 
 
 class Rule:
-    """The tests 6, 2, 1, 3 and 4 of the events of a history, one after the other. There is no test 7: it has any length."""
+    """The tests 6, 2, 1, 3 and 4 of the events of a history, one after another. There is no test 7, since the history may have any
+    length."""
 
     def __init__(self, concurrency: int) -> None:
         self.concurrency, self.length = concurrency, 0

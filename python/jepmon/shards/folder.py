@@ -1,4 +1,4 @@
-"""A folder of shards, which any machines judge one by one, in any order, and which are joined at the end.
+"""A folder of shards. Any machines judge the shards one by one, in any order. At the end the results are joined.
 
     shards.json   what they are of: the history, the options, and the name and the checksum of each shard. It is written last
     NAME.edn      a shard: a history that one check takes. Its first line says by which options
@@ -106,7 +106,7 @@ def write_report(path: str, checksum: str, report: str) -> None:
 
 
 def read_report(path: str, checksum: str) -> Optional[str]:
-    """The report on the shard with this checksum; None if there is none."""
+    """The report on the shard with this checksum. None if there is no such report."""
     try:
         with open(path, encoding="utf-8", errors="replace") as file:
             first, report = file.readline(), file.read()

@@ -1,4 +1,4 @@
-"""Judges batches by the program, and says of each key of theirs in the words of the history what the program said."""
+"""Judges batches by the program, and converts its report on each key into the keys and indices of the history."""
 from __future__ import annotations
 
 import os
@@ -19,8 +19,8 @@ REFUSED = re.compile(r"refused [0-9]+ [A-Za-z]+ (?:event )?[0-9]+")  # of what s
 
 
 class Status(NamedTuple):
-    """A key: the index of its first event, and its line of the report. The status may also be `full` or `wide`: alive up to there, as far
-    as the program's limits let it be judged."""
+    """A key: the index of its first event, and its line of the report. The status may also be `full` or `wide`: the key is alive as far as
+    the program's limits allow a judgement."""
 
     first: int
     line: KeyLine
@@ -39,7 +39,7 @@ class ShardTask(NamedTuple):
 
 
 class Judged(NamedTuple):
-    """The result of a shard: the file of its result, the keys in it, and the least event of those that are dead, and not decided."""
+    """The result of a shard: its file, the keys in it, the least event of a dead key, and the least event of an undecided key."""
 
     path: str
     keys: int
@@ -67,7 +67,7 @@ def checked(text: bytes, options: Options, program: str) -> str:
 
 
 def statuses_of(report: str, keys: Sequence[KeyMap], places: Sequence[int], options: Options) -> List[Status]:
-    """The report of a batch about its keys; a Doubt if it refuses an event."""
+    """The report of a batch about its keys. Raises a Doubt if the program refuses an event."""
     lines = report.splitlines()
     if lines and lines[-1].startswith("refused "):
         if REFUSED.fullmatch(lines[-1]):

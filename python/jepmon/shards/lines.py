@@ -1,8 +1,8 @@
-"""The quick way through the lines of a history: one expression finds the fields of each line over a block of them.
+"""The quick reader of a history: one regular expression finds the fields of all lines of a block.
 
-A line is taken here only if it is one event for sure, or a text by itself, which the exact reader then reads. If every line of a file is,
-so is the file, with the same elements. The program decides whether the part is valid, and gets it as it is. Its brackets close, and there
-are no words, strings or comments in it, so it can change nothing around it.
+This module takes a line only if it is certainly one event, or a text by itself, which the exact reader then reads. If every line of a file
+is a text, so is the file, with the same elements. The program decides whether the part is valid, and gets it unchanged. The brackets of a
+part are closed, and it has no words, strings or comments. So it cannot change the meaning of the text around it.
 """
 from __future__ import annotations
 
@@ -33,7 +33,7 @@ KIND_BITS, NAME_BITS = 2, 3  # of a code; above them stands the process
 
 
 def rows_of(block: bytes) -> Tuple[List[Row], int]:
-    """The events of these whole lines, and how many lines have some."""
+    """The events of these whole lines, and the number of lines with events."""
     rows: List[Row] = LINE.findall(block)
     if not any(map(ODD, rows)):
         return rows, len(rows)
@@ -42,7 +42,7 @@ def rows_of(block: bytes) -> Tuple[List[Row], int]:
 
 
 def odd_rows(line: bytes) -> Iterator[Row]:
-    """The events of a line that is spelled otherwise, if it is a text by itself."""
+    """The events of a line with another spelling, if it is a text by itself."""
     try:
         for element in Reader(line).elements():
             event = events.event_of(element)
@@ -57,7 +57,7 @@ def odd_rows(line: bytes) -> Iterator[Row]:
 
 
 class Heads(Dict[bytes, Head]):
-    """The content of an event's head, by its text. Its thread is among the states then, at first as one that was not seen."""
+    """The content of an event's head, by its text. A lookup adds its thread to the states, at first as unseen."""
 
     def __init__(self, concurrency: int, states: Dict[int, int]) -> None:
         super().__init__()

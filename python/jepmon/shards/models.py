@@ -8,7 +8,7 @@ from .by_key import FIELDS, Events
 from .doubt import ShardsError
 from .lines import of_code
 
-EACH = "each"  # in the place of a model: each key is what its own operations and answers say
+EACH = "each"  # instead of a model: the model of each key follows from its own operations and answers
 
 
 def by_model(keys: Dict[bytes, Events], model: str) -> Iterator[Tuple[str, Dict[bytes, Events]]]:
@@ -24,7 +24,7 @@ def by_model(keys: Dict[bytes, Events], model: str) -> Iterator[Tuple[str, Dict[
 
 
 def model_of(key: str, events: Events) -> str:
-    """The model of a key: the strictest that has all its operations and answers."""
+    """The model of a key: the strictest model that has all its operations and answers."""
     facts = facts_of(events)
     models = possible(facts)
     if not models:

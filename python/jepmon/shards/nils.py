@@ -1,4 +1,4 @@
-"""Reads of registers that are answered by nil though a value was there: nil may say nothing, or that the value is lost."""
+"""Reads of registers that answer nil although a value was there: the nil may say nothing, or it may say that the value is lost."""
 from __future__ import annotations
 
 from typing import Dict, List, NamedTuple, Sequence, Set
@@ -19,7 +19,7 @@ class NilsTask(NamedTuple):
 
 
 def nils_of(task: NilsTask) -> int:
-    """How many reads of a shard are answered by nil, and began after their key had a value."""
+    """The number of reads of a shard that answer nil and began after their key had a value."""
     counting = Counting()
     for segment in segments_of(task.sources, task.shard):
         counting.take(segment.keys, segment.parts, segment.codes)

@@ -1,11 +1,11 @@
 """The first pass: a task reads a piece of a history, tests the process rule in it, and writes its events by shards.
 
-Pieces are read in any order, side by side. A piece assumes facts that it can't know, and `follow` tests them against the pieces before: the
-state of each thread at its first event, and the index of the piece's first event.
+Pieces are read in any order, side by side. The reader of a piece assumes two facts that it can't know: the state of each thread at its
+first event, and the index of the piece's first event. `follow` tests these facts against the pieces before.
 
-This module does not test that a completion has the key of its invocation. The events of each process invoke and complete in turn, which is
-tested here over all keys; and they do so within each key, which the program tests in a shard. Then no completion can be of another key: the
-first that is, in the order of the history, would complete in its key what has not been invoked there.
+This module does not test that a completion has the key of its invocation. It tests that the events of each process, over all keys,
+alternate between invocation and completion. The program tests the same within each key of a shard. So no completion can have another key
+than its invocation: the first such completion, in the order of the history, would complete an operation that was not invoked on its key.
 """
 from __future__ import annotations
 
@@ -76,7 +76,7 @@ def read_piece(task: PieceTask) -> Piece:
 
 
 class PieceEvents:
-    """Takes the events of a piece, in their order: tests them, and gives them to the router."""
+    """Takes the events of a piece, in their order: tests them, and passes them to the router."""
 
     def __init__(self, concurrency: int, router: Router) -> None:
         self.count = 0
@@ -114,13 +114,13 @@ class PieceEvents:
         self._heads.clear()
 
     def _begin(self, thread: int, state: int) -> None:
-        """A thread is in another state than this one, which may only be because it has had no event yet."""
+        """Treats a thread in another state than this one. This is allowed only if the thread has had no event yet."""
         if self.states[thread] != UNSEEN:
             raise Doubt
         self.starts[thread] = state
 
     def _test_index(self, stated: int, place: int) -> None:
-        """A stated index says which one the piece's first event has."""
+        """Computes the index of the piece's first event from a stated index."""
         if self.base is None:
             self.base = stated - place
         if self.base != stated - place or stated not in INDICES:
@@ -128,7 +128,7 @@ class PieceEvents:
 
 
 def follow(pieces: Sequence[Piece]) -> List[Source]:
-    """Tests that each piece begins as those before it end. Gives the files, with the offsets for their places."""
+    """Tests that each piece begins in the state in which the pieces before it end. Returns the files, with the offsets for their places."""
     states: Dict[int, int] = {}
     sources: List[Source] = []
     count = 0
@@ -168,7 +168,7 @@ def blocks_of(task: PieceTask) -> Iterator[bytes]:
 
 
 def line_from(file: BinaryIO, place: int, sizes: Sizes) -> int:
-    """Where the first line begins that does so at this place or behind it; the end of the file, if none does."""
+    """The place of the first line that begins at this place or behind it. The end of the file if there is no such line."""
     if place == 0:
         return 0
     at = file.seek(place - 1)

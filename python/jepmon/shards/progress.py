@@ -1,4 +1,4 @@
-"""Says on a terminal how far a check has come, in one line that is written over."""
+"""Shows the progress of a check on a terminal, in one line that is overwritten."""
 from __future__ import annotations
 
 import time

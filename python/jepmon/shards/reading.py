@@ -27,7 +27,7 @@ INTEGERS = range(-(1 << 63), 1 << 63)
 
 
 class Unreadable(Exception):
-    """The text is not of the profile. The place is the length of its longest prefix that is a text."""
+    """The text is outside the profile. The place is the length of its longest prefix that is a text."""
 
     def __init__(self, place: int) -> None:
         super().__init__(place)
@@ -35,8 +35,8 @@ class Unreadable(Exception):
 
 
 class Reader:
-    """Reads the elements of a text, one after the other. `at` is where it goes on, and `good` the length of the longest prefix that is
-    known to be a text."""
+    """Reads the elements of a text, one after another. `at` is the place of the next element, and `good` is the length of the longest
+    prefix that is known to be a text."""
 
     def __init__(self, data: Data, at: int = 0) -> None:
         self.data, self.at, self.good = data, at, at
@@ -46,12 +46,13 @@ class Reader:
             yield self.element(0, 0)
 
     def more(self) -> bool:
-        """Passes the gap before the next element at the top; whether there is one."""
+        """Skips the gap before the next element at the top. Returns whether there is such an element."""
         self._gap(0, 0)
         return self.at < len(self.data)
 
     def element(self, needed: int, depth: int) -> Element:
-        """The element here. `needed` more elements are needed after it before the prefix is a text, and `depth` collections are open."""
+        """The element at this place. After it, `needed` more elements are needed before the prefix is a text, and `depth` collections are
+        open."""
         start = self.data[self.at:self.at + 2]
         if start[:1] == b'"':
             value: Element = self._string()
@@ -64,7 +65,7 @@ class Reader:
         return value
 
     def _gap(self, needed: int, depth: int) -> None:
-        """Passes a gap, after which `needed` elements are missing before the prefix is a text."""
+        """Skips a gap, after which `needed` elements are missing before the prefix is a text."""
         discards = 0
         while True:
             white = WHITE.match(self.data, self.at)
@@ -103,7 +104,7 @@ class Reader:
         self.at += 2 if opened == b"#" else 1
         closing = b"]" if opened == b"[" else b"}"
         members: List[Element] = []
-        is_kept = depth > 0 or opened != b"["  # a vector at the top is no event, whatever is in it, and may be a whole history
+        is_kept = depth > 0 or opened != b"["  # a vector at the top is not an event, and may be a whole history
         while True:
             self._gap(1, depth + 1)
             if self.data[self.at:self.at + 1] == closing:

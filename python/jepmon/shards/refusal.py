@@ -1,7 +1,7 @@
-"""The exact way through a history: from its front, event by event, to the first that is refused.
+"""The exact reader of a history: from its beginning, event by event, to the first refused event.
 
-It is gone where the quick way is in doubt: something is refused, or an event is not one line. It says the line that `jepmon check`
-prints, or that there is none.
+It is used if the quick reader is in doubt: something is refused, or an event is not one line. It gives the line that `jepmon check` prints
+for a refusal, or says that there is none.
 """
 from __future__ import annotations
 
@@ -41,8 +41,8 @@ def entries_of(reader: Reader, account: Account) -> Iterator[Entry]:
 
 
 def first_refusal(path: str, concurrency: int, plainly: Optional[BinaryIO] = None, account: Optional[Account] = None) -> Optional[str]:
-    """The line of the first refusal of a file, as `jepmon check` prints it; None if nothing is refused, and then all lines are in the
-    account. Each event before it is written plainly, one a line, to the other file."""
+    """The line of the first refusal of a file, as `jepmon check` prints it. None if nothing is refused; then all lines are in the account.
+    Writes each event before the refusal plainly to the other file, one in each line."""
     with open(path, "rb") as file:
         if file.seek(0, 2) == 0:
             return None
@@ -54,7 +54,7 @@ def _first_refusal(reader: Reader, rule: Rule, plainly: Optional[BinaryIO], acco
     refused: Optional[str] = None
     try:
         for entry in entries_of(reader, account):
-            if refused is not None:  # the text may be unreadable further on, and that comes before any event's refusal
+            if refused is not None:  # the text may be unreadable later, and this is reported before the refusal of any event
                 continue
             try:
                 if isinstance(entry, Refusal):

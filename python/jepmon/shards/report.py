@@ -1,4 +1,5 @@
-"""Joins the results of shards to the report on the history: a line for each key, in the order of their first events, and the verdict."""
+"""Joins the results of shards into the report on the history: a line for each key, in the order of the keys' first events, and the
+verdict."""
 from __future__ import annotations
 
 import contextlib
@@ -14,7 +15,7 @@ PLACE = 21  # bytes in front of each line of a result
 
 
 def merged(results: Sequence[str], folder: str, sizes: Sizes) -> Iterator[bytes]:
-    """The lines of these files, in the order of the number that begins each. The files are removed."""
+    """The lines of these files, in the order of the number at the beginning of each line. Removes the files."""
     names, count = list(results), 0
     while len(names) > sizes.merged:  # no more files are open at once
         path = os.path.join(folder, f"{count}.merged")

@@ -1,7 +1,8 @@
 """The events of a history by shards of their keys, in files between the two passes.
 
-Such a file has slabs, one behind another. In each the events of a shard stand together, field by field: a Segment. Behind them is
-the slab's directory: of each shard where its segment begins, the bytes of its keys and of its parts, and how many events it has.
+Such a file has slabs, one behind another. In a slab the events of a shard are together, field by field: a Segment. Behind the segments is
+the slab's directory. It has, for each shard, the beginning of its segment, the bytes of its keys and of its parts, and the number of its
+events.
 """
 from __future__ import annotations
 
@@ -28,7 +29,7 @@ class Segment(NamedTuple):
 
 
 class Source(NamedTuple):
-    """A file with slabs, where their directories are, and what is to be added to its places."""
+    """A file with slabs: the places of their directories, and the offset for its places."""
 
     path: str
     slabs: Sequence[int]
@@ -49,8 +50,8 @@ class Router:
         self.written = [0] * shards  # bytes of each shard
 
     def route(self, keys: Sequence[bytes], parts: Sequence[bytes], codes: Sequence[int], places: Sequence[int]) -> None:
-        """Takes these events: few at once, so that they stay near. The questions about each event cost most, so they are asked of
-        columns."""
+        """Takes these events, only few at once, so that they stay in the cache. The tests of each event cost most, so they are done on
+        whole columns."""
         puts = self._puts
         for at, shard in enumerate(shards_of_keys(keys, len(puts), self._level)):
             puts[shard](at)
@@ -67,7 +68,7 @@ class Router:
                 routed.clear()
 
     def write(self, file: BinaryIO) -> int:
-        """Writes what was routed as a slab, and forgets it: where its directory is."""
+        """Writes the routed events as a slab, and forgets them. Returns the place of its directory."""
         directory = array.array(NUMBERS)
         for shard, codes in enumerate(self._codes):
             keys, parts = b" ".join(self._keys[shard]), b"\n".join(self._parts[shard])
@@ -93,7 +94,7 @@ def picker(places: Sequence[int]) -> Callable[[Sequence[Any]], Tuple[Any, ...]]:
 
 
 def shards_of_keys(keys: Sequence[bytes], shards: int, level: int) -> List[int]:
-    """The shard of each key. On each level those that share one shard above are spread again."""
+    """The shard of each key. On each level the keys of one shard of the level above are distributed again."""
     if level:
         return [zlib.crc32(key + b" level %d" % level) % shards for key in keys]
     crc32 = zlib.crc32

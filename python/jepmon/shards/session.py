@@ -1,7 +1,7 @@
-"""A check of one history, step by step: it reads the file by shards, judges these, and joins the results.
+"""A check of one history, step by step: it reads the file into shards, judges the shards, and joins the results.
 
-The quick reading may be in doubt; then the file is read exactly, once. Either the check refuses it, or it goes on with a plain file of the
-same events.
+If the quick reader is in doubt, the exact reader reads the file once. Then the check either refuses the file, or continues with a plain
+file of the same events.
 """
 from __future__ import annotations
 
@@ -68,7 +68,7 @@ class Session:
             self._find_threads(FRONT)
 
     def read(self) -> None:
-        """The first pass. Refused if an event is refused and the pass finds it without the program."""
+        """The first pass. Raises Refused if the pass finds a refused event without the program."""
         while not self._has_read:
             file, tools = self.file, self.tools
             try:
@@ -93,7 +93,7 @@ class Session:
                 self.read_exactly(doubt)
 
     def nils_after_values(self) -> int:
-        """How many reads of registers were answered by nil, and began after a value was there."""
+        """The number of reads of registers that answered nil and began after a value was there."""
         if self.tally.reads_of_nil() <= 0:
             return 0
         tasks = [NilsTask(shard.sources, shard.number) for shard in self.shards]
@@ -130,7 +130,7 @@ class Session:
                 yield int(name), [key_event(*events[at:at + FIELDS]) for at in range(0, batch.keys[0].judged * FIELDS, FIELDS)]
 
     def read_exactly(self, doubt: Doubt) -> None:
-        """Reads the history exactly: Refused, or it goes on with a file of the same events."""
+        """Reads the history exactly. Raises Refused, or continues with a file of the same events."""
         if self._is_plain:
             raise ShardsError(f"jepmon and this package differ on this history, which is not judged: {doubt}") from doubt
         self.tools.team.stop()
@@ -146,7 +146,7 @@ class Session:
         self.file, self._is_plain, self._has_read = file_of(path), True, False
 
     def _find_threads(self, length: int) -> bool:
-        """Finds the concurrency by so much of the history; whether it is another one then."""
+        """Finds the concurrency from this much of the history. Returns whether it differs from before."""
         self._finds_threads = length < self.file.length
         found: Optional[int] = fewest_threads(self.file.path, min(length, self.file.length), self.tools.sizes)
         before = self.options.concurrency

@@ -14,8 +14,8 @@ from .team import Team, in_order
 
 
 class Shard(NamedTuple):
-    """Some keys of a history, with all their events. The fields are the files that have them, the number of the shard there, a name, the
-    bytes, how often it was divided, and whether it may be divided again."""
+    """Some keys of a history, with all their events. The fields are the files with these events, the number of the shard in the files, a
+    name, the bytes, how often the shard was divided, and whether it may be divided again."""
 
     sources: List[Source]
     number: int
@@ -41,7 +41,8 @@ class Divided(NamedTuple):
 
 def shards_of(path: str, length: int, options: Options, folder: str, team: Team, sizes: Sizes,
               progress: Progress) -> Tuple[List[Shard], Tally]:
-    """The shards of a history, whose events are written to this folder, and what its events are. A Doubt if something is refused."""
+    """The shards of a history, whose events are written to this folder, and the counts of its events. Raises a Doubt if something is
+    refused."""
     if length == 0:
         return [], Tally()
     step, count = sizes.piece_length(length), sizes.shard_count(length)
@@ -55,7 +56,7 @@ def shards_of(path: str, length: int, options: Options, folder: str, team: Team,
 
 
 def divided(shards: List[Shard], folder: str, team: Team, sizes: Sizes, progress: Progress) -> List[Shard]:
-    """The shards, and in the place of each large one those into which it is divided, until they are small."""
+    """The shards, in which each large shard is replaced by its parts, until all are small."""
     done: List[Shard] = []
     while shards:
         large = [shard for shard in shards if shard.may_be_divided and shard.written >= sizes.large]
@@ -67,7 +68,8 @@ def divided(shards: List[Shard], folder: str, team: Team, sizes: Sizes, progress
 
 
 def parts_of(shard: Shard, found: Divided) -> Iterator[Shard]:
-    """The shards into which one was divided. One that was hardly divided, since nearly all of it is of one key, stays as it is."""
+    """The shards into which a shard was divided. A part that is nearly the whole shard, since nearly all events are of one key, is not
+    divided again."""
     for number, written in enumerate(found.written):
         if written:
             yield Shard([found.source], number, f"{shard.name}-{number}", written, shard.level + 1, written * 10 < shard.written * 9)

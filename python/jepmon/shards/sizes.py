@@ -1,5 +1,4 @@
-"""How much of a history one task takes, and the limits of the program. Tests make them small; whatever they are, the report is the
-same."""
+"""The size of a task, and the limits of the program. Tests make them small. The report does not depend on them."""
 from __future__ import annotations
 
 from typing import NamedTuple
@@ -37,6 +36,6 @@ class Sizes(NamedTuple):
         return max(1, min(self.shards, -(-length // max(1, self.shard))))
 
     def for_jobs(self, length: int, jobs: int) -> "Sizes":
-        """Smaller ones, so that there are tasks enough of a short history."""
+        """Smaller sizes, so that a short history gives enough tasks."""
         share = max(1 << 20, length // (2 * jobs))
         return self._replace(piece=min(self.piece, share), shard=min(self.shard, share))

@@ -35,8 +35,8 @@ def file_of(path: str) -> File:
 
 
 def file_from(history: History, folder: str) -> File:
-    """The file of a history: of this path, where `-` is standard input; or one in the folder, to which the bytes or texts are written,
-    or what a pipe gives."""
+    """The file of a history: the file at this path (`-` is standard input). Bytes, texts, or the data of a pipe are written to a file in
+    the folder."""
     if isinstance(history, bytes):
         history = (history,)
     if isinstance(history, (str, os.PathLike)):

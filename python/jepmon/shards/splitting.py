@@ -1,7 +1,7 @@
 """A history as shards in a folder: they are written, judged one by one, and joined.
 
-A join judges nothing. It takes the reports that stand beside the shards, each of which names the shard that it is of, and gives a
-verdict only where there is one of each.
+A join judges nothing. It takes the reports beside the shards. Each report names its shard, and there is a verdict only if each shard has a
+report.
 """
 from __future__ import annotations
 
@@ -65,7 +65,7 @@ def split(session: Session, options: Options, folder: str) -> List[Written]:
 
 @contextlib.contextmanager
 def new_folder(folder: str) -> Iterator[None]:
-    """A folder that is new, empty, or of a split that was cut off; empty again if something goes wrong."""
+    """A folder that is new, empty, or left by an interrupted split. After an error it is empty again."""
     made = not os.path.isdir(folder)
     try:
         os.makedirs(folder, exist_ok=True)
@@ -96,7 +96,7 @@ def clear(folder: str) -> None:
 
 
 def judged_elsewhere(session: Session, options: Options, engine: Engine) -> List[Judged]:
-    """Has all shards judged by an engine, which is given a folder with them."""
+    """Has an engine judge all shards. The engine gets a folder with the shards."""
     while True:
         folder = os.path.join(session.tools.folder, "shards")
         shutil.rmtree(folder, ignore_errors=True)
@@ -118,7 +118,7 @@ def finish(session: Session, options: Options, folder: str, shards: List[Written
 
 
 def judge(path: str, program: str) -> bool:
-    """Has a shard judged, and writes the report beside it. False if that stands there already."""
+    """Has the program judge a shard, and writes the report beside it. Returns False if the report already exists."""
     text, options = read_shard(path)
     checksum, out = checksum_of(text), path[:-len(TEXT)] + OUT if path.endswith(TEXT) else path + OUT
     if read_report(out, checksum) is not None:
@@ -140,7 +140,7 @@ def tested_report(report: str) -> str:
 
 
 def join(folder: str, scratch: str, out: BinaryIO, sizes: Sizes = Sizes()) -> Verdict:
-    """Writes the report on the history whose shards are in a folder, and gives the verdict. Refused if an event is."""
+    """Writes the report on the history whose shards are in a folder, and returns the verdict. Raises Refused if an event is refused."""
     manifest = read_manifest(folder)
     reports = reports_of(folder, manifest)
     try:
@@ -153,7 +153,7 @@ def join(folder: str, scratch: str, out: BinaryIO, sizes: Sizes = Sizes()) -> Ve
 
 
 def reports_of(folder: str, manifest: Manifest) -> Dict[str, str]:
-    """The files of the reports on all shards; a ShardsError if one lacks."""
+    """The files of the reports on all shards. Raises a ShardsError if a report is missing."""
     paths = {shard.name: os.path.join(folder, shard.name + OUT) for shard in manifest.shards}
     lacking = [shard.name for shard in manifest.shards if read_report(paths[shard.name], shard.checksum) is None]
     if lacking:

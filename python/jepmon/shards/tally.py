@@ -1,4 +1,4 @@
-"""The counts of a history's events in the first pass: how many of each type and operation, and how many parts are nil."""
+"""The counts of a history's events in the first pass: the number of events of each type and operation, and the number of nil parts."""
 from __future__ import annotations
 
 import collections
@@ -39,7 +39,7 @@ class Tally(NamedTuple):
         return [model for model, operations in MODELS.items() if operations.issuperset(self.names())]
 
     def reads_of_nil(self) -> int:
-        """How many reads were answered by nil: the parts that are nil, except for those that each event of some operations has."""
+        """The number of reads that answered nil: the number of nil parts, without the parts of events that always have nil."""
         always = sum(self.number_of(name, kind) for name in WITHOUT_PART for kind in ("invoke", "fail", "info"))
         always += sum(self.number_of(name, "ok") for name in WITHOUT_PART if name in ("acquire", "release"))
         return self.nils - always

@@ -1,4 +1,4 @@
-"""Processes that do tasks side by side. They are of this program, not forks, so that a program with threads may use them."""
+"""Processes that do tasks side by side. They are started as new programs, and not forked, so that a program with threads may use them."""
 from __future__ import annotations
 
 import contextlib
@@ -54,7 +54,7 @@ class Member:
         return result
 
     def _ended(self) -> ShardsError:
-        """How the process has ended. It is not waited for, so that its number stays its own until `kill`."""
+        """How the process has ended. This does not wait for the process, so that its number stays its own until `kill`."""
         ended = os.waitid(os.P_PID, self.process.pid, os.WEXITED | os.WNOWAIT)
         how = "with status" if ended is not None and ended.si_code == os.CLD_EXITED else "by signal"
         return ShardsError(f"a process of this check has ended, {how} {ended.si_status if ended is not None else '?'}: nothing is judged")
@@ -68,7 +68,7 @@ class Member:
 
 
 class Team:
-    """So many processes. One does its tasks in this process."""
+    """A number of processes. A team of one does its tasks in this process."""
 
     def __init__(self, jobs: int) -> None:
         self.jobs = jobs
@@ -86,8 +86,8 @@ class Team:
             self._members.pop().kill()
 
     def run(self, function: Callable[[Task], Result], tasks: Sequence[Task]) -> Iterator[Tuple[int, Result]]:
-        """The function's result for each task, with the task's number, as it comes. The function is one of a module. If one task raises an
-        exception it is raised here, and then the others are not done to their end."""
+        """The function's result for each task, with the task's number, as soon as it comes. The function must be in a module. If a task
+        raises an exception, it is raised here, and the other tasks are not completed."""
         if self.jobs == 1:
             with uncollected():
                 for number, task in enumerate(tasks):
@@ -120,7 +120,7 @@ class Team:
 
 @contextlib.contextmanager
 def uncollected() -> Iterator[None]:
-    """Without the search for objects that go in cycles, which would look through all events again and again."""
+    """Runs the block without the garbage collector's search for cycles, which would look through all events again and again."""
     was_enabled = gc.isenabled()
     gc.disable()
     try:

@@ -1,4 +1,4 @@
-"""How many threads the processes of a file have, by its front or by all of it (see history/process_lives.py)."""
+"""The number of threads of the processes of a file, by its beginning or by the whole file (see history/process_lives.py)."""
 from __future__ import annotations
 
 from typing import Dict, Iterable, Optional, Tuple
@@ -31,7 +31,8 @@ def tell(lives: Lives, rows: Iterable[Row]) -> None:
 
 
 def fewest_threads(path: str, length: int, sizes: Sizes = Sizes()) -> Optional[int]:
-    """The fewest threads that fit the events that begin within so much of a file; None if none do, or the lines can't be read here."""
+    """The least number of threads that fits the events in this much of a file. None if no number fits, or if the lines can't be read
+    here."""
     lives = Lives()
     try:
         for block in blocks_of(PieceTask(path, 0, length, 1, 1, "", sizes)):

@@ -1,4 +1,4 @@
-"""`jepmon-shards`: a history as shards in a folder, which are judged elsewhere, and joined."""
+"""`jepmon-shards`: splits a history into shards in a folder, judges shards, and joins the results."""
 from __future__ import annotations
 
 import argparse

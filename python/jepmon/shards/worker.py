@@ -22,8 +22,8 @@ def answer(function: Callable[[Any], Any], task: Any) -> Tuple[Any, Optional[Bas
 
 
 def serve(number: int) -> None:
-    """Does what comes through the connection of this number: pairs of a function and a task. The answer is a pair of the function's result
-    and its exception."""
+    """Does the tasks that come through the connection of this number: pairs of a function and a task. The answer is a pair of the
+    function's result and its exception."""
     gc.disable()  # nothing here goes in cycles, and it would look through all events again and again
     with multiprocessing.connection.Connection(number) as connection:
         try:

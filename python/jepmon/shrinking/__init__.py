@@ -1,5 +1,5 @@
-"""The operations that may be removed from a history of one key so that a legal one stays legal: docs/guide/SHRINKING.md has the reason for
-each."""
+"""The operations that may be removed from a history of one key so that a legal history stays legal. docs/guide/SHRINKING.md has the reason
+for each removal."""
 from __future__ import annotations
 
 from typing import Callable, Dict, List, Sequence, Tuple
@@ -21,9 +21,9 @@ RULES: Dict[str, Tuple[Rule, ...]] = {
 
 
 def ways(model: str, operations: Sequence[Operation]) -> List[List[Unit]]:
-    """The units of a history of one key, from its operations in the order of their invocations, one list for each way to make them. Failed
-    operations, and those that the object does not have, are alone; the others are grouped by a rule of the model. Units of one way may be
-    removed together."""
+    """The units of a history of one key, from its operations in the order of their invocations. There is one list for each way to make
+    units. A failed operation, or one that the object does not have, is a unit by itself. A rule of the model groups the other operations.
+    Units of one way may be removed together."""
     alone = [place for place, operation in enumerate(operations)
              if operation.outcome == "fail" or operation.invocation.name not in MODELS[model]]
     others = sorted(set(range(len(operations))) - set(alone))

@@ -1,5 +1,5 @@
-"""The operations that stay in the smallest part though they might be removed. Without them the part would be illegal for a misleading
-reason, as that a value was never written, though in truth it was overwritten."""
+"""The operations that stay in the smallest part although they might be removed. Without them the part would be illegal for a misleading
+reason: for example, a value would look like one that was never written, although it was overwritten."""
 from __future__ import annotations
 
 from typing import Callable, Dict, Iterable, List, Sequence
@@ -15,7 +15,7 @@ def kept(model: str, operations: Sequence[Operation], fatal: int) -> List[int]:
 
 
 def of_register(operations: Sequence[Operation], fatal: int) -> List[int]:
-    """The last operation that wrote the value which the fatal operation found; a failed one only if there is no other."""
+    """The last operation that wrote the value which the fatal operation found. A failed operation only if there is no other."""
     value = registers.wanted(operations[fatal])
     return last_of(operations, [place for place, operation in enumerate(operations)
                                 if value is not None and place != fatal and registers.brought(operation) == value])
@@ -44,7 +44,7 @@ def of_queue(operations: Sequence[Operation], fatal: int) -> List[int]:
 
 
 def of_set(operations: Sequence[Operation], fatal: int) -> List[int]:
-    """Failed adds of what nobody else has added and the fatal read has: one of them."""
+    """One failed add of a value that the fatal read has and nobody else has added."""
     completion = operations[fatal].completion
     answer = completion.value if completion is not None else None
     if not isinstance(answer, frozenset):
@@ -57,7 +57,7 @@ def of_set(operations: Sequence[Operation], fatal: int) -> List[int]:
 
 
 def last_of(operations: Sequence[Operation], places: Iterable[int]) -> List[int]:
-    """The last operation to end: of those that did not fail, if there are any, else of all. None if the list is empty."""
+    """The operation that ended last, among those that did not fail. If all failed, among all. None if the list is empty."""
     ranked = sorted(places, key=lambda place: (operations[place].outcome != "fail", end(operations[place]), begin(operations[place])))
     return ranked[-1:]
 

@@ -1,5 +1,5 @@
-"""Locks: the removed unit is a block of all operations between two certain ones; an acquire and a release after it, or a release and an
-acquire after it; or the operations after which nothing can come."""
+"""Locks. A removed unit is a block of all operations between two acquires, an acquire and a later release, a release and a later acquire,
+or an operation that can only be last."""
 from __future__ import annotations
 
 import bisect
@@ -36,8 +36,8 @@ def named(operations: Sequence[Operation], places: Sequence[int], name: str) -> 
 
 
 def blocks(operations: Sequence[Operation], acquires: List[int], releases: List[int]) -> Iterator[FrozenSet[int]]:
-    """The operations that come, in each legal order, before an acquire and not before an earlier one. A block begins and ends with a free
-    lock."""
+    """The operations that are, in each legal order, before an acquire and not before an earlier acquire. The lock is free before and after
+    a block."""
     before: FrozenSet[int] = frozenset()
     for cut in sorted(set(cuts(operations, acquires, releases)), key=len):
         if before < cut:
@@ -46,8 +46,9 @@ def blocks(operations: Sequence[Operation], acquires: List[int], releases: List[
 
 
 def cuts(operations: Sequence[Operation], acquires: List[int], releases: List[int]) -> Iterator[FrozenSet[int]]:
-    """The operations that come, in each legal order, before an acquire that has returned: as many acquires as releases. If as many acquires
-    certainly come there as releases may, exactly these come there; and likewise if as many releases certainly do as acquires may."""
+    """The operations that are, in each legal order, before an acquire that has returned: as many acquires as releases. Suppose that as many
+    acquires are certainly before it as releases may be. Then exactly these are before it. The same holds if as many releases are certainly
+    before it as acquires may be."""
     returned = [place for place in acquires if end(operations[place]) < NEVER]
     certain = Prefixes(operations, acquires), Prefixes(operations, releases)
     for place in returned[::1 + len(returned) // CUTS]:
@@ -80,8 +81,8 @@ class Prefixes:
 
 
 def pairs(operations: Sequence[Operation], firsts: List[int], seconds: List[int]) -> Iterator[Tuple[int, int]]:
-    """A first operation and a second one, of the other kind, that it precedes. No operation of its kind that begins after the first can
-    come between the two behind one of the other kind."""
+    """Pairs of a first operation and a second operation with the other name, which the first precedes. No operation with the first's name
+    that begins after the first can be between the two behind an operation with the other name."""
     first_begins, begins = [begin(operations[place]) for place in firsts], [begin(operations[place]) for place in seconds]
     unended = open_at_begin(operations, firsts, seconds)
     used: Set[int] = set()
@@ -122,7 +123,8 @@ def open_at_begin(operations: Sequence[Operation], beginning: List[int], others:
 
 
 def last_ones(operations: Sequence[Operation], acquires: List[int], releases: List[int]) -> List[Unit]:
-    """An operation before whose begin each one of the other kind had ended: in a legal order nothing stands after it."""
+    """An operation that began after each operation with the other name had ended. In a legal order it is the last one, or is not in the
+    order."""
     units: List[Unit] = []
     for places, others in ((acquires, releases), (releases, acquires)):
         ended = max((end(operations[other]) for other in others), default=-1)

@@ -11,7 +11,7 @@ from ..program import Options
 
 
 def without(operations: Sequence[Operation], out: AbstractSet[int], values: AbstractSet[int]) -> List[Operation]:
-    """The operations without those at some places, and without some values in each answer that is a set."""
+    """The operations without those at some places. Each answer that is a set is without some values."""
     return [without_values(operation, values) for place, operation in enumerate(operations) if place not in out]
 
 
@@ -30,9 +30,9 @@ def events_of(operations: Iterable[Operation]) -> List[Event]:
 
 
 def text_of(events: Iterable[Event], concurrency: int) -> str:
-    """The events as a history by itself. Each client has a process of its own number at first, and after each :info the one that is greater
-    by the concurrency. That is the same as in the history, except for timed-out operations that are not among these. If the history has
-    more clients than one check takes, each operation gets a free thread."""
+    """The events as a history by itself. The first process of each client is its own number, and after each :info the next process is
+    greater by the concurrency. These are the processes of the history, unless timed-out operations were removed. If the history has more
+    clients than one check takes, each operation gets a free thread."""
     clients: Clients = Clients(concurrency) if concurrency <= THREADS else FreeThreads()
     return "".join(line_of(event, clients.process_of(event), f", :original-index {event.index}") + "\n" for event in events)
 
@@ -61,7 +61,7 @@ class Clients:
 
 
 class FreeThreads(Clients):
-    """The units with which each operation has one of the threads of a check: no more operations are open at once."""
+    """Gives each operation one of the threads of a check. No more operations are open at once than there are threads."""
 
     def __init__(self) -> None:
         super().__init__(THREADS)

@@ -20,8 +20,8 @@ def by_value(operations: Sequence[Operation], places: Iterable[int], name: str) 
 
 
 def of_fifo_queue(operations: Sequence[Operation], places: Sequence[int]) -> List[Unit]:
-    """A value with all its enqueues and dequeues. A dequeue without an answer with each value that it may have taken: of which there
-    are more enqueues than dequeues that have answered it."""
+    """A unit for each value, with all its enqueues and dequeues. A unit for each dequeue without an answer. It drags each value that the
+    dequeue may have taken: each value with more enqueues than dequeues that have answered it."""
     enqueues, dequeues = by_value(operations, places, "enqueue"), by_value(operations, places, "dequeue")
     of_value = {value: tuple(enqueues.get(value, []) + dequeues.get(value, [])) for value in {**enqueues, **dequeues}}
     values = sorted(of_value, key=lambda value: max(of_value[value]))
@@ -33,8 +33,8 @@ def of_fifo_queue(operations: Sequence[Operation], places: Sequence[int]) -> Lis
 
 
 def of_unordered_queue(operations: Sequence[Operation], places: Sequence[int]) -> List[Unit]:
-    """For each value, the first enqueue by invocation with the first dequeue by completion, the second with the second, and so on; and each
-    other operation alone."""
+    """For each value, a unit of the first enqueue (by invocation) and the first dequeue (by completion), a unit of the second ones, and so
+    on. Each other operation is a unit by itself."""
     enqueues, dequeues = by_value(operations, places, "enqueue"), by_value(operations, places, "dequeue")
     pairs: List[Unit] = []
     for value, taken in dequeues.items():

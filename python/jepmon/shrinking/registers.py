@@ -1,4 +1,4 @@
-"""Registers: a read is removed alone; a write with all operations that may have found its value."""
+"""Registers: a read is removed alone, and a write with all operations that may have found its value."""
 from __future__ import annotations
 
 import bisect
@@ -17,7 +17,7 @@ def units(operations: Sequence[Operation], places: Sequence[int]) -> List[Unit]:
 
 
 def brought(operation: Operation) -> Optional[int]:
-    """The value that an operation writes to a register: of a write its value, of a cas its second."""
+    """The value that an operation writes to a register: the value of a write, or the second value of a cas."""
     value = operation.invocation.value
     if operation.invocation.name == "write" and isinstance(value, int):
         return value
@@ -25,7 +25,7 @@ def brought(operation: Operation) -> Optional[int]:
 
 
 def wanted(operation: Operation) -> Optional[int]:
-    """The value that a register has to hold for it: the answer of a read, or the value that a cas compares."""
+    """The value that a register must hold for an operation: the answer of a read, or the value that a cas compares."""
     value = operation.invocation.value
     if operation.invocation.name == "read" and operation.outcome == "ok" and operation.completion is not None:
         value = operation.completion.value
@@ -34,8 +34,9 @@ def wanted(operation: Operation) -> Optional[int]:
 
 
 def finders_of(operations: Sequence[Operation], places: Sequence[int]) -> Dict[int, List[int]]:
-    """For each operation that writes a value, those that may have found it in the register. One can't if it had ended before the other
-    began. Nor can it if a third one, which has certainly written, began after the other had ended and had ended before it began."""
+    """For each operation that writes a value, the operations that may have found this value. An operation f cannot have found the value of
+    a writer w if f had ended before w began. It also cannot if a third operation, which has certainly written, began after w had ended, and
+    ended before f began."""
     gone = Overwrites(operations, places)
     wanting: Dict[int, List[int]] = collections.defaultdict(list)  # by value, in the order of invocations
     for place in places:
@@ -60,7 +61,7 @@ def finders_of(operations: Sequence[Operation], places: Sequence[int]) -> Dict[i
 
 
 class Overwrites:
-    """By when what a register held is certainly overwritten."""
+    """The time by which the value of a register is certainly overwritten."""
 
     def __init__(self, operations: Sequence[Operation], places: Sequence[int]) -> None:
         spans = sorted((begin(operations[place]), end(operations[place])) for place in places
@@ -71,5 +72,5 @@ class Overwrites:
             self._earliest[number] = min(self._earliest[number + 1], spans[number][1])
 
     def after(self, moment: int) -> int:
-        """When the first has ended of those that began after this moment."""
+        """The earliest end of the writes that began after this moment."""
         return self._earliest[bisect.bisect(self._begins, moment)]

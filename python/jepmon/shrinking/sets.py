@@ -1,4 +1,4 @@
-"""Sets: a read is removed alone, and so is an add of a value that an earlier one had added. A value is removed with each add of it, from
+"""Sets: a read is removed alone, and so is an add of a value that an earlier add had added. A value is removed with all its adds, and from
 each answer."""
 from __future__ import annotations
 

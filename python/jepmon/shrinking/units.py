@@ -9,8 +9,9 @@ NEVER = 1 << 62  # the end of what has not ended
 
 
 class Unit(NamedTuple):
-    """Operations that are removed together. If it drags other units, these go with it. Any number of the units of one history may be
-    removed at once. Operations are meant by their places in the list that the units were made of, units by theirs."""
+    """Operations that are removed together. If a unit drags other units, these are removed with it. Any number of the units of one history
+    may be removed at once. Operations are named by their places in the list from which the units were made, and units by their places in
+    the list of units."""
 
     operations: Tuple[int, ...]
     values: Tuple[int, ...] = ()  # of a set: these go out of each answer
@@ -22,8 +23,8 @@ def begin(operation: Operation) -> int:
 
 
 def end(operation: Operation) -> int:
-    """The index of the event by which it is known to have taken place. An operation that is open, or has timed out, may take place at any
-    later moment."""
+    """The index of the event at which the operation has certainly taken place. An operation that is open, or has timed out, may take place
+    at any later moment."""
     return operation.completion.index if operation.completion is not None and operation.outcome == "ok" else NEVER
 
 
@@ -44,7 +45,7 @@ def with_dragged(units: Sequence[Unit], chosen: Iterable[int]) -> Set[int]:
 
 
 def dragging(units: Sequence[Unit], kept: Iterable[int]) -> Set[int]:
-    """The units that can't be removed if these are kept: they drag one of them."""
+    """The units that can't be removed if these units are kept, since they drag one of these."""
     draggers: List[List[int]] = [[] for _ in units]
     for place, unit in enumerate(units):
         for dragged in unit.drags:

@@ -1,4 +1,4 @@
-"""`jepmon-test`: real servers under real faults, judged live by the proved program; and what a server of one's own needs for it.
+"""`jepmon-test`: real servers under real faults, judged live by the proved program; and the classes for a server of your own.
 
     from jepmon.testing import Client, Server        # as in template.py, which `jepmon-test template` prints
 

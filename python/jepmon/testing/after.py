@@ -1,6 +1,6 @@
-"""After a finding: the servers are whole again, the bad key is read once more at every node, and the nodes' data are kept.
+"""After a finding: repairs the servers, reads the bad key once more at every node, and keeps the nodes' data.
 
-These reads tell a lost write from a stale read, from a dirty one, and from nodes that differ. It is found by reading, and not proved.
+These reads distinguish a lost write, a stale read, a dirty read, and nodes that differ. The results come from reads, and are not proved.
 """
 from __future__ import annotations
 
@@ -49,7 +49,7 @@ class Reading(NamedTuple):
 
 @contextlib.contextmanager
 def after_a_finding(cluster: Cluster, folder: pathlib.Path, keep: str, lost: Callable[[], int]) -> Iterator[None]:
-    """The block is the test. If it ends by a finding, or if messages are lost, it learns what it can before the servers are gone."""
+    """The block is the test. If it ends with a finding, or if messages are lost, collects the facts while the servers still run."""
     found = False
     try:
         yield
@@ -70,7 +70,8 @@ def after_a_finding(cluster: Cluster, folder: pathlib.Path, keep: str, lost: Cal
 
 
 def read_again(cluster: Cluster, illegal: Illegal) -> None:
-    """Leaves in the folder of the part what was read. The verdict stands whatever comes of this, so that nothing is raised but Ctrl-C."""
+    """Reads the bad key again, and leaves the results in the folder of the part. Raises nothing except Ctrl-C, since a failure here must
+    not change the verdict."""
     part = pathlib.Path(illegal.folder)
     try:
         lines = _read_again(cluster, illegal, part)
@@ -113,7 +114,7 @@ def _read_again(cluster: Cluster, illegal: Illegal, part: pathlib.Path) -> List[
 
 
 def mend(cluster: Cluster) -> None:
-    """The faults are over by now; the nodes may have to start still."""
+    """Waits until the nodes are ready. The faults are over by now, but some nodes may still have to start."""
     cluster.stopped.clear()
     cluster.server.patience = min(cluster.server.patience, PATIENCE)
     for node in cluster.nodes:
@@ -141,7 +142,7 @@ def lost_messages(events: Sequence[Event], rest: Sequence[int], acknowledged: Ac
 
 
 def verdict_on_queue(key: int, events: Sequence[Event], rest: Sequence[int], lost: Sequence[One]) -> str:
-    """Which messages are gone, once the queue was drained."""
+    """The messages that are gone, after the queue was drained."""
     said = f"Once all faults were ended, queue {key} was drained: {len(rest)} messages came."
     if not lost:
         return f"{said} Each message that was acknowledged has come: none is lost."
@@ -151,7 +152,7 @@ def verdict_on_queue(key: int, events: Sequence[Event], rest: Sequence[int], los
 
 
 def readings_of(cluster: Cluster, key: int) -> Dict[str, Reading]:
-    """The answer of each node that can be read, by its name, once they agree, or have had some time to."""
+    """The answer of each node that can be read, by its name. Reads until the nodes agree, or until they have had some time to do so."""
     readings: Dict[str, Reading] = {}
     with cluster.clients():
         for number in range(ROUNDS):
@@ -170,7 +171,8 @@ def one_round(cluster: Cluster, key: int) -> Dict[str, Reading]:
 
 
 def one_reading(server: Server, node: Node, number: Optional[int], key: int) -> Optional[Reading]:
-    """At this node, by a reader that the server gives, or else by the client of that number; None if there is neither."""
+    """The answer at this node, through a reader that the server gives, or else through the client of this number. None if there is
+    neither."""
     said = ""
     for _ in range(TRIES):
         client: Any = server.reader(node)
@@ -181,7 +183,7 @@ def one_reading(server: Server, node: Node, number: Optional[int], key: int) -> 
         try:
             value = client.read(key)
             return Reading(frozenset(value) if isinstance(value, (set, frozenset, list, tuple)) else value)
-        except Exception as fault:  # of whatever kind the client raises
+        except Exception as fault:  # of any class that the client raises
             said = f"no answer ({type(fault).__name__})"
         finally:
             client.close()
@@ -189,15 +191,16 @@ def one_reading(server: Server, node: Node, number: Optional[int], key: int) -> 
 
 
 def others_that_differ(readings: Dict[str, Reading], by_clients: Dict[str, Reading]) -> str:
-    """Nodes that no client asks, and that hold another value than those that clients ask."""
+    """Nodes that no client uses, and that hold another value than the nodes that clients use."""
     held = {str(reading) for reading in by_clients.values() if not reading.fault}
     names = [name for name, reading in readings.items() if name not in by_clients and not reading.fault and str(reading) not in held]
     return f"Another value is still at {', '.join(names)}: DIVERGED from the nodes that clients ask." if names and held else ""
 
 
 def verdict_on(fatal: Event, readings: Dict[str, Reading], acknowledged: Acknowledged, known: int, failure: Optional[Failure] = None) -> str:
-    """Says lost, stale, dirty or diverged. `acknowledged` holds the writes before the operation began. `known` is the event that first shows
-    the answer in the key, or -1. `failure` is the failed operation that brought the answer, if there is one."""
+    """The sentence that says lost, stale, dirty or diverged. `acknowledged` has the writes that were acknowledged before the operation
+    began. `known` is the first event that shows the answer in the key, or -1. `failure` is the failed operation that brought the answer, if
+    there is one."""
     values = [reading.value for reading in readings.values() if not reading.fault]
     if not values:
         return "No node answered, so nobody knows whether something is lost."
@@ -238,7 +241,7 @@ def verdict_on_set(fatal: Event, held: "frozenset[int]", acknowledged: Acknowled
 
 
 def listed(readings: Dict[str, Reading]) -> str:
-    """The readings, nodes that answered alike together."""
+    """The readings. Nodes with the same answer are together."""
     by_text: Dict[str, List[str]] = {}
     for name, reading in readings.items():
         by_text.setdefault(str(reading), []).append(name)
@@ -255,7 +258,7 @@ def shown(value: Any) -> str:
 
 
 def keep_nodes(cluster: Cluster, folder: pathlib.Path) -> None:
-    """Kills the nodes, and copies their folders into that of the run, as n1.data. It reports files that it can't copy."""
+    """Kills the nodes, and copies their folders into the run's folder, as n1.data. Reports files that it can't copy."""
     for node in cluster.nodes:
         node.kill()
         try:

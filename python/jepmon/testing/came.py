@@ -1,4 +1,4 @@
-"""Which messages have come, of a queue that delivers at least once."""
+"""The messages of a queue that have come, if the queue delivers at least once."""
 from __future__ import annotations
 
 import threading
@@ -6,7 +6,7 @@ from typing import Set
 
 
 class Came:
-    """To any client. A dequeue takes place if a message comes for the first time."""
+    """The messages that have come to any client. A dequeue takes place when a message comes for the first time."""
 
     def __init__(self) -> None:
         self._lock = threading.Lock()

@@ -42,7 +42,7 @@ class Words(command.Words):
 
 
 def given(words: Optional[List[str]]) -> Optional[Given]:
-    """The test that the arguments ask for; None if they ask for the template."""
+    """The test for these arguments. None if they ask for the template."""
     parser = _parser()
     if {"-h", "--help"} & set(sys.argv[1:] if words is None else words):
         parser.epilog = "\n".join(_described())
@@ -126,7 +126,7 @@ def _described() -> Iterator[str]:
 
 
 def _filled(word: str) -> str:
-    """Not an empty text, as of a variable of a shell that is not set: that would be the default, in silence."""
+    """Refuses an empty text, such as that of an unset shell variable, which would silently mean the default."""
     if not word.strip():
         raise argparse.ArgumentTypeError("it is empty")
     return word
@@ -173,7 +173,7 @@ def server_of(name: str) -> Type[Server]:
 
 
 def _of_file(path: pathlib.Path) -> Type[Server]:
-    """The last class in a file of the user's that is a Server, or which it names `server`."""
+    """The last class in the user's file that is a Server, or the class that the file names `server`."""
     name = f"server_in_{path.stem}"  # so that it takes no other module's name
     spec = importlib.util.spec_from_file_location(name, path)
     if not path.is_file() or spec is None or spec.loader is None:

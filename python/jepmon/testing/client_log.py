@@ -1,4 +1,4 @@
-"""Logs and warnings of client libraries go to a file of the run's folder: under faults they would flood the terminal."""
+"""Writes logs and warnings of client libraries to a file in the run's folder. Under faults they would flood the terminal."""
 from __future__ import annotations
 
 import contextlib
@@ -11,7 +11,7 @@ from ..live.run_folder import CLIENTS_LOG
 
 @contextlib.contextmanager
 def kept_in(folder: pathlib.Path) -> Iterator[None]:
-    """For the block; there is no file if nothing was said."""
+    """Keeps the logs during the block. There is no file if nothing was logged."""
     handler = logging.FileHandler(folder / CLIENTS_LOG, encoding="utf-8", delay=True)
     handler.setFormatter(logging.Formatter("%(asctime)s %(name)s %(levelname)s: %(message)s"))
     logging.getLogger().addHandler(handler)

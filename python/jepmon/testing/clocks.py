@@ -1,9 +1,10 @@
 """Wall clocks of single nodes. The test compiles a small library at its start and preloads it into the node's processes. The library adds
 the seconds in a file to the time that they ask the C library for.
 
-It reaches programs that take the time by the C library, as Redis, PostgreSQL, Erlang's and Java's do. It does not reach those that ask the
-kernel by themselves, as Go's, nor those that are linked statically. The monotonic clock is unchanged: people set machines' clocks, and
-timeouts go by the monotonic one. (A time namespace of Linux shifts the monotonic clock alone, and not the wall clock.)
+It reaches programs that ask the C library for the time, such as Redis, PostgreSQL, and programs in Erlang and Java. It does not reach
+programs that ask the kernel directly, such as programs in Go, nor statically linked programs. The monotonic clock is unchanged: people set
+the wall clocks of machines, and timeouts use the monotonic clock. (A time namespace of Linux shifts only the monotonic clock, and not the
+wall clock.)
 """
 from __future__ import annotations
 
@@ -65,7 +66,7 @@ time_t time(time_t *at) {
 
 
 class Clock:
-    """The clock of one node: it is ahead of this machine's by some seconds, or behind it by less than none."""
+    """The clock of one node. It is ahead of this machine's clock by some seconds, or behind it if the number is negative."""
 
     def __init__(self, node: Node, library: pathlib.Path) -> None:
         self._file = node.folder.parent / f"{node.name}.clock"
@@ -79,7 +80,7 @@ class Clock:
             file.write(struct.pack("d", seconds))
 
     def test_reached(self, node: Node) -> None:
-        """Raises if no process of the node has the library: it would be struck in vain."""
+        """Raises if no process of the node has the library, since a strike would have no effect."""
         pids = [] if node.pid is None else family(node.pid)
         if pids and not any(self._library in maps(pid) for pid in pids):
             raise ServerError(f"the clock of {node.name} can't be set: its program takes no preloaded library, as where it is linked statically")

@@ -23,9 +23,9 @@ from .undisturbed import undisturbed
 
 
 class Cluster:
-    """It starts with its block. `network` says by what links others reach the nodes (links.py). `has_disks` says whether each node's folder
-    is a disk of its own, which can lose power (disks.py), and `has_clocks` whether each has a wall clock of its own (clocks.py).
-    `has_spare` adds one node for strikes to start."""
+    """The cluster starts with its block. `network` is the sort of links through which others reach the nodes (links.py). `has_disks` says
+    whether each node's folder is a disk of its own, which can lose power (disks.py). `has_clocks` says whether each node has a wall clock
+    of its own (clocks.py). `has_spare` adds a node that strikes may start."""
 
     def __init__(self, kind: Type[Server], model: str, plant: str, size: int, logs: pathlib.Path, network: str, patience: float = 0.0,
                  has_disks: bool = False, has_clocks: bool = False, durability: str = "", has_spare: bool = False) -> None:
@@ -100,7 +100,7 @@ class Cluster:
         return contextlib.nullcontext() if self.links is None else self.links.clients()
 
     def _start(self, node: Node) -> None:
-        """Its words are made again at each start: a server may say others, by node.starts."""
+        """Starts a node. The words of its command are made at each start, since they may depend on node.starts."""
         node.words = self.server.command(node)
         node.start()
         if self.links is not None:
@@ -119,7 +119,7 @@ class Cluster:
         return True
 
     def leader(self) -> Optional[Node]:
-        """The node that the server says leads now; None if it names none."""
+        """The node that leads now, if the server names one. Otherwise None."""
         try:
             return self.server.leader()
         except Exception:  # nodes that are struck do not answer
@@ -138,11 +138,11 @@ class Cluster:
             self.links.down(node)
 
     def restart(self, node: Node) -> None:
-        """It is ready some time later: while the others are cut off it may have to wait for them."""
+        """Starts a node again. The node is ready some time later, since it may have to wait for other nodes that are cut off."""
         self._start(node)
 
     def test_alive(self) -> None:
-        """Raises a Died if a node has ended by itself, or its log says that it has crashed."""
+        """Raises a Died if a node has ended by itself, or if its log says that it has crashed."""
         for node in self._every:
             node.test_alive()
         self._logs.look()

@@ -1,4 +1,4 @@
-"""The course of a run: what `--phases` and `--reserve` say of it, over what is drawn from the seed (generators.py).
+"""The course of a run: the settings of `--phases` and `--reserve`, which override the draws from the seed (generators.py).
 
     --phases 5:strikes=off,20:rate=1000,5:changes=0:limit=200      three phases; a number is the phase's seconds
     --reserve changes=2,reads=1                                    clients 0 and 1 change something, client 2 reads, and others do both
@@ -13,7 +13,7 @@ from .errors import ServerError
 from .generators import Phases
 
 NUMBER = re.compile(r"[0-9]+(?:\.[0-9]+)?")
-FORM = "each is SECONDS, with some of rate=N, changes=SHARE, limit=N and strikes=off, as 5:rate=100:changes=0.5"
+FORM = "each is SECONDS, with some of rate=N, changes=SHARE, limit=N and strikes=off, such as 5:rate=100:changes=0.5"
 RESERVED = {"changes": 1.0, "reads": 0.0}  # the share of operations that change something
 
 
@@ -55,7 +55,7 @@ class Course:
         return Now(rate * drawn.speed, changes, stage is None or self._takes(stage))
 
     def calm_from(self, seconds: float) -> float:
-        """When nothing strikes next: now, or later; never is infinite."""
+        """When the next calm begins: now or later. Infinity means never."""
         return min((max(seconds, stage.begin) for stage in self._stages if not stage.strikes and seconds < stage.end), default=float("inf"))
 
     def _stage(self, seconds: float) -> Optional[Stage]:
@@ -100,7 +100,7 @@ def with_(stage: Stage, item: str, name: str, value: str) -> Stage:
 
 
 def reserved_of(text: str, clients: int) -> Tuple[float, ...]:
-    """The share of changes of each client that is reserved, in turn."""
+    """The share of changes of each reserved client, one after another."""
     found: List[float] = []
     for item in text.split(","):
         name, _, number = item.partition("=")

@@ -1,5 +1,5 @@
-"""A crash of a server: it has ended without being told to, or its log has a line that its class names as one. That is a finding about the
-server, unless the machine caused it."""
+"""A crash of a server: the server has ended by itself, or its log has a line that its class names as a crash. This is a finding about the
+server, unless the machine caused the crash."""
 from __future__ import annotations
 
 import pathlib
@@ -29,7 +29,7 @@ KILLED = "by signal 9"  # which no process sends to itself
 
 
 class LogWatch:
-    """Looks for lines that match in the new part of the nodes' logs."""
+    """Looks for matching lines in the new parts of the nodes' logs."""
 
     def __init__(self, nodes: Sequence[Node], patterns: Sequence[str]) -> None:
         self._nodes = list(nodes)
@@ -60,7 +60,8 @@ class LogWatch:
 
 
 def finding(died: Died) -> Optional[str]:
-    """The verdict on a crash; None if it says nothing of the server: the machine lacked something, or somebody else has killed it."""
+    """The verdict on a crash. None if the crash says nothing about the server: the machine lacked something, or somebody else has killed
+    the server."""
     if died.how.startswith(SAYS):
         return f"crashed {died.node}: it {died.how}"
     lines = last_lines(died.log)
@@ -71,7 +72,7 @@ def finding(died: Died) -> Optional[str]:
 
 
 def leave(folder: pathlib.Path, died: Died) -> None:
-    """Leaves the account of a crash in the run's folder. The verdict stands if that can't be."""
+    """Leaves the account of a crash in the run's folder. If this fails, the verdict stays."""
     try:
         faults = {(fault.text, fault.begin_time): fault for part in parts_of(folder)[-PARTS:] for fault in aftermath.read(part / HISTORY, -1)[1]}
         write_whole(folder / CRASH, "".join(line + "\n" for line in account(died, list(faults.values()))))
@@ -80,7 +81,7 @@ def leave(folder: pathlib.Path, died: Died) -> None:
 
 
 def account(died: Died, faults: Sequence[Fault]) -> List[str]:
-    """When it was found, after which faults, and its log about it. `faults` has the note of the crash too."""
+    """The account of a crash: when it was found, after which faults, and the log about it. `faults` also has the note of the crash."""
     notes = [fault for fault in faults if fault.text == folded(died.note)]
     others = [fault for fault in faults if fault not in notes]
     said = f"{died.node} {died.how}"
@@ -94,7 +95,7 @@ def account(died: Died, faults: Sequence[Fault]) -> List[str]:
 
 
 def log_about(died: Died) -> List[str]:
-    """The log around the line that says it, else the end of the log, and what it said of a crash before."""
+    """The log around the line that shows the crash. Without such a line, the end of the log and earlier lines about a crash."""
     lines = lines_of(died.log)
     place = next((place for place, line in enumerate(lines) if died.how == SAYS + line[:LONGEST]), None)
     shown, where = (lines[-SHOWN:], "ends") if place is None else (lines[max(0, place - BEFORE):][:SHOWN], "says around that line")
@@ -126,11 +127,11 @@ def lines_of(log: pathlib.Path) -> List[str]:
 
 
 def hard(log: pathlib.Path) -> str:
-    """The line that names a crash of the program itself, before its registers and its stack; empty if there is none."""
+    """The line that names a crash of the program itself, before its registers and its stack. Empty if there is no such line."""
     return next((line[:LONGEST] for line in lines_of(log)[-TRACE:] if HARD.search(line)), "")
 
 
 def telling(lines: Sequence[str]) -> str:
-    """The first of the last lines that tells of a fault, or else the last one."""
+    """The first of the last lines that reports a fault. Otherwise the last line."""
     found = next((line for line in lines if WORDS.search(line)), lines[-1] if lines else "")
     return found[:LONGEST]

@@ -1,5 +1,5 @@
-"""The effects of strikes on clients: one is paused wherever it is, also while it holds a lock, or crashes before it learns the result of
-its operation."""
+"""The effects of strikes on clients. A client is paused at any point, also while it holds a lock. Or it crashes before it learns the result
+of its operation."""
 from __future__ import annotations
 
 import threading
@@ -33,7 +33,7 @@ class Crew:
             self._crashed.add(number)
 
     def step(self, number: int, is_asking: bool) -> None:
-        """The client waits while it is paused. Raises if it has crashed, unless it is still to ask: then nothing is known to it yet."""
+        """Makes the client wait while it is paused. Raises if the client has crashed, unless it has not sent its request yet."""
         with self._changed:
             while self._paused[number] > 0:
                 self._changed.wait()

@@ -2,8 +2,9 @@
 
     python -m jepmon.testing.disk BACKING POINT      serves POINT from the folder BACKING, until standard input ends
 
-It needs nothing but /dev/fuse, and root. Names (create, rename, unlink) are durable at once; contents and lengths are once they are
-synced: by fsync, fdatasync, or a file that is open by O_SYNC or O_DSYNC. It reads commands, a line each, and answers each by a line:
+It needs only /dev/fuse, and root. Names (create, rename, unlink) are durable at once. Contents and lengths are durable when they are
+synced: by fsync or fdatasync, or at once if the file was opened with O_SYNC or O_DSYNC. It reads commands, one in each line, and answers
+each with a line:
 
     sync         all is durable now                             ok
     lose         what is not durable is gone                    lost FILES BYTES
@@ -38,13 +39,13 @@ PUNCHES = 0x02 | 0x10 | 0x08 | 0x20  # modes of fallocate that change what is th
 
 
 class Inode:
-    """A file or a folder of the backing one. `path` is open by O_PATH, so that it can be renamed or unlinked."""
+    """A file or a folder in the backing folder. `path` is open with O_PATH, so that it can be renamed or unlinked."""
 
     def __init__(self, number: int, path: int) -> None:
         self.number, self.path = number, path
         self.known = 0  # how often the kernel has it
         self.opened = 0
-        self.file = -1  # open to be read and written, where it is open or has something unsynced
+        self.file = -1  # open for reading and writing, if it is in use or has unsynced data
         self.unsynced: Optional[Unsynced] = None
         found = os.fstat(path)
         self.key = found.st_dev, found.st_ino
@@ -104,7 +105,7 @@ class Disk:
     # --- Inodes ---
 
     def _found(self, path: int) -> Inode:
-        """The one that is open here by O_PATH: known, or new."""
+        """The inode that is open here with O_PATH: a known one, or a new one."""
         found = os.fstat(path)
         number = self._numbers.get((found.st_dev, found.st_ino))
         if number is not None:
@@ -133,7 +134,7 @@ class Disk:
                 self._leave(inode)
 
     def _leave(self, inode: Inode) -> None:
-        """Closes the files that nobody needs any more. Unsynced blocks can still be lost, unless the file has no name."""
+        """Closes the files that nobody needs any more. Their unsynced blocks can still be lost, unless the file has no name."""
         if inode.opened or inode.unsynced is not None and os.fstat(inode.path).st_nlink:
             return
         if inode.file >= 0:
@@ -325,7 +326,7 @@ def attributes(found: os.stat_result) -> bytes:
 
 
 def serve(backing: str, point: str) -> None:
-    """Until standard input ends: then the test has gone, and so does the mount."""
+    """Serves until standard input ends. Then the test has ended, and the mount is removed."""
     os.umask(0)
     most = resource.getrlimit(resource.RLIMIT_NOFILE)[1]
     resource.setrlimit(resource.RLIMIT_NOFILE, (most, most))

@@ -1,4 +1,4 @@
-"""The test's side of disks that can lose power: each node's folder is a mount, which a process of its own serves (disk.py)."""
+"""The test's side of disks that can lose power: the folder of each node is a mount, which a separate process serves (disk.py)."""
 from __future__ import annotations
 
 import pathlib
@@ -12,7 +12,7 @@ from .guard import environment, module
 
 
 class Disk:
-    """Of one node. It is there until it is ended, and goes with the test in any case: by the end of its standard input, or by the guard."""
+    """The disk of one node. It exists until `end`. If the test dies, the end of its standard input or the guard removes it."""
 
     def __init__(self, point: pathlib.Path, backing: pathlib.Path) -> None:
         self._point, self._lock = str(point), threading.Lock()

@@ -7,7 +7,8 @@ from typing import Optional
 
 
 class ServerError(Exception):
-    """A server is missing, does not start, has died by itself, or does not answer; or the command line asks for what is not there."""
+    """A server is missing, does not start, has died by itself, or does not answer. Or the command line asks for something that does not
+    exist."""
 
 
 class Died(ServerError):
@@ -24,11 +25,11 @@ class Died(ServerError):
 
 
 class Crashed(Exception):
-    """A strike's: the client is gone. Its operation may have taken place, and another one comes in its place."""
+    """A strike has crashed the client. Its operation may have taken place, and another client replaces it."""
 
 
 def where(fault: BaseException, path: Optional[pathlib.Path] = None) -> str:
-    """The message of an exception, and its line of the user's file, or else of this package."""
+    """The message of an exception, with its line in the user's file, or else in this package."""
     frames = traceback.extract_tb(fault.__traceback__)
     own = [frame for frame in frames if path is not None and pathlib.Path(frame.filename).resolve() == path.resolve()]
     line = "".join(f" ({pathlib.Path(frame.filename).name}, line {frame.lineno})" for frame in (own or list(frames))[-1:])

@@ -1,5 +1,5 @@
-"""A test's own facts in the folder of its run: the command line, the options, the server and its version. And the pages, which are made
-when it ends, however it ends."""
+"""A test's own facts in the folder of its run: the command line, the options, the server and its version. Also the pages, which are made at
+the end of each test, however it ends."""
 from __future__ import annotations
 
 import json
@@ -24,7 +24,7 @@ LEFT_OUT = ("server", "out", "plant", "keep", "patience", "stages", "reserved", 
 
 
 def facts_of(given: Given, network: str, kinds: Sequence[str]) -> Dict[str, str]:
-    """The facts before the test begins; `network` is how links are struck, and `kinds` are the faults that may strike."""
+    """The facts before the test begins. `network` is the way to strike links, and `kinds` are the possible faults."""
     words = {NAMES.get(name, name): str(value) for name, value in given._asdict().items() if name not in LEFT_OUT and value not in ("", None)}
     words.update(network=network, nodes=", ".join(f"n{number + 1}" for number in range(given.nodes)), faults=", ".join(kinds) or "none")
     planted = {"planted": f"{given.plant}: {given.server.plants[given.plant].text}"} if given.plant else {}
@@ -33,7 +33,7 @@ def facts_of(given: Given, network: str, kinds: Sequence[str]) -> Dict[str, str]
 
 
 def version_of(words: Sequence[str]) -> str:
-    """The first line that these words print; nothing if they can't be run."""
+    """The first line that this command prints. Empty if it can't be run."""
     if not words:
         return ""
     try:
@@ -52,6 +52,6 @@ def leave_facts(folder: pathlib.Path, facts: Dict[str, str]) -> None:
 
 
 def leave_pages(folder: pathlib.Path) -> None:
-    """The page of the run, and that of all runs beside it."""
+    """Writes the page of the run, and the page of all runs in the folder above."""
     page.leave(folder)
     index.leave(folder.parent)

@@ -1,4 +1,5 @@
-"""Values of operations that were recorded as failed, and that a client read all the same: dirty reads, or errors that are not certain."""
+"""Values of operations that were recorded as failed, but that a client has read: dirty reads, or errors after which an operation may take
+place."""
 from __future__ import annotations
 
 from typing import Any, NamedTuple, Optional, Sequence
@@ -18,7 +19,7 @@ class Failure(NamedTuple):
 
 
 def failure_of(fatal: Event, events: Sequence[Event], faults: Sequence[Fault]) -> Optional[Failure]:
-    """The failed operation that the event of an illegal key is about: its own, or the one that brought the value that it read."""
+    """The failed operation of an illegal event: the event's own operation, or the operation that brought the value which the event read."""
     value = brought_by(fatal) if fatal.kind == "fail" else fatal.value if fatal.name == "read" else None
     failed = next((event for event in events if event.kind == "fail" and event.index <= fatal.index and value is not None
                    and brought_by(event) == value), None)
@@ -29,7 +30,8 @@ def failure_of(fatal: Event, events: Sequence[Event], faults: Sequence[Fault]) -
 
 
 def verdict_on_failure(failure: Failure, held: Any) -> str:
-    """Says whether the operation took place, by the value that the nodes hold once all is mended: `held`, None if there is none, or a set."""
+    """The sentence that says whether the operation took place, by the value `held` of the nodes after all repairs (None if there is none,
+    or a set)."""
     is_set = isinstance(held, frozenset)
     if failure.value in held if is_set else held == failure.value:
         return (f"The {failure.what} was recorded as failed, and its value stays. So it took place: its error does not belong in `certain`, or "

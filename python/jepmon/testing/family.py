@@ -1,7 +1,8 @@
 """A process and all that it has started: servers like PostgreSQL and RabbitMQ are many processes, each in a session of its own.
 
-A process that forks twice leaves its child without a parent. On Linux such an orphan is given to the nearest process above that adopts. So
-a server's first process adopts, and its orphans stay in its family. The test adopts those of a server that has ended by itself.
+A process that forks twice leaves its child without a parent. On Linux the nearest process above that adopts (a child subreaper) gets such
+an orphan. So a server's first process adopts, and its orphans stay in its family. The test adopts the orphans of a server that has ended by
+itself.
 """
 from __future__ import annotations
 
@@ -19,13 +20,13 @@ PROCESS = getattr(ctypes.CDLL(None), "prctl", None)  # of Linux; looked up here,
 
 
 def adopt() -> None:
-    """This process adopts orphans below it from now on, also after an exec."""
+    """Makes this process adopt orphans below it from now on, also after an exec."""
     if PROCESS is not None:
         PROCESS(ADOPTS, 1, 0, 0, 0)
 
 
 def strays(mark: str) -> List[int]:
-    """Those that this process has adopted, with this mark in their environment."""
+    """The processes that this process has adopted, with this mark in their environment."""
     return [pid for pid in family(os.getpid())[1:] if parent_of(pid) == os.getpid() and f"{MARK}={mark}" in environment_of(pid)]
 
 
@@ -42,7 +43,7 @@ def kill_strays(mark: str) -> None:
 
 
 def bury(killed: List[int]) -> None:
-    """Waits for those of them that this process has adopted, which stay in the table of processes until then."""
+    """Waits for those of these processes that this process has adopted. Until then they stay in the table of processes."""
     for pid in killed:
         with contextlib.suppress(ChildProcessError):
             os.waitpid(pid, 0)
@@ -70,7 +71,7 @@ def parent_of(pid: int) -> int:
 
 
 def stop_family(pid: int) -> List[int]:
-    """Stops each of them (SIGSTOP) before any of them can start one more."""
+    """Stops each process of the family (SIGSTOP) before any of them can start another one."""
     members: List[int] = []
     for _ in range(ROUNDS):
         found = family(pid)
@@ -82,12 +83,12 @@ def stop_family(pid: int) -> List[int]:
 
 
 def continue_family(pid: int) -> None:
-    """Lets each of them go on, children first: a parent that found them stopped may do something about it."""
+    """Continues each process of the family, children first, since a parent might react to stopped children."""
     _send(list(reversed(family(pid))), signal.SIGCONT)
 
 
 def kill_family(pid: int) -> List[int]:
-    """Kills all of them (SIGKILL) at about one moment, and gives them: the process, and its descendants."""
+    """Kills all processes of the family (SIGKILL) at about the same moment. Returns the process and its descendants."""
     members = stop_family(pid)
     _send(members, signal.SIGKILL)
     return members

@@ -1,4 +1,4 @@
-"""The times of clients' operations: operations a second, and phases that are busy or calm."""
+"""The times of clients' operations: operations per second, and busy or calm phases."""
 from __future__ import annotations
 
 import random
@@ -34,7 +34,7 @@ class Phases:
 
 
 class Pace:
-    """Lets one client do this number of operations a second; 0 is as many as it can."""
+    """Makes one client do this number of operations per second. 0 means as many as it can."""
 
     def __init__(self, draws: random.Random) -> None:
         self._draws = draws

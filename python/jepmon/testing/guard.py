@@ -1,6 +1,8 @@
-"""Leaves no server behind, however the test ends: a process of its own, which kills what is still there when the test has gone.
+"""Leaves no server behind, however the test ends. The guard is a separate process, which kills the remaining servers when the test has
+ended.
 
-It reads lines, `+ PID`, `- PID` and `folder PATH`, and acts when its standard input ends: also if the test was killed by SIGKILL.
+It reads lines, `+ PID`, `- PID` and `folder PATH`, and acts when its standard input ends, which also happens if SIGKILL has killed the
+test.
 """
 from __future__ import annotations
 
@@ -32,7 +34,7 @@ class Guard:
         self._tell(f"- {pid}")
 
     def end(self) -> None:
-        """Whatever is still watched is killed, and the folder removed, before this returns."""
+        """Ends the guard. Before this returns, the guard has killed all watched processes and removed the folder."""
         assert self._process.stdin is not None
         self._process.stdin.close()
         self._process.wait()
@@ -72,8 +74,8 @@ def main() -> None:
 
 
 def remove(folder: str) -> None:
-    """Removes a folder, and the mounts in it too, since the process that serves a mount may have been
-    killed. A process that is about to end may still write there: then it tries again."""
+    """Removes a folder, also the mounts in it, since the process that serves a mount may have been killed. Tries again if a process that is
+    about to end still writes there."""
     end = time.monotonic() + PATIENCE
     while os.path.lexists(folder):
         unmount_below(folder)

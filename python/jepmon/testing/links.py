@@ -1,5 +1,5 @@
-"""The test's side of the links: the effect of each way on its packets. A process carries it: proxy.py on the loopback, or switch.py between
-network namespaces."""
+"""The test's side of the links: the effects on the packets of each way. A process carries the packets: proxy.py on the loopback, or
+switch.py between network namespaces."""
 from __future__ import annotations
 
 import contextlib
@@ -25,8 +25,8 @@ NET, CLIENTS_HOST = "10.0.0.", 200
 
 
 def network(asked: str, needs_links: bool, needs_addresses: bool = False) -> str:
-    """How others reach the nodes: DIRECT if nothing strikes their links, else by namespaces if this machine allows them. Nodes that need
-    addresses of their own take namespaces in any case."""
+    """The way to reach the nodes: DIRECT if nothing strikes their links, otherwise namespaces if this machine allows them. Nodes that need
+    addresses of their own always take namespaces."""
     if needs_addresses and asked == PROXY:
         raise ServerError(f"--network {PROXY}: the nodes of this server find one another by their addresses: several take {NAMESPACES}")
     if asked == AUTO and not needs_addresses:
@@ -38,7 +38,7 @@ def network(asked: str, needs_links: bool, needs_addresses: bool = False) -> str
     return PROXY if asked == PROXY else NAMESPACES
 
 
-Pair = Tuple[str, str]  # a way: who sends, and who gets it
+Pair = Tuple[str, str]  # a way: the sender and the receiver
 
 
 class Effect(NamedTuple):
@@ -65,7 +65,8 @@ def both_ways(ones: Iterable[str], others: Sequence[str]) -> List[Pair]:
 
 
 class Links:
-    """Lets others reach each node by the links. Some effects hold at a time; a way has all that hold for it."""
+    """The links through which others reach each node. Several effects may be active at once, and a way has all effects that are active for
+    it."""
 
     def __init__(self, name: str, ends: Sequence[object], files: Sequence[int] = ()) -> None:
         self._lock = threading.Lock()
@@ -85,7 +86,7 @@ class Links:
         return contextlib.nullcontext()
 
     def hold(self, pairs: List[Pair], effect: Effect) -> int:
-        """The effect holds for these ways until its number is released."""
+        """Applies the effect to these ways, until its number is released."""
         with self._lock:
             self._count += 1
             self._held[self._count] = pairs, effect
@@ -142,13 +143,13 @@ class Proxied(Links):
         super().__init__("proxy", ends)
 
     def up(self, node: Node) -> None:
-        """The connections of its process are the node's, and others are let through once it listens."""
+        """Registers the node's process: its connections are those of the node, and others get through when it listens."""
         if node.pid is not None:
             self.tell(f"node {node.name} {node.pid}")
         self.tell(f"up {node.name}")
 
     def down(self, node: Node) -> None:
-        """A connection is refused, which is more than a timeout says."""
+        """Makes connections to the node be refused, which says more than a timeout."""
         self.tell(f"down {node.name}")
 
 

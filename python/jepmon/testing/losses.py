@@ -1,4 +1,4 @@
-"""Acknowledged changes that are gone: messages of queues, members of sets and writes of registers, each with the time of its
+"""Acknowledged changes that are lost: messages of queues, members of sets and writes of registers. Each has the time of its
 acknowledgement, and the fault that followed."""
 from __future__ import annotations
 
@@ -20,7 +20,7 @@ class One(NamedTuple):
 
     value: int
     moment: int  # of the acknowledgement, in nanoseconds from the begin of the run
-    fault: str  # how long before which fault that was, or after which one, where none followed
+    fault: str  # how long before which fault this was, or, if no fault followed, how long after which one
     begun: int = 0  # the event with which its operation began
 
 
@@ -52,7 +52,8 @@ class Acknowledged(NamedTuple):
 
 
 def known_from(events: Sequence[Event], index: int, value: object) -> int:
-    """The first event before `index` that shows the value in a register: the end of an operation that brings it, or of a read. Else -1."""
+    """The first event before `index` that shows the value in a register: the end of an operation that brings it, or of a read. Otherwise
+    -1."""
     return next((event.index for event in events if event.kind == "ok" and event.index < index and value in (brought_by(event), event.value)),
                 -1)
 
@@ -65,7 +66,7 @@ def brought_by(event: Event) -> Optional[int]:
 
 
 def beside(faults: Sequence[Fault], moment: int) -> str:
-    """The fault that ended a process at the moment; else the one that followed, or else the one that came last before it."""
+    """The fault that was ending a process at this moment. Otherwise the fault that followed, or else the last fault before it."""
     if any(map(ends_a_process, holding(faults, moment))):
         return since(faults, moment)
     return until(faults, moment) or since(faults, moment)
@@ -77,7 +78,7 @@ def told(one: One) -> str:
 
 
 def many(lost: Sequence[One], of: int = 12) -> str:
-    """These in one phrase, at most `of` of them, with the faults of the first and the last one."""
+    """These changes in one phrase, at most `of` of them, with the faults of the first and the last one."""
     shown = ", ".join(f"{one.value} (at {seconds(one.moment)})" for one in lost[:of]) + (f" and {len(lost) - of} more" if len(lost) > of else "")
     first, last = lost[0], lost[-1]
     faults = f"; the first one {first.fault}" if first.fault and len(lost) > 1 else f", {first.fault}" if first.fault else ""
@@ -93,7 +94,7 @@ def line(name: str, one: One) -> str:
 
 
 def leave(folder: pathlib.Path, lost: int, missing: Sequence[Missing]) -> None:
-    """Lists the lost messages in the run's folder, those first that were acknowledged first. An OSError is the caller's."""
+    """Lists the lost messages in the run's folder, in the order of their acknowledgements. May raise an OSError."""
     write_whole(folder / LOST, "".join(line + "\n" for line in lines(folder, lost, missing)))
 
 
@@ -108,7 +109,8 @@ def lines(folder: pathlib.Path, lost: int, missing: Sequence[Missing]) -> Iterat
 
 
 def acknowledgements(folder: pathlib.Path, missing: Sequence[Missing]) -> "Iterator[tuple[str, One]]":
-    """When each of these messages was acknowledged, by the histories of the parts. Nothing is known of a part that was removed."""
+    """The time at which each of these messages was acknowledged, by the histories of the parts. The times of a removed part are not
+    known."""
     for queue in missing:
         path = folder / queue.part / HISTORY
         if not path.exists():

@@ -1,4 +1,4 @@
-"""Which messages of queues were taken and have not come: no event shows a loss, so this module counts them."""
+"""The messages of queues that the server accepted and that have not come. No event shows a loss, so this module counts them."""
 from __future__ import annotations
 
 import threading
@@ -13,8 +13,8 @@ class Account:
 
     def __init__(self) -> None:
         self.missing: Set[int] = set()  # taken, and not come
-        self.early: Set[int] = set()  # come, before the server had said that they were taken
-        self.may_have_come = 0  # of what is missing, since dequeues timed out
+        self.early: Set[int] = set()  # come before the server had acknowledged them
+        self.may_have_come = 0  # of the missing messages, since dequeues timed out
 
     @property
     def lost(self) -> int:
@@ -32,7 +32,7 @@ class Missing(NamedTuple):
 
 
 class Messages:
-    """A queue whose messages have all come is forgotten once it is judged no more."""
+    """The messages of all queues. A queue whose messages have all come is forgotten when it is no longer judged."""
 
     def __init__(self) -> None:
         self._lock = threading.Lock()

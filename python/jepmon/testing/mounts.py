@@ -1,4 +1,5 @@
-"""Mounting by FUSE: a file system whose requests are read from, and answered to, a file of /dev/fuse. It takes root, on Linux."""
+"""Mounting by FUSE: a process reads the requests of a file system from a file of /dev/fuse, and writes the answers there. It needs root, on
+Linux."""
 from __future__ import annotations
 
 import ctypes
@@ -14,7 +15,8 @@ MOUNTS = "/proc/self/mounts"
 
 
 def mounted(point: str, name: str) -> int:
-    """Mounts at this folder. Gives the file of its requests; an OSError says that this machine, or this user, may not."""
+    """Mounts a file system at this folder. Returns the file of its requests. An OSError says that this machine or this user may not
+    mount."""
     requests = os.open(DEVICE, os.O_RDWR)
     try:
         options = f"fd={requests},rootmode=40000,user_id=0,group_id=0,allow_other,default_permissions"
@@ -30,7 +32,7 @@ def unmount(point: str) -> None:
 
 
 def unmount_below(folder: str) -> None:
-    """Whatever is mounted in the folder; nothing if there is nothing."""
+    """Unmounts all file systems in the folder, if there are any."""
     for point in reversed(points_below(folder)):
         try:
             unmount(point)
@@ -48,7 +50,7 @@ def points_below(folder: str) -> List[str]:
 
 
 def flush(point: str) -> None:
-    """Gives the file system what the kernel has not yet given it, as pages that a process changed in its memory."""
+    """Makes the kernel write to the file system what it still holds, such as pages that a process changed in its memory."""
     folder = os.open(point, os.O_RDONLY)
     try:
         _called("syncfs", folder)

@@ -16,7 +16,7 @@ if TYPE_CHECKING:
 
 
 def planned(given: Given) -> Plan:
-    """What --nemesis asks for. A ServerError says what can't be, and which strikes are left."""
+    """The strikes for --nemesis. A ServerError says which strikes are impossible, and which are left."""
     server = given.server
     strikes = strikes_of(server)
     here: Dict[str, Callable[[], Optional[str]]] = {NEEDS_PACKETS: lambda: packets(given.network), NEEDS_DISK: disks.why_not,

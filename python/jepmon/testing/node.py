@@ -26,12 +26,13 @@ LAST_LINES = 3  # of a log, in an error
 TELLING = ("no space left on device", "disk quota exceeded", "read-only file system", "unable to write", "address already in use",
            "permission denied", "cannot allocate memory", "out of memory", "too many open files")  # in a log, of what can't be done
 AGAIN = "--- started again\n"  # in a log
-ELSEWHERE = 2.0  # seconds, after which a server that listens at another address will not come to listen at its own
+ELSEWHERE = 2.0  # seconds after which a server that listens at another address will no longer listen at its own
 
 
 class Node:
-    """`address` is its address, and `ports` are where the server listens there, by the names that its Server class gives. `reach` is where
-    others reach it: through the link that may be cut, if there is one. `folder` is for its data, and stays when it is killed."""
+    """`address` is the node's address. `ports` are the ports at which the server listens there, by the names in its Server class. `reach`
+    has the ports at which others reach the node, through the link that can be cut, if there is one. `folder` is for its data, and stays
+    when the node is killed."""
 
     def __init__(self, number: int, folder: pathlib.Path, log: pathlib.Path, ports: Dict[str, int], guard: Guard) -> None:
         self.number, self.name, self.folder, self.log, self.ports = number, f"n{number + 1}", folder, log, ports
@@ -60,11 +61,12 @@ class Node:
 
     @property
     def listens_at(self) -> At:
-        """The address at which it listens to clients. Only a process in its namespace reaches it whatever is done to the links."""
+        """The address at which the node listens to clients. Only a process in its namespace reaches this address in spite of all faults on
+        links."""
         return self.address, self.ports["client"]
 
     def inside(self) -> "contextlib.AbstractContextManager[None]":
-        """This thread is where the node is: it reaches it whatever is done to the links."""
+        """Moves this thread into the node's namespace, where it reaches the node in spite of all faults on links."""
         return contextlib.nullcontext() if self.place is None else self.place.inside()
 
     @property
@@ -88,7 +90,7 @@ class Node:
             self.starts += 1
 
     def kill(self) -> None:
-        """Kills all its processes at once by SIGKILL, so that none can write any more."""
+        """Kills all processes of the node at once by SIGKILL, so that none can write any more."""
         with self._lock:
             if self._process is not None:
                 had_ended = self._process.poll() is not None
@@ -101,7 +103,7 @@ class Node:
                 self._process = None
 
     def completed(self, words: Sequence[str]) -> None:
-        """Runs a program to its end, as one that lays out the folder, by the node's user. Its output goes to the log."""
+        """Runs a program to its end as the node's user, such as a program that prepares the folder. Its output is written to the log."""
         completed(words, self.log, self.user, guard=self._guard)
 
     def pause(self) -> None:
@@ -124,7 +126,7 @@ class Node:
     # --- Waiting ---
 
     def wait_until(self, ready: Callable[[], object], seconds: float, what: str, stopped: Optional[threading.Event] = None) -> None:
-        """Tries until it does not raise. Raises if the time is up, or the node has died."""
+        """Calls the function until it does not raise. Raises if the time is up, or if the node has died."""
         begun = time.monotonic()
         while True:
             self.test_alive()
@@ -141,8 +143,8 @@ class Node:
             time.sleep(GLANCE)
 
     def _test_address(self) -> None:
-        """Raises if it listens to clients at the loopback of its network namespace alone, where none reaches it. At other ports it may
-        speak to itself."""
+        """Raises if the node listens to clients only at the loopback of its network namespace, where no client reaches it. At other ports
+        it may speak to itself."""
         if "client" in self.ports and listens((ADDRESS, self.ports["client"])) and not listens(self.listens_at):
             raise ServerError(f"{self.name} listens at {ADDRESS}, port {self.ports['client']}, where nobody else reaches it in its network "
                               f"namespace: let it listen at node.address, which is {self.address}, or take --network proxy")
@@ -172,8 +174,8 @@ def as_user(user: Optional[str], words: Sequence[str]) -> List[str]:
 
 
 def last_words(lines: Sequence[str]) -> str:
-    """The last line of a log in which a system says why something can't be done, which servers say long before they end; or else how it
-    ends."""
+    """The last line of a log in which the system says why something can't be done. A server may print such a line long before it ends.
+    Without such a line, the end of the log."""
     said = [line.strip()[:160] for line in lines if line.strip()]
     telling = [line for line in said if any(words in line.lower() for words in TELLING)]
     if telling and telling[-1] not in said[-LAST_LINES:]:
@@ -198,8 +200,8 @@ def one_line(fault: BaseException) -> str:
 
 
 class Ports:
-    """Free ports below those that the system gives to outgoing connections. One of these could take the port of a server that is down, also
-    the connection by which a client tries to reach it."""
+    """Free ports below the ports of outgoing connections. An outgoing connection could otherwise get the port of a server that is down,
+    even the connection with which a client tries to reach this server."""
 
     def __init__(self, draws: random.Random) -> None:
         self._draws = draws
@@ -234,15 +236,15 @@ def is_free(port: int) -> bool:
 
 
 def begun(words: Sequence[str], log: IO[bytes], folder: Union[str, pathlib.Path], environment: Dict[str, str]) -> "subprocess.Popen[bytes]":
-    """A process of a server, in a session of its own, which adopts the orphans below it."""
+    """Starts a process of a server, in a session of its own. The process adopts the orphans below it."""
     return subprocess.Popen(words, stdin=subprocess.DEVNULL, stdout=log, stderr=subprocess.STDOUT, start_new_session=True, cwd=folder,
                             env=environment, preexec_fn=adopt)
 
 
 def completed(words: Sequence[str], log: pathlib.Path, user: Optional[str] = None, environment: Optional[Dict[str, str]] = None,
               guard: Optional[Guard] = None) -> None:
-    """Runs a program to its end, as one that lays out a server's folder. Its output goes to the log. If the test ends before, so does the
-    program, with all that it has started."""
+    """Runs a program to its end, such as a program that prepares a server's folder. Its output is written to the log. If the test ends
+    earlier, so does the program, with all its processes."""
     process: Optional["subprocess.Popen[bytes]"] = None
     try:
         with open(log, "ab") as file, undisturbed():

@@ -1,7 +1,6 @@
-"""Network namespaces: the clients, and each node, in a place of their own, with an address of its own.
+"""Network namespaces: one for the clients and one for each node, each with its own address.
 
-A namespace here has no name: it goes with the last process and the last open file that are in it. So nothing is left of a test that was
-killed, and there is nothing to tidy up.
+A namespace here has no name. It disappears with the last process and the last open file in it. So a killed test leaves nothing behind.
 """
 from __future__ import annotations
 
@@ -23,8 +22,8 @@ IS_UP = 0x41  # IFF_UP and IFF_RUNNING
 
 
 class Place:
-    """A network namespace. Its packets to others, and theirs, are read from and written to the file `packets`. An OSError says that this
-    machine, or this user, may make none."""
+    """A network namespace. Its packets to others are read from the file `packets`, and the packets of others are written to it. An OSError
+    says that this machine or this user may not make one."""
 
     def __init__(self, address: str) -> None:
         self.address = address
@@ -41,7 +40,7 @@ class Place:
 
     @contextlib.contextmanager
     def inside(self) -> Iterator[None]:
-        """This thread is in it, with the processes that it starts meanwhile."""
+        """Moves this thread into the namespace for the block, with the processes that it starts meanwhile."""
         with _back():
             _called("setns", self._namespace, NEW_NETWORK)
             yield
@@ -55,7 +54,7 @@ class Place:
 
 
 def why_not() -> Optional[str]:
-    """Why no namespaces can be had here; None if they can."""
+    """Why this machine allows no namespaces. None if it allows them."""
     try:
         place = Place("10.0.0.1")
     except (OSError, AttributeError) as fault:

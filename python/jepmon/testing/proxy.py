@@ -1,7 +1,7 @@
-"""The links of a test: a process between the nodes, and between clients and nodes, which can hold or slow what goes one way.
+"""The links of a test: a process between the nodes, and between clients and nodes, which can hold or delay the bytes of one direction.
 
-It needs no rights, so that it works on any machine. Held bytes are not lost: they go on once the link is open again, as if TCP sent them
-again. So a request that timed out may take place later.
+It needs no rights, so it works on any machine. Held bytes are not lost: the proxy passes them on when the link is open again, as if TCP
+sent them again. So a request that timed out may take place later.
 
 Its one word is a JSON list of [port, port of the server, name of the node]. It reads commands, a line each, and answers `ok`:
 
@@ -49,15 +49,15 @@ class Way:
 
 
 class Connection:
-    """A connection to a node. The proxy looks up who made it only if something is struck. That costs more than all else, and a busy machine
-    would never come to the end of those that wait."""
+    """A connection to a node. The proxy looks up its source only if a link is struck. The lookup costs more than all other steps, and a
+    busy machine would never catch up with the waiting connections."""
 
     def __init__(self, proxy: Proxy, port: int, link: Link) -> None:
         self._proxy, self._port, self._link = proxy, port, link
         self._source = ""
 
     async def carry(self, source: asyncio.StreamReader, target: asyncio.StreamWriter, is_answer: bool) -> None:
-        """Runs until the source ends, and then ends the target's side too. An OSError if one of both has gone."""
+        """Runs until the source ends, and then also ends the target's side. Raises an OSError if one of the two is gone."""
         while True:
             data = await source.read(CHUNK)
             await self._pass(is_answer)
@@ -68,7 +68,7 @@ class Connection:
             await target.drain()
 
     async def _pass(self, is_answer: bool) -> None:
-        """Waits as long as this way is cut, and also if it is slow."""
+        """Waits as long as this way is cut, and for the delay of a slow way."""
         while self._proxy.is_struck:
             self._source = self._source or source_of(self._port, self._link[0], self._proxy.pids)
             ends = self._source, self._link[2]
@@ -204,7 +204,7 @@ async def serve(links: List[Link]) -> None:
     while True:
         line = (await lines.readline()).decode()
         if not line:
-            os._exit(0)  # the test has gone: whatever is still carried goes with it
+            os._exit(0)  # the test has ended: so does everything that is still carried
         try:
             await proxy.obey(line.split())
             reply = "ok"

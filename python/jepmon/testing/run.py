@@ -1,4 +1,4 @@
-"""One test: servers start, clients work, faults strike, all is mended, the nodes are asked again, and a verdict falls."""
+"""One test: it starts servers, runs clients, injects faults, ends all faults, reads the nodes again, and gives the verdict."""
 from __future__ import annotations
 
 import contextlib
@@ -72,7 +72,7 @@ class Outcome(NamedTuple):
     status: int
     counts: Dict[str, Counter[str]]
     events: int
-    at_work: Dict[str, Counter[str]]  # the counts while clients were at work, without what was asked at the end
+    at_work: Dict[str, Counter[str]]  # the counts while clients were at work, without the operations at the end
     seconds: float  # in which they were
     parts: int
     not_judged: List[str]  # a line each
@@ -104,8 +104,8 @@ class Test:
         self.broken_off: Optional[Outcome] = None  # what there was, where Ctrl-C or a signal ended the test
 
     def run(self) -> Outcome:
-        """Ctrl-C goes through, once all is ended. Raises a Refused of jepmon, such as that of a missing program, and an OSError if
-        nothing can be written."""
+        """Runs the test. Raises Ctrl-C again after everything has ended. Raises a Refused of jepmon, for example if the program is missing,
+        and an OSError if no files can be written."""
         from ..long import LongMonitor
 
         given = self.given
@@ -200,7 +200,7 @@ class Test:
         return Mortal(client, cluster.crew, number) if self.plan.needs(NEEDS_CREW) else client
 
     def _finish(self, monitor: LongMonitor, work: Work, cluster: Cluster) -> None:
-        """All is mended by now. Each node must answer what is left to ask."""
+        """Does the remaining operations after all faults have ended. Each node must answer them."""
         monitor.note(OVER)
         with contextlib.ExitStack() as over:
             with noted(monitor):
@@ -256,7 +256,7 @@ class Test:
 
 
 def leave(folder: pathlib.Path, verdict: str, reason: str) -> None:
-    """The folder must not say legal if the test does not."""
+    """Corrects the folder, which must not say `legal` if the test does not."""
     if reason or verdict.split(" ")[0] in COUNTED:
         try:
             said = f"no verdict: {reason}" if not verdict else f"{verdict}; {reason}" if reason else verdict
@@ -267,7 +267,7 @@ def leave(folder: pathlib.Path, verdict: str, reason: str) -> None:
 
 @contextlib.contextmanager
 def noted(monitor: LongMonitor) -> Iterator[None]:
-    """If the block finds a node dead, the history notes when."""
+    """Runs the block. If it finds a dead node, notes the time in the history."""
     try:
         yield
     except Died as died:

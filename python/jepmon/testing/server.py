@@ -39,8 +39,8 @@ class Client:
 
 
 class Leases:
-    """The locks with a lease that a client could not release. It tries again before the next acquire. The :info of the release allows
-    this, since the release may take place at any later moment. So no lock is held for the rest of its lease."""
+    """The locks with a lease that a client could not release. The client tries again before its next acquire. This is allowed by the :info
+    of the release, since the release may take place at any later moment. So no lock stays held for the rest of its lease."""
 
     def __init__(self) -> None:
         self._owed: List[Tuple[int, str]] = []
@@ -103,8 +103,8 @@ class Server:
         return ()
 
     def command(self, node: Node) -> List[str]:
-        """The command that starts a node, with the whole path of its program. It runs in node.folder, which gets its data, and listens at
-        node.address, at node.ports."""
+        """The command that starts a node, with the whole path of its program. The program runs in node.folder, stores its data there, and
+        listens at node.address, at node.ports."""
         raise NotImplementedError
 
     def client(self, number: int) -> Client:
@@ -126,10 +126,10 @@ class Server:
         return None
 
     def reader(self, node: Node) -> Optional[Client]:
-        """A client that reads at this node alone, for the readings after a finding, if that is not what its clients do: for example at a replica.
-        None lets a client of the node read, if it has some."""
+        """A client that reads only at this node, for the reads after a finding. It is needed if the node's own clients do not read there,
+        for example at a replica. With None a client of the node reads, if the node has one."""
         return None
 
     def node_of(self, number: int) -> Node:
-        """The node of a client: each client has one of its own while there are enough."""
+        """The node of a client. As long as there are enough nodes, each client has its own."""
         return self.nodes[number % len(self.nodes)]

@@ -1,8 +1,8 @@
-"""The links between network namespaces (places.py): a process that takes each packet from the one and gives it to the other, and can lose
-or delay what goes one way.
+"""The links between network namespaces (places.py): a process that takes each packet from one namespace and passes it to another. It can
+lose or delay the packets of one direction.
 
-Packets on a cut link are lost, as on a wire: TCP sends them again, so that a request that timed out may take place later. The same holds
-for a packet that is lost by itself, or has a bit that was flipped: the kernel that gets it finds its checksum wrong.
+Packets on a cut link are lost, as on a wire. TCP sends them again, so a request that timed out may take place later. The same holds for a
+single lost packet, and for a packet with a flipped bit, since the receiving kernel finds a wrong checksum.
 
 Its one word is a JSON list of [name, address, file of packets]. It reads commands, a line each, and answers `ok`:
 
@@ -25,7 +25,7 @@ from .places import PACKET
 End = Tuple[str, str, int]  # the name of a place, its address, and the file of its packets
 LATER = 0.02  # seconds by which a packet comes after later ones
 BATCH = 64  # packets of one file before it is the turn of the others
-ENDS = slice(12, 20)  # of a packet: the two addresses, from and to
+ENDS = slice(12, 20)  # of a packet: the two addresses, sender and receiver
 
 
 class Way:
@@ -46,12 +46,12 @@ class Switch:
         self.ways: Dict[Tuple[str, str], Way] = {(one[0], other[0]): Way(other[2]) for one in ends for other in ends if one != other}
         addresses = {name: socket.inet_aton(address) for name, address, _ in ends}
         self._by_ends = {addresses[one] + addresses[other]: way for (one, other), way in self.ways.items()}
-        self._late: List[Tuple[float, int, Way, bytes]] = []  # when, and of which number, so that they keep their order
+        self._late: List[Tuple[float, int, Way, bytes]] = []  # the time and a number, so that packets keep their order
         self._count = 0
         self._draws = random.Random(1)
 
     def forward(self, source: int) -> None:
-        """Takes what has come from one place. Packets for nobody, as those of IPv6, are dropped."""
+        """Takes the packets from one place. Drops packets without a receiver, such as those of IPv6."""
         for _ in range(BATCH):
             try:
                 packet = os.read(source, PACKET)
@@ -80,7 +80,7 @@ class Switch:
             give(way, packet)
 
     def give_late(self) -> Optional[float]:
-        """Gives the packets whose time has come. Gives how long the next one has to wait."""
+        """Passes on the packets whose time has come. Returns how long the next packet has to wait."""
         while self._late:
             left = self._late[0][0] - time.monotonic()
             if left > 0:

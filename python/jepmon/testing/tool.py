@@ -54,7 +54,8 @@ WORST = (1, 3, 2, 0)  # statuses, of which a summary has the first
 
 
 def _tests(given: Given) -> int:
-    """Tests with one seed after the other, and a line for each at the end. Ctrl-C ends the summary too, after those that were run."""
+    """Runs tests with one seed after another, and prints a line for each at the end. After Ctrl-C the lines are those of the finished
+    tests."""
     lines, statuses = [], []
     try:
         for number in range(given.times):
@@ -72,7 +73,7 @@ def _tests(given: Given) -> int:
 
 
 def counted(lines: List[str]) -> str:
-    """How many of these lines, `seed 1: legal (FOLDER)`, have which verdict."""
+    """The number of these lines, `seed 1: legal (FOLDER)`, with each verdict."""
     words = [line.partition(": ")[2].split()[0] for line in lines]
     return ", ".join(f"{words.count(word)} {NO_VERDICT if word == 'no' else word}" for word in VERDICTS if word in words) or "none ended"
 

@@ -1,5 +1,4 @@
-"""Ctrl-C, and the other signals that end a test, wait for a moment: until a process or a folder that was just made is known to those who
-remove it."""
+"""Delays Ctrl-C, and the other signals that end a test, until a new process or folder is known to the code that removes it."""
 from __future__ import annotations
 
 import contextlib
@@ -12,8 +11,8 @@ ENDING = (signal.SIGINT, signal.SIGTERM, signal.SIGHUP)
 
 @contextlib.contextmanager
 def undisturbed() -> Iterator[None]:
-    """A signal that comes during the block takes effect at its end. Only the main thread is disturbed by signals, so that others need
-    nothing."""
+    """A signal that comes during the block takes effect at its end. Signals disturb only the main thread, so other threads need no
+    protection."""
     if threading.current_thread() is not threading.main_thread():
         yield
         return

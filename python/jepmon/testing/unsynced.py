@@ -1,5 +1,5 @@
-"""The unsynced part of a file: the blocks that were written since its last sync, with their old bytes. So its durable contents can be
-brought back, as after a power failure."""
+"""The unsynced part of a file: the blocks that were written since its last sync, with their old bytes. With these its durable contents can
+be restored, as after a power failure."""
 from __future__ import annotations
 
 import os
@@ -15,7 +15,7 @@ class Unsynced:
     def __init__(self, file: int) -> None:
         self._file = file
         self._length = os.fstat(file).st_size  # at the last sync
-        self._blocks: Dict[int, bytes] = {}  # by their numbers: what they had then, nothing beyond the length
+        self._blocks: Dict[int, bytes] = {}  # by their numbers: their bytes at that time, empty beyond the length
 
     @property
     def size(self) -> int:
@@ -23,14 +23,14 @@ class Unsynced:
         return len(self._blocks) * BLOCK
 
     def before(self, at: int, size: int) -> None:
-        """So many bytes from here on will be written."""
+        """Notes that this number of bytes will be written from this place on."""
         for number in range(at // BLOCK, (at + size - 1) // BLOCK + 1 if size else 0):
             if number not in self._blocks:
                 known = max(0, min(BLOCK, self._length - number * BLOCK))
                 self._blocks[number] = os.pread(self._file, known, number * BLOCK) if known else b""
 
     def before_length(self, length: int) -> None:
-        """The file will be cut off there, or be longer."""
+        """Notes that the file will get this length, shorter or longer."""
         self.before(length, max(0, self._length - length))
 
     def lose(self) -> None:
@@ -40,8 +40,8 @@ class Unsynced:
         os.ftruncate(self._file, self._length)
 
     def tear(self, draws: random.Random) -> None:
-        """Each sector of it is kept or lost, by a coin. The file is as long as the last one that was kept needs, and not shorter than it
-        was; sectors that were lost beyond its old length are zeros."""
+        """Keeps or loses each unsynced sector, by a coin. The file is then long enough for the last kept sector, and not shorter than at
+        its last sync. Lost sectors beyond the old length are zeros."""
         now, length = os.fstat(self._file).st_size, self._length
         for number, had in self._blocks.items():
             begin = number * BLOCK

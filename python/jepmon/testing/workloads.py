@@ -1,4 +1,5 @@
-"""The operations of clients on each kind of object: mixed operations while the test runs, and reads at its end, when all is mended."""
+"""The operations of clients on each kind of object: mixed operations while the test runs, and reads at its end, when all faults have
+ended."""
 from __future__ import annotations
 
 import contextlib
@@ -19,9 +20,9 @@ Asked = Callable[[Attempt], "LongOperation"]  # tries it by one client after the
 
 
 class Work:
-    """`step` does an operation, or the two of a lock, by a client. `finish` asks at the end, when all is mended: `ask(attempt)` tries an
-    operation until the server has answered it. `names` are the operations of which some
-    must be ok before anything is said. An object is left after CHANGES, for a new one; its key is the number that is its name."""
+    """`step` does an operation of a client, or the two operations of a lock. `finish` does the operations at the end, when all faults have
+    ended: `ask(attempt)` tries an operation until the server has answered it. `names` are the operations of which some must be ok, or else
+    there is no verdict. After CHANGES changes a new object replaces an object. The name of an object is a number, which is also its key."""
 
     names: Tuple[str, ...] = ()
     model = ""  # by which it is judged, where that is not its name among a server's objects
@@ -43,12 +44,12 @@ class Work:
         """Asks what is left to ask."""
 
     def each_left(self) -> Iterator[LongObject]:
-        """The objects that are judged still, except for those that are over when their turn comes."""
+        """The objects that are still judged, except for those that are over budget when their turn comes."""
         return (one for handle in self.handles for one in handle.objects if not one.is_over)
 
     @property
     def lost(self) -> int:
-        """How many values were taken, and certainly lost, though no event shows it."""
+        """The number of values that were accepted and are certainly lost, although no event shows this."""
         return 0
 
     @property
@@ -80,7 +81,7 @@ class Registers(Work):
         return op
 
     def saw(self, number: int, at: Union[Handle, LongObject], op: LongOperation, value: Any) -> None:
-        """A client has got to know a value, if the operation was ok."""
+        """Notes the value that a client has learned, if the operation was ok."""
 
     def finish(self, ask: Asked) -> None:
         for one in self.each_left():
@@ -138,7 +139,8 @@ class Sets(Work):
 
 
 class Locks(Work):
-    """A lock is tried for a long time after timeouts: who leaves it at once never sees that it was held when its server died."""
+    """Locks. Clients try a lock for a long time after timeouts: a client that leaves it at once never sees that it was held when its server
+    died."""
 
     names = ("acquire", "release")
     CHANGES = 400
@@ -158,14 +160,14 @@ class Locks(Work):
 
 
 class Queues(Work):
-    """Each queue has one producer, the clients of even numbers, and two consumers at most, so that budgets suffice. Some messages
-    are in it most of the time: an empty queue has nothing to lose."""
+    """Queues. Each queue has one producer (a client with an even number) and at most two consumers, so that budgets are sufficient. Most of
+    the time it has some messages: an empty queue has nothing to lose."""
 
     names = ("enqueue", "dequeue")
     CHANGES = 300
-    SETTLING = 10.0  # seconds in which what is missing may come
-    BACKLOG = (8, 14)  # below the first consumers mostly wait, above the second producers do
-    HELPS = 0.8  # the chance that a producer consumes, where consumers do not, as those that are cut off
+    SETTLING = 10.0  # seconds in which missing messages may come
+    BACKLOG = (8, 14)  # below the first number consumers mostly wait, above the second producers do
+    HELPS = 0.8  # the chance that a producer consumes if consumers do not, for example since they are cut off
 
     def __init__(self, monitor: LongMonitor, clients: int, keys: int) -> None:
         super().__init__(monitor, clients, keys)
@@ -207,8 +209,8 @@ class Queues(Work):
         return op
 
     def finish(self, ask: Asked) -> None:
-        """Drains each queue: until it says that it is empty, and has said so for a while where something is missing. Messages on a
-        connection that is gone come back only when the server sees that."""
+        """Drains each queue until it is empty. If messages are missing, it must have been empty for a while: messages on a broken
+        connection come back only when the server notices this."""
         end = time.monotonic() + self.SETTLING
         for one in self.each_left():
             self._drain(one, ask)

@@ -1,7 +1,7 @@
 """The common parts of the package's commands: messages, outputs, and exit statuses.
 
-A user's mistake is one clear line on standard error and status 3; Ctrl-C ends with 130; a traceback is never shown. A file gets its
-name once it is whole.
+A user's mistake gives one clear line on standard error and status 3. Ctrl-C ends with 130. No traceback is ever shown. A file gets its name
+when it is complete.
 """
 from __future__ import annotations
 
@@ -19,19 +19,19 @@ from .errors import OutputError, ProgramError
 __all__ = ["INTERRUPTED", "OutputError", "REFUSED", "Words", "collect_seldom", "copy_file", "printable", "run", "say", "standard_error", "standard_input",
            "temporary_files", "tool", "write_error", "write_file", "write_output"]
 
-REFUSED = 3  # the status of whatever is no verdict
+REFUSED = 3  # the status without a verdict
 INTERRUPTED = 130
 OBJECTS = 100_000  # that are made before Python looks for garbage among them
 
 
 def collect_seldom() -> None:
-    """Has Python look for garbage less often: a tool keeps nearly all that it reads, so that there is little to find."""
+    """Makes Python look for garbage less often: a tool keeps nearly all that it reads, so there is little garbage."""
     gc.set_threshold(OBJECTS)
 
 
 @contextlib.contextmanager
 def temporary_files(folder: Optional[str]) -> Iterator[None]:
-    """Has all temporary files be made in this folder, if one is named."""
+    """Puts all temporary files into this folder, if one is named."""
     if folder is None:
         yield
         return
@@ -45,14 +45,14 @@ def temporary_files(folder: Optional[str]) -> Iterator[None]:
 
 
 def printable(text: str) -> str:
-    """The text so that a terminal shows it and obeys nothing in it."""
+    """The text in a form that a terminal shows without obeying any control character in it."""
     if text.isprintable():
         return text
     return "".join(c if c.isprintable() or c == "\t" else c.encode("unicode_escape").decode() for c in text)
 
 
 def tool(name: str) -> str:
-    """How a tool of this package is called, by the way in which this one was."""
+    """The name by which the user can call a tool of this package, in the way in which this tool was called."""
     called = os.environ.get("JEPMON_CALLED")  # by a script of the repository, as ./jepmon-judge
     if called and os.path.basename(called) == f"jepmon-{name}":
         return called
@@ -63,7 +63,7 @@ def tool(name: str) -> str:
 
 
 def say(name: str, line: str) -> None:
-    """Says a line on standard error, if there is one, as the tool of this name."""
+    """Prints a line on standard error, if there is one, with the name of this tool."""
     write_error(f"{name}: {line}")
 
 
@@ -102,8 +102,8 @@ def write_output(texts: Iterable[str]) -> None:
 
 
 def _write_whole(stream: TextIO, text: str) -> None:
-    """Writes the text to its end. If PYTHONUNBUFFERED has left out the buffer, a full disk or an ended reader takes a part of it, and
-    nothing says so."""
+    """Writes the whole text. With PYTHONUNBUFFERED there is no buffer, so a full disk or an ended reader may take only a part of the text,
+    without an error."""
     raw = getattr(stream, "buffer", None)
     if not isinstance(raw, io.RawIOBase):
         stream.write(text)
@@ -114,7 +114,7 @@ def _write_whole(stream: TextIO, text: str) -> None:
 
 
 def abandon(stream: TextIO) -> None:
-    """The rest in the buffers of standard output and standard error goes nowhere, so that Python has nothing to say of it as it ends."""
+    """Drops the rest in the buffers of standard output and standard error, so that Python does not report an error about it at its end."""
     try:
         os.dup2(os.open(os.devnull, os.O_WRONLY), stream.fileno())
     except (OSError, ValueError):
@@ -122,13 +122,13 @@ def abandon(stream: TextIO) -> None:
 
 
 def write_file(path: Union[str, "os.PathLike[str]"], data: Union[str, bytes]) -> None:
-    """Writes a file. It has its name only once it is whole. If writing fails, an earlier file of the name is unchanged."""
+    """Writes a file. It gets its name only when it is complete. If writing fails, an earlier file with this name is unchanged."""
     whole = data.encode() if isinstance(data, str) else data
     _write_to(path, lambda file: file.write(whole))
 
 
 def copy_file(source: str, path: Union[str, "os.PathLike[str]"]) -> None:
-    """Copies a file. It has its name only once it is whole."""
+    """Copies a file. The copy gets its name only when it is complete."""
     import shutil
 
     with open(source, "rb") as found:
@@ -165,7 +165,7 @@ def _umask() -> int:
 
 
 class Words(argparse.ArgumentParser):
-    """The words of a command line, with --version. A fault of theirs is raised as `refusal`, whose text is one line."""
+    """The words of a command line, with --version. A fault in the words is raised as `refusal`, whose text is one line."""
 
     refusal: Type[Exception] = ValueError
 

@@ -3,7 +3,7 @@ from __future__ import annotations
 
 
 class ProgramError(Exception):
-    """There is no program `jepmon`, or it gave no reply that is one."""
+    """There is no program `jepmon`, or it gave no valid reply."""
 
 
 class OutputError(Exception):

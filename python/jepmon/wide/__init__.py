@@ -1,8 +1,8 @@
 """Judges keys with many clients with the help of later events.
 
-The program judges a history as it comes, and counts what may be: with many operations open at once this is too much, and a key is
-`over`. If the history is recorded, an order of its operations may be searched for, and a part of it that is illegal. Nobody has to
-believe the searches of this package: the program is asked about what they find.
+The program judges a history event by event, and counts the possible outcomes. With many operations open at once there are too many, and a
+key is `over`. For a recorded history, this package can search for an order of the operations, or for an illegal part. Nobody has to believe
+the searches: the program judges their results.
 """
 from __future__ import annotations
 

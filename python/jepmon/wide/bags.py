@@ -1,5 +1,6 @@
-"""Unordered queues: a bag a value. An enqueue can do no harm at its invocation, and a dequeue none at its completion. So an order is
-there if, and only if, of each value no more dequeues have returned at any moment than enqueues were invoked by then."""
+"""Unordered queues: each value is judged by itself. It is always right to let an enqueue take place at its invocation, and a dequeue at its
+completion. So there is an order if and only if, at each moment and for each value, at most as many dequeues have returned as enqueues were
+invoked."""
 from __future__ import annotations
 
 import collections

@@ -1,5 +1,5 @@
-"""Whether an order is one of a history, by `jepmon confirm`; by a stand-in in Python (ordered.py) if the program has no such command.
-The one place that knows who says so."""
+"""Whether a list is an order of a history, by `jepmon confirm`. If the program has no such command, a replacement in Python (ordered.py)
+decides. Only this module knows which of the two decides."""
 from __future__ import annotations
 
 import subprocess
@@ -13,7 +13,7 @@ from . import ordered
 from .operation import OutOfTime
 
 IS_ONE, IS_NONE = "linearizable", "no order "
-PATIENCE = 10.0  # seconds that the program has, where no other number is given
+PATIENCE = 10.0  # seconds for the program, if no other number is given
 
 
 class Said(NamedTuple):
@@ -25,8 +25,8 @@ class Said(NamedTuple):
 
 def confirmed(operations: Sequence[Operation], options: Options, order: Sequence[int], program: Optional[str] = None,
               seconds: float = PATIENCE) -> Said:
-    """Whether the history of one key, of these operations, has this order: operations one after another, by the index of their invocations.
-    Those that are left out did not take place. OutOfTime is raised if the program takes longer than `seconds`."""
+    """Whether this is an order of these operations of one key. The order names operations by the index of their invocations. Operations
+    that are not in it did not take place. Raises OutOfTime if the program takes longer than `seconds`."""
     said = by_program(operations, options, order, find_program(program), seconds)
     return Said(ordered.is_order(operations, options.model, order), False) if said is None else Said(said, True)
 

@@ -1,5 +1,5 @@
-"""An illegal part of a key's history, for a question to the program. The searches of this package remove the operations that may be removed
-(docs/guide/SHRINKING.md has the rules), and the program judges the rest."""
+"""Finds an illegal part of a key's history, which the program then judges. The searches of this package remove only operations that may be
+removed (docs/guide/SHRINKING.md has the rules)."""
 from __future__ import annotations
 
 from typing import AbstractSet, FrozenSet, List, Optional, Sequence
@@ -17,7 +17,7 @@ BUDGET = kinds.BUDGETS[-1]
 
 
 class BySearch(Search):
-    """The search for the smallest part, by the answers of this package in place of the program's."""
+    """The search for the smallest part, by the answers of this package instead of the program's."""
 
     def __init__(self, options: Options, fatal: int, hints: FrozenSet[int], clock: Clock) -> None:
         super().__init__(options, fatal, hints, None, Effort())
@@ -40,7 +40,7 @@ class BySearch(Search):
 
 def part_of(operations: Sequence[Operation], options: Options, fatal: int, hints: Sequence[int], clock: Clock,
             program: Optional[str] = None) -> Optional[Part]:
-    """A part of the front that ends with the fatal event, and that the program calls illegal there; None if none is found."""
+    """A part of the prefix that ends with the fatal event, which is illegal at this event by the program. None if no such part is found."""
     cut = cut_before(operations, fatal + 1)
     search = BySearch(options, fatal, frozenset(hints), clock)
     few = without_other_reads(cut, options.model, {fatal, *hints})
@@ -57,8 +57,8 @@ def part_of(operations: Sequence[Operation], options: Options, fatal: int, hints
 
 
 def without_other_reads(operations: List[Operation], model: str, kept: AbstractSet[int]) -> Optional[List[Operation]]:
-    """For a set, the operations without the reads that have none of these events; None for other objects. Each read may be removed, and a
-    search through the members of all would take long."""
+    """For a set, the operations without the reads that have none of these events. None for other objects. Each read may be removed, and a
+    search through the members of all reads would take long."""
     if model != "set":
         return None
     return [operation for operation in operations if operation.invocation.name != "read" or operation.invocation.index in kept

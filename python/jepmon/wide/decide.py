@@ -1,5 +1,5 @@
-"""Decides one key with the help of later events. It finds an order of all its operations. If there is none, it finds the event at which the
-key is dead, with an order of the events before, and a part that is illegal at that event."""
+"""Decides one key with the help of later events. It searches for an order of all operations. If there is none, it finds the event at which
+the key is dead, an order of the operations before this event, and a part that is illegal at this event."""
 from __future__ import annotations
 
 import bisect
@@ -15,22 +15,22 @@ from .operation import Answer, Clock, Conflict, Order, OutOfTime, cut_before, fr
 from .solve import solve
 
 
-LEAST = 5.0  # seconds that the program has for an order which was found in time
+LEAST = 5.0  # seconds for the program, if an order was found in time
 
 
 class Decided(NamedTuple):
     """The result for a key."""
 
     index: Optional[int]  # type: ignore[assignment]  # (also a method of tuple) the event at which it is dead; None: it is alive
-    order: List[int]  # of all operations, or of those before that event, by the index of their invocations
+    order: List[int]  # of all operations, or of those before this event, by the index of their invocations
     part: Optional[Part]  # where it is dead: what is illegal by itself at that event
     is_proved: bool  # whether a proved program has said that the order is one
     options: Options  # the key's own
 
 
 def decide(operations: Sequence[Operation], options: Options, clock: Clock, program: Optional[str] = None) -> Optional[Decided]:
-    """The result for a key, from its operations in the order of their invocations; None if there is none in this time. It depends on the
-    program's replies about the order and the part."""
+    """The result for a key, from its operations in the order of their invocations. None if there is no result in this time. The program
+    judges the order and the part."""
     if most_open(operations) > THREADS:
         return None  # the program takes no such history
     try:
@@ -51,7 +51,7 @@ class Dead(NamedTuple):
 
 
 def searched(operations: Sequence[Operation], model: str, clock: Clock) -> Union[Order, Dead]:
-    """The order of all; or the first event whose front has none."""
+    """The order of all operations, or the first event whose prefix has no order."""
     ends = sorted(completion.index for _, completion, _ in operations if completion is not None and completion.kind in ("ok", "fail"))
     last = ends[-1] if ends else -1
 
@@ -75,7 +75,7 @@ def searched(operations: Sequence[Operation], model: str, clock: Clock) -> Union
 
 
 def guessed(operations: Sequence[Operation], ends: Sequence[int], found: Conflict) -> Iterator[int]:
-    """Where the first prefix without an order may end, by the operations that stopped a search: the numbers of two ends of prefixes, that
+    """A guess of the first prefix without an order, by the operations that stopped a search: the numbers of the ends of two prefixes, this
     one and the one before."""
     blamed = set(found.ids)
     completed = [completion.index for invocation, completion, _ in operations if completion is not None and invocation.index in blamed]

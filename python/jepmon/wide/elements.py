@@ -1,5 +1,5 @@
-"""The elements of a queue by the invocations of their enqueues, all of which return. Elements are taken out of the list and put back into
-it, the last one first."""
+"""The elements of a queue, ordered by the invocations of their enqueues, all of which return. A search removes elements from the list, and
+puts them back in the reverse order."""
 from __future__ import annotations
 
 import collections
@@ -62,7 +62,7 @@ class Elements:
         return found
 
     def has_within(self, outer: Op) -> bool:
-        """Whether the same value is in once more, by an enqueue that begins later than this one and returns earlier."""
+        """Whether the queue has the same value once more, by an enqueue that begins later than this one and returns earlier."""
         if not self.held[cast(int, outer.part)]:
             return False
         for op in self.left(self._place.get(outer.id, 0)):

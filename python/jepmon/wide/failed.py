@@ -1,18 +1,18 @@
-"""The states of a search that lead nowhere. A state that has no more than one of these leads nowhere either: it has the same to do, and
-less that it may do."""
+"""The failed states of a search. A state that is no better than a failed state fails too: it has the same tasks, and no more
+possibilities."""
 from __future__ import annotations
 
 from typing import Dict, List, Optional, Set, Tuple
 
 MOST = 128  # states of one event and value that are compared
-HELD = 1 << 20  # states that are held; what is forgotten may be tried once more
+HELD = 1 << 20  # states that are kept; a forgotten state may be tried again
 Key = Tuple[int, Optional[int]]  # the event, and the value of the register
 
 
 class Failed:
-    """A state has its event, its value, and two sets of open operations, as bits: those with which it could not be better off, and those
-    that have taken place. It is better off with a write that may be hidden than with one that has taken place, or has to take place. It is
-    better off with a read that has its answer, and with a timed-out operation that may still take place."""
+    """A state has its event, its value, and two sets of open operations, as bits: the operations for which it could not be better, and the
+    operations that have taken place. A state with a write that may be hidden is better than a state in which the write has taken place, or
+    still must take place. A state is also better if a read has its answer, and if a timed-out operation may still take place."""
 
     def __init__(self) -> None:
         self._every: Set[Tuple[Key, int, int]] = set()

@@ -1,7 +1,7 @@
-"""Queues with an order. Dequeues take place only when one returns, and then as few as may be. The enqueues show what they take: an element
-can be the first if no other element of the queue was certainly enqueued before it. The search takes the one that can, has the wanted value
-and whose enqueue returns first, since it holds up others the longest. So a search has few choices: whether a timed-out dequeue takes what
-holds up others, and where a value stands in the queue twice, which of the two goes first.
+"""FIFO queues. Dequeues take place only when a dequeue returns, and then as few as possible. The enqueues show which element a dequeue
+takes: an element can be the first if no other element of the queue was certainly enqueued before it. Among the possible elements with the
+wanted value, the search takes the one whose enqueue returns first, since it blocks others the most. So a search has few choices: whether a
+timed-out dequeue takes an element that blocks others, and, if a value is in the queue twice, which of the two is first.
 
 If each value is enqueued once, there is no choice."""
 from __future__ import annotations
@@ -35,7 +35,7 @@ class Queue:
         self.elements = Elements()  # whose enqueue returns
         self.unsure: Dict[int, List[Op]] = collections.defaultdict(list)  # whose enqueue does not, by their values
         self.used_unsure: Counter[int] = collections.Counter()  # of them
-        self.spare: Counter[int] = collections.Counter()  # how many of a value a dequeue without an answer may take
+        self.spare: Counter[int] = collections.Counter()  # how many elements with a value a dequeue without an answer may take
         self.gone: Set[int] = set()  # elements that were removed, and dequeues that have taken place
         self.open: Dict[int, Dict[int, Op]] = collections.defaultdict(dict)  # dequeues by their answers
         self.lost: List[Op] = []  # dequeues that have been invoked and do not return
@@ -101,7 +101,7 @@ class Queue:
     # --- Questions ---
 
     def unsure_of(self, value: int, bound: int) -> Optional[Op]:
-        """An element of this value whose enqueue does not return, and that can be in front."""
+        """An element with this value whose enqueue does not return, and that can be the first."""
         every, used = self.unsure[value], self.used_unsure[value]
         return every[used] if used < len(every) and every[used].invoked < bound else None
 
@@ -116,7 +116,7 @@ class Queue:
 
 
 class Search:
-    """The search: event by event, and back to the last choice where one can't go on."""
+    """The search: event by event. If it can't continue, it goes back to the last choice."""
 
     def __init__(self, ops: Sequence[Op], clock: Clock) -> None:
         self.ops, self.clock = ops, clock
@@ -141,7 +141,7 @@ class Search:
         return self.order()
 
     def forward(self) -> bool:
-        """Goes on to the next dequeue that returns and has not taken place; whether there is one."""
+        """Continues to the next dequeue that returns and has not taken place. Returns whether there is one."""
         queue = self.queue
         while self.at < len(self.events):
             self.clock.step()
@@ -156,7 +156,7 @@ class Search:
         return False
 
     def back(self, at: int, removals: int) -> None:
-        """Goes back to the dequeue that returns at this event, when this number of elements had been removed."""
+        """Goes back to the dequeue that returns at this event, to the state in which this number of elements was removed."""
         queue = self.queue
         while len(queue.removals) > removals:
             queue.undo()
@@ -169,8 +169,8 @@ class Search:
             self.at -= 1
 
     def ways(self, wanted: Op) -> Iterator[None]:
-        """Takes place what has to, so that this dequeue can, in each way that there is: one after each yield. Afterwards all is as it
-        was."""
+        """Tries each way to let this dequeue take place, with the other operations that must take place before it: one way for each yield.
+        Afterwards the state is as before."""
         self.clock.step()
         queue, moment = self.queue, wanted.completed
         value = cast(int, wanted.answer)
@@ -212,14 +212,14 @@ class Search:
         return [removal.dequeue.id for removal in self.queue.removals[-100:] if removal.element.part == wanted.answer]
 
     def blame(self, ids: List[int]) -> None:
-        """The operations that stop the search, if it has come as far as never before."""
+        """The operations that stop the search, if the search has come further than ever before."""
         if self.at > self.furthest:
             self.furthest = self.at
             lost = [removal for removal in self.queue.removals if not removal.dequeue.is_done]
             self.blamed = sorted({*ids, *(removal.element.id for removal in lost), *(removal.wanted.id for removal in lost)})
 
     def order(self) -> Order:
-        """Each dequeue at its moment, and the enqueues in the order of the queue, each as soon as may be."""
+        """The order: each dequeue at its moment, and the enqueues in the order of the queue, each as early as possible."""
         queue = self.queue
         elements = [removal.element for removal in queue.removals]
         elements += queue.elements.left()

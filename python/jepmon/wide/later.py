@@ -1,4 +1,4 @@
-"""The values that a register will need after an event, and by when."""
+"""The values that operations will need in a register after an event, and by when."""
 from __future__ import annotations
 
 import bisect
@@ -15,8 +15,8 @@ class Later:
     """The operations that begin after an event, need a value and return."""
 
     def __init__(self, events: Sequence[Tuple[int, bool, Op]]) -> None:
-        self.first: List[Soonest] = [(NEVER, None)] * (len(events) + 1)  # by event: the one that returns first of those that begin later
-        self.second: List[Soonest] = list(self.first)  # and the first of those that need another value than that one
+        self.first: List[Soonest] = [(NEVER, None)] * (len(events) + 1)  # by event: the operation that returns first among those that begin later
+        self.second: List[Soonest] = list(self.first)  # and the first among those that need another value than this one
         self.begins: Dict[int, List[int]] = collections.defaultdict(list)  # of those that need a value: the events
         for at in range(len(events) - 1, -1, -1):
             _, is_end, op = events[at]
@@ -34,8 +34,8 @@ class Later:
         self.moments = [moment for moment, _, _ in events]
 
     def is_needed(self, value: int, at: int) -> bool:
-        """Whether an operation that begins after this event needs the value, before one that begins after it too has returned that
-        needs another value."""
+        """Whether an operation that begins after this event needs the value, before another one that also begins after it, and needs
+        another value, has returned."""
         begins = self.begins.get(value, [])
         place = bisect.bisect_right(begins, at)
         if place == len(begins):
@@ -45,7 +45,7 @@ class Later:
         return self.moments[begins[place]] < other[0]
 
     def is_first(self, value: int, at: int, open_one: Optional[Op]) -> bool:
-        """Whether of all that need a value from this event on the one that returns first needs this one."""
+        """Whether, among all operations that need a value from this event on, the one that returns first needs this value."""
         completed, first = self.first[at + 1]
         if open_one is not None and open_one.completed < completed:
             first = needs(open_one)

@@ -1,6 +1,6 @@
-"""Locks. The search lets operations take place only when one returns, and then as few as possible; if one of several must take place, it
-takes the one that returns first. Both rules lose no order: a delayed operation may still take place until it returns, and of two open
-operations the one that returns later may take place later."""
+"""Locks. The search lets operations take place only when an operation returns, and then as few as possible. If one of several must take
+place, it takes the one that returns first. Neither rule misses an order: a delayed operation may still take place until it returns, and of
+two open operations the one that returns later may take place later."""
 from __future__ import annotations
 
 import heapq
@@ -40,7 +40,7 @@ def events_of(ops: Sequence[Op]) -> List[Tuple[int, bool, Op]]:
 
 
 def soonest(waiting: List[Tuple[int, int]], taken: Set[int]) -> Optional[int]:
-    """The one that returns first of those that have not taken place."""
+    """The operation that returns first among those that have not taken place."""
     while waiting:
         _, id = heapq.heappop(waiting)
         if id not in taken:

@@ -1,4 +1,4 @@
-"""The operations of a prefix of one key's history, as a search has them, and the answer of a search."""
+"""The operations of a prefix of one key's history, in the form for a search, and the result of a search."""
 from __future__ import annotations
 
 import itertools
@@ -9,12 +9,12 @@ from ..history import Operation
 from ..history.kinds import MODELS, REGISTERS
 from ..objects import Part
 
-NEVER = 1 << 62  # the completion of what need not have taken place
+NEVER = 1 << 62  # the completion of an operation that need not have taken place
 BETWEEN = 512  # steps between two looks at the clock
 
 
 class Op:
-    """An operation of a front. One that has not returned there may take place at any later moment, or never."""
+    """An operation of a prefix. If it has not returned in the prefix, it may take place at any later moment, or never."""
 
     __slots__ = ("id", "name", "part", "answer", "is_done", "invoked", "completed")
 
@@ -29,15 +29,15 @@ class Op:
 
 
 class Order(NamedTuple):
-    """A front is linearizable: operations one after another, by the index of their invocations. Those that are left out did not take
-    place."""
+    """The result that a prefix is linearizable: operations one after another, by the index of their invocations. Operations that are not in
+    it did not take place."""
 
     ids: List[int]
 
 
 class Conflict(NamedTuple):
-    """A front is not linearizable, as the search found. Nobody has to believe it: these operations are looked at first, if a part
-    is sought that the program calls illegal."""
+    """The result that a prefix is not linearizable, by the search. Nobody has to believe it: it names the operations to try first in the
+    search for a part that the program finds illegal."""
 
     ids: List[int]
 
@@ -50,7 +50,7 @@ class OutOfTime(Exception):
 
 
 class Clock:
-    """The time that a search has, by a clock: that on the wall, or the processor's."""
+    """The time for a search, by the wall clock or by the processor's clock."""
 
     def __init__(self, seconds: float, now: Callable[[], float] = time.monotonic) -> None:
         self._now = now
@@ -58,7 +58,7 @@ class Clock:
         self._steps = 0
 
     def step(self) -> None:
-        """Is called at each step of a search; OutOfTime if the time is up."""
+        """Counts a step of a search. Raises OutOfTime if the time is up."""
         self._steps += 1
         if self._steps % BETWEEN == 0:
             self.look()
@@ -72,8 +72,8 @@ class Clock:
 
 
 def front(operations: Sequence[Operation], end: int) -> List[Op]:
-    """The operations of the front that ends with the event of this index, without those that have failed by then: these took place
-    nowhere. They come in the order of their invocations."""
+    """The operations of the prefix that ends with the event of this index, in the order of their invocations. Operations that have failed
+    by then are left out, since they did not take place."""
     found: List[Op] = []
     for invocation, completion, _ in operations:
         if invocation.index > end:
@@ -92,14 +92,14 @@ def cut_before(operations: Sequence[Operation], index: int) -> List[Operation]:
 
 
 def most_open(operations: Sequence[Operation]) -> int:
-    """How many operations are open at once at most."""
+    """The greatest number of operations that are open at once."""
     invoked = [(invocation.index, 1) for invocation, _, _ in operations]
     completed = [(completion.index, -1) for _, completion, _ in operations if completion is not None]
     return max(itertools.accumulate(change for _, change in sorted(invoked + completed)), default=0)
 
 
 def fits(op: Op, model: str) -> bool:
-    """Whether an object of this kind has the operation, and such an answer, at all."""
+    """Whether an object of this kind has the operation and such an answer at all."""
     if op.name not in MODELS[model]:
         return False
     if op.name != "read" or not op.is_done:
@@ -108,13 +108,13 @@ def fits(op: Op, model: str) -> bool:
 
 
 def says_nothing(op: Op, model: str) -> bool:
-    """Whether it fits everywhere and changes nothing: a read of a register that was answered by nil."""
+    """Whether the operation fits everywhere and changes nothing: a read of a register with the answer nil."""
     return op.name == "read" and op.is_done and op.answer is None and model in REGISTERS
 
 
 def with_silent(order: Sequence[Op], silent: Sequence[Op]) -> List[int]:
-    """The order, and among it the operations that fit everywhere, each at the moment of its invocation. The others take place each at
-    the latest invocation up to there, which is within its own time wherever the order keeps to real time."""
+    """The order, with the operations that fit everywhere added at the moments of their invocations. Each other operation takes place at the
+    latest invocation up to its place, which is within its own time if the order respects real time."""
     placed: List[Tuple[int, int, int]] = []
     moment = 0
     for number, op in enumerate(order):
@@ -124,5 +124,6 @@ def with_silent(order: Sequence[Op], silent: Sequence[Op]) -> List[int]:
 
 
 def by_moments(placed: Sequence[Tuple[int, int, Op]]) -> List[int]:
-    """The order of operations each of which takes place at a moment within its own time; at one moment by the second number."""
+    """The order of operations by the moments at which they take place, each within its own time. At the same moment the second number
+    decides."""
     return [op.id for _, _, op in sorted(placed, key=lambda each: each[:2])]

@@ -1,4 +1,4 @@
-"""A stand-in for the proved program that checks an order: the same test in Python. It is not proved."""
+"""Replaces the proved program for checking an order: the same test in Python. It is not proved."""
 from __future__ import annotations
 
 from typing import Dict, Sequence
@@ -9,8 +9,8 @@ from ..objects.replay import OBJECTS, Wanted
 
 
 def is_order(operations: Sequence[Operation], model: str, order: Sequence[int]) -> bool:
-    """Whether this is an order of the operations of one key, by the index of their invocations. Each ok operation is in it, and no failed
-    one. It agrees with real time, and each operation takes place at its place and answers as it did."""
+    """Whether this is an order of the operations of one key, named by the index of their invocations. An order has each ok operation, and
+    no failed one. It agrees with real time, and each operation takes place at its place with its own answer."""
     by_id: Dict[int, Operation] = {operation.invocation.index: operation for operation in operations}
     listed = frozenset(order)
     if len(listed) != len(order) or not listed <= by_id.keys():

@@ -1,10 +1,10 @@
-"""Registers whose values come again. Operations take place only when one returns that has to; a read as soon as its value is there. A write
-that nobody needs is hidden: it may take place right before another write, while it is open, or where its value is there already. So it
-needs no moment until it returns. The search tries the operations that show their values: each state that is passed through has a reader, or
-a cas from it.
+"""Registers with repeated values. An operation takes place only when an operation that must take place returns, and a read as soon as the
+register has its value. A write that nobody needs is hidden: it may take place right before another write, while it is open, or when the
+register has its value already. So it needs no moment until it returns. The search tries the operations whose values are visible: each
+visited state has a reader, or a cas from it.
 
-A search that has gone wrong early would try for ages what comes later. So it begins again, in another order, after ever more steps, and
-keeps its list of dead states."""
+After an early wrong choice a search would try later choices for ages. So it begins again, in another order, after more and more steps, and
+keeps its list of failed states."""
 from __future__ import annotations
 
 import bisect
@@ -18,7 +18,7 @@ from .operation import Answer, Clock, Conflict, Op, Order
 from .zones import brings, needs
 
 FIRST = 2000  # steps of the first try
-SWAPPED = 0.25  # how often a later try hides first what an earlier one shows, or shows what it hides
+SWAPPED = 0.25  # how often a later try first hides an operation that an earlier try shows, or the other way round
 
 
 class TooLong(Exception):
@@ -27,7 +27,7 @@ class TooLong(Exception):
 
 class State(NamedTuple):
     """The value of the register; the open operations that have taken place, and the writes that may be hidden, as bits; and the number of
-    operations that were placed."""
+    placed operations."""
 
     value: Optional[int]
     taken: int
@@ -36,7 +36,7 @@ class State(NamedTuple):
 
 
 class Search:
-    """The search: event by event, and back to the last choice where one can't go on."""
+    """The search: event by event. If it can't continue, it goes back to the last choice."""
 
     def __init__(self, ops: Sequence[Op], clock: Clock) -> None:
         self.clock = clock
@@ -55,7 +55,7 @@ class Search:
         self.steps = FIRST << min(number // 2, 40)
         self.at = 0  # the event that is next
         self.value: Optional[int] = None
-        self.taken = self.free = self.reads = self.lost = 0  # the last two: open ones that read, and that do not return
+        self.taken = self.free = self.reads = self.lost = 0  # the last two: open operations that read, and open ones that do not return
         self.open: Dict[int, Op] = {}
         self.placed: List[Tuple[int, Op]] = []  # in their order, each with its moment
         self.hidden: List[Op] = []
@@ -70,7 +70,7 @@ class Search:
                 self.begin_anew(number)
 
     def tried(self) -> Answer:
-        stops: List[Tuple[int, State, int, Iterator[None]]] = []  # the event, where it was, and what else may be done
+        stops: List[Tuple[int, State, int, Iterator[None]]] = []  # the event, the state there, and the remaining ways
         while self.forward():
             ways = self.ways(self.events[self.at][2])
             while next(ways, self) is self:
@@ -87,7 +87,7 @@ class Search:
     # --- Events ---
 
     def forward(self) -> bool:
-        """Goes on to the next event at which something has to be decided; whether there is one."""
+        """Continues to the next event at which a choice is needed. Returns whether there is one."""
         while self.at < len(self.events):
             self.clock.step()
             _, is_end, op = self.events[self.at]
@@ -109,7 +109,7 @@ class Search:
             self.free |= self.bit[op.id]
 
     def end(self, op: Op) -> None:
-        """The operation has returned, and has taken place or is hidden."""
+        """Removes an operation that has returned, and has taken place or is hidden."""
         bit = self.bit[op.id]
         if not self.taken & bit:
             self.hidden.append(op)
@@ -141,7 +141,7 @@ class Search:
         return False
 
     def back(self, at: int, state: State, hidden: int) -> None:
-        """Back to the operation that returns at this event, as it was when this was decided."""
+        """Goes back to the operation that returns at this event, in the state at this choice."""
         for _, is_end, op in self.events[at:self.at][::-1]:
             if is_end:
                 self.enter(op)
@@ -166,7 +166,7 @@ class Search:
         self.placed.append((moment, op))
 
     def show(self, op: Op, moment: int) -> None:
-        """A write or a cas takes place, and all reads that are open and find its value."""
+        """Lets a write or a cas take place, and then all open reads that find its value."""
         self.take(op, moment)
         self.value = brings(op)
         for other in self.open.values():
@@ -189,8 +189,8 @@ class Search:
     # --- Choices ---
 
     def ways(self, op: Op) -> Iterator[None]:
-        """Takes place what has to, so that this operation can return, in each way that there is: one after each yield. Afterwards all
-        is as it was."""
+        """Tries each way to let this operation take place before it returns, with the other operations that this needs: one way for each
+        yield. Afterwards the state is as before."""
         before = self.state()
         if self.free & self.bit[op.id] and op.part != self.value:
             shows_first = self.is_urgent(op) != (self.number > 1 and self.chance.random() < SWAPPED)
@@ -201,8 +201,8 @@ class Search:
             yield from self.towards(op, op.completed)
 
     def explored(self, is_decided: bool, op: Optional[Op] = None) -> Iterator[None]:
-        """Goes on from here, unless this state is known to be dead: by the possible next operations or, on the way to an operation, by
-        those that lead there."""
+        """Continues from this state, unless the state is known to fail: by the possible next operations or, on the way to an operation, by
+        the operations that lead there."""
         best = self.free | self.reads & self.taken | self.lost & ~self.taken
         state = (2 * self.at + is_decided, self.value), best, self.taken
         if state in self.failed:
@@ -226,7 +226,8 @@ class Search:
             self.restore(before)
 
     def moves(self, wanted: Op) -> List[Op]:
-        """The operations that may take place now, the likeliest first; of those that do the same, the one that returns first."""
+        """The operations that may take place now, the likeliest first. If several have the same effect, only the one that returns first is
+        among them."""
         needed: Set[Optional[int]] = set()
         for op in self.open.values():
             if not self.taken & self.bit[op.id]:
@@ -246,7 +247,8 @@ class Search:
         return self.ranked(list(found.values()), wanted)
 
     def ranked(self, moves: List[Op], wanted: Op) -> List[Op]:
-        """In the first try a cas comes first, since it needs its value, and this is there; then what leads to the operation at once."""
+        """The order of the moves. In the first try a cas comes first, since the value that it needs is there now. Then come the moves that
+        lead to the operation at once."""
         goal = wanted if brings(wanted) is not None else None
         value = needs(wanted) if goal is None else None
 
@@ -258,7 +260,7 @@ class Search:
         return sorted(moves, key=rank)
 
     def is_urgent(self, op: Op) -> bool:
-        """Whether the value of a write is needed next, and no other open operation writes it."""
+        """Whether the value of a write is needed next, and no other open operation writes this value."""
         value = cast(int, op.part)
         if any(brings(other) == value and other is not op and not self.taken & self.bit[other.id] for other in self.open.values()):
             return False
@@ -274,7 +276,7 @@ class Search:
     # --- The order ---
 
     def order(self) -> List[int]:
-        """The operations that were placed, and those hidden among them."""
+        """The order: the placed operations, and the hidden operations among them."""
         values: List[Optional[int]] = [None]  # before each that was placed
         for _, op in self.placed:
             value = brings(op)
@@ -294,7 +296,7 @@ class Search:
 
 
 def seats(events: Sequence[Tuple[int, bool, Op]]) -> Dict[int, int]:
-    """A bit for each operation, which no other one has that is open at the same time."""
+    """A bit for each operation. No two operations that are open at the same time have the same bit."""
     free: List[int] = []
     bits: Dict[int, int] = {}
     count = 0

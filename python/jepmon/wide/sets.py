@@ -1,7 +1,7 @@
-"""Sets: the answers of reads show the order in which they took place, and between which of them each value was added first. So each
-operation has a level: reads of the answer k in ascending order the level 2k + 1, and what brings in a member that is new in answer k at
-least 2k. Levels never fall from one operation to another that begins after it. The least levels that keep to this are found in one pass,
-and if these do not fit, no levels do."""
+"""Sets: the answers of reads show the order of the reads, and between which reads each value was first added. So each operation has a
+level. A read with answer k, in ascending order, has the level 2k + 1. An operation that brings in a member that is new in answer k has at
+least the level 2k. If an operation begins after another one has ended, its level is at least as great. One pass finds the least levels with
+these properties. If these levels do not fit, no levels do."""
 from __future__ import annotations
 
 from typing import Dict, FrozenSet, List, Optional, Sequence, Tuple, cast
@@ -24,7 +24,7 @@ class Levels:
         self.of_value: Dict[int, int] = {}  # in which answer a member is new
 
     def find(self, clock: Clock) -> Optional[Conflict]:
-        """Finds the members that are new in each; a Conflict if two answers are such that none has all members of the other."""
+        """Finds the new members of each answer. Returns a Conflict if there are two answers of which none contains the other."""
         before: Answered = frozenset()
         for number, answer in enumerate(self.answers):
             clock.step()
@@ -48,7 +48,7 @@ def solve(ops: Sequence[Op], clock: Clock) -> Answer:
         return conflict
     kept = [op for op in ops if op.is_done or op.name == "add" and op.part in levels.of_value]
     level: Dict[int, int] = {}
-    cause: Dict[int, Op] = {}  # what an operation has its level from, where that is another one
+    cause: Dict[int, Op] = {}  # the other operation from which an operation has its level, if there is one
     height, highest = 0, None  # type: int, Optional[Op]
     for _, is_end, op in events_of(kept):
         clock.step()

@@ -1,4 +1,4 @@
-"""An order of the operations of a front, or that there is none, by the search of the key's kind."""
+"""An order of the operations of a prefix, or the result that there is none, by the search for the key's kind."""
 from __future__ import annotations
 
 from typing import Callable, Dict, Sequence
@@ -28,7 +28,7 @@ SOLVERS: Dict[str, Solver] = {
 
 
 def solve(model: str, ops: Sequence[Op], clock: Clock) -> Answer:
-    """OutOfTime comes if the search has had its time."""
+    """Runs the search. Raises OutOfTime if the time for the search is up."""
     strange = [op.id for op in ops if op.is_done and not fits(op, model)]
     if strange:
         return Conflict(strange[:1])

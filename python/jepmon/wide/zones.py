@@ -1,8 +1,8 @@
-"""Registers whose values are unique: one operation writes each. A value's operations stand together in an order, and a cas joins those of
-two values to one group, which has an order of its own. Two moments of a group matter: when the first of its operations returns, and when
-the last is invoked. If the first comes first, the group fills the time between (it is wide); else all of it may take place at any moment
-between (it is narrow). No two wide groups may overlap, nor may a narrow one be within a wide one: then all of them can be put in an order,
-and else not (Gibbons and Korach, 1997). The cost is that of a sort."""
+"""Registers with unique values: one operation writes each value. The operations of a value are together in an order. A cas joins the
+operations of two values into one group, which has its own order. Two moments of a group matter: the first return and the last invocation
+among its operations. If the first return comes first, the group fills the time between the two moments (it is wide). Otherwise the whole
+group may take place at any moment between them (it is narrow). There is an order of all groups if and only if no two wide groups overlap
+and no narrow group is within a wide one (Gibbons and Korach, 1997). The cost is that of a sort."""
 from __future__ import annotations
 
 import bisect
@@ -11,7 +11,7 @@ from typing import Dict, Iterator, List, NamedTuple, Optional, Sequence, Set, Tu
 
 from .operation import Answer, Clock, Conflict, Op, Order
 
-Layers = List[List[Op]]  # what brings a value in, its readers, what brings the next value in, its readers, and so on
+Layers = List[List[Op]]  # the operation that brings a value in, its readers, the operation that brings the next value in, its readers, and so on
 
 
 class NotUnique(Exception):
@@ -19,7 +19,8 @@ class NotUnique(Exception):
 
 
 class Group(NamedTuple):
-    """The operations of a write, and of each cas that follows: the first return, the last invocation, and whose these are."""
+    """The operations of a write, and of each cas that follows: the first return, the last invocation, and the operations of these two
+    events."""
 
     first: int
     last: int
@@ -41,14 +42,14 @@ def brings(op: Op) -> Optional[int]:
 
 
 def needs(op: Op) -> Optional[int]:
-    """The value that the register has to hold for it."""
+    """The value that the register must hold for the operation."""
     if op.name == "cas":
         return cast(Tuple[int, int], op.part)[0]
     return cast(int, op.answer) if op.name == "read" else None
 
 
 def needed(ops: Sequence[Op]) -> List[Op]:
-    """Without operations that have not returned, and of which nothing that has needs the value, by itself or by others."""
+    """The operations without those that have not returned and whose value no returned operation needs, directly or through others."""
     bringers: Dict[int, List[Op]] = collections.defaultdict(list)
     wanted: List[int] = []
     for op in ops:
@@ -114,7 +115,7 @@ def layers_of(write: Op, readers: Dict[int, List[Op]], following: Dict[int, Op])
 
 
 def group_of(layers: Layers) -> Union[Group, Conflict]:
-    """A Conflict if one returns before another was invoked that comes before it."""
+    """The group of a write. Returns a Conflict if an operation returns before the invocation of another one that must come before it."""
     returns = invokes = layers[0][0]
     for layer in layers:
         for op in layer:
@@ -152,7 +153,8 @@ def blamed(one: Group, other: Group) -> Conflict:
 
 
 def in_order(groups: Sequence[Group]) -> List[Group]:
-    """Each wide group at its first return; a narrow one at its last invocation, or right behind the wide one in which that is."""
+    """The order of the groups: a wide group at its first return, and a narrow group at its last invocation, or right behind the wide group
+    that contains this moment."""
     wide = sorted((group for group in groups if group.is_wide), key=lambda group: group.first)
     firsts = [group.first for group in wide]
 

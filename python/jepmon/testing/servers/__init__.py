@@ -1,1 +1,1 @@
-"""The servers that are known, a file for each: how it is started, how its clients speak, and what an error says."""
+"""The known servers, a file for each: its start, the protocol of its clients, and the meaning of errors."""

@@ -1,8 +1,9 @@
-"""beanstalkd: one node, with a log that each job is written to. A tube is an unordered queue, which delivers at least once: a job that was
-not deleted when its connection ended, or in five seconds, comes again. So a dequeue takes place where a job comes for the first time.
+"""beanstalkd: one node, which writes each job to a log. A tube is an unordered queue, which delivers at least once. If a job was not
+deleted before its connection ended, or within five seconds, it comes again. So a dequeue takes place when a job comes for the first time.
 
-The meaning of errors: if the connection, or the tube in it, is not there yet, nothing was sent: a :fail, as is an answer that the job was
-not inserted. A job without an answer may have been inserted: an :info. A job that was not got is a :fail: it comes again.
+The meaning of errors: if there is no connection yet, or it has not selected the tube, nothing was sent, which is a :fail. An answer that
+the job was not inserted is a :fail too. A job without an answer may have been inserted, which is an :info. A job that the client did not
+get is a :fail, since it comes again.
 """
 from __future__ import annotations
 
@@ -97,7 +98,7 @@ class Beanstalkd(Server):
     programs = {"beanstalkd": "beanstalkd"}
     objects = {"unordered-queue": Queue}
     sizes, survives_power = range(1, 2), True
-    durabilities = {"sync": "each job is synced before it is acknowledged", "interval": "the log is synced each 50 ms, as by default",
+    durabilities = {"sync": "each job is synced before it is acknowledged", "interval": "the log is synced each 50 ms (the default)",
                     "none": "the log is never synced"}
     plants = {"forgetful": Plant("the server keeps nothing on its disk", "unordered-queue", "kill")}
 

@@ -1,7 +1,8 @@
-"""etcd: three members; each client asks one, over HTTP by the JSON gateway of version 3.
+"""etcd: three members. Each client uses one of them, over HTTP, through the JSON gateway of version 3.
 
-The meaning of errors: a refused connection sent nothing, a :fail. Everything else but an answer, as a timeout or a status other than 200,
-is an :info. A member that says `request timed out`, `leader changed` or `no leader` may have sent on the request before.
+The meaning of errors: with a refused connection nothing was sent, which is a :fail. Everything else except an answer, such as a timeout or
+a status other than 200, is an :info. A member that says `request timed out`, `leader changed` or `no leader` may have passed on the request
+before.
 """
 from __future__ import annotations
 
@@ -82,9 +83,9 @@ class SerializableRegister(Register):
 
 
 class Lock(EtcdClient):
-    """A key that its holder makes if there is none, with a lease, so that it is removed if the holder ends. A release never is a
-    :fail, since an unreleased key goes away by its lease at a later moment. If it has gone before, another's acquire may have been wrong,
-    and not this."""
+    """A key that its holder creates if it does not exist, with a lease, so that it is removed if the holder ends. A release is never a
+    :fail, since the lease removes an unreleased key later. If the key has disappeared before its release, the acquire of another client may
+    have been wrong, but not this release."""
 
     certain: Exceptions = ()
     seconds = 60  # of the lease: longer than all that may come between
@@ -181,7 +182,7 @@ class Etcd(Server):
             client.close()
 
     def ready(self, node: Node) -> None:
-        """Once it has a leader: a read that asks it is answered."""
+        """Raises until the node has a leader, and so answers a read that asks the leader."""
         client = Register(node.listens_at)
         try:
             client.read(0)

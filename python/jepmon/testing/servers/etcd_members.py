@@ -1,8 +1,8 @@
-"""Strikes on who is a member of etcd's group. `shrink`: a member is removed, with its data, and joins again as a new one. `grow`: one more
-joins, and is removed again.
+"""Strikes on the membership of etcd's group. `shrink` removes a member, with its data, and lets it join again as a new member. `grow` lets
+one more member join, and removes it again.
 
-A change of the group is asked for until it is certain. A member that answers may lag behind the others. So a member is removed by the number
-that the group gave it, and a joining one gets the list of members in the answer to its own joining.
+The strike repeats a change of the group until it is certain. A member that answers may lag behind the others. So a member is removed by the
+number that the group gave it, and a joining member gets the list of members in the answer to its own request.
 """
 from __future__ import annotations
 
@@ -25,8 +25,8 @@ GONE = "member not found"  # what etcd says where a member was removed before
 
 @contextlib.contextmanager
 def shrunk(cluster: Cluster, node: Node, values: Values) -> Iterator[None]:
-    """If the others can't agree now, the node is down, and removed at the end. One at a time: two that wait for each other to come back would
-    wait forever."""
+    """Removes a member. If the others can't agree now, the node is down, and is removed at the end. There is only one such strike at a
+    time: two nodes that wait for each other to come back would wait forever."""
     server: Any = cluster.server
     etcd: Etcd = server
     cluster.kill(node)
@@ -42,7 +42,8 @@ def shrunk(cluster: Cluster, node: Node, values: Values) -> Iterator[None]:
 
 @contextlib.contextmanager
 def grown(cluster: Cluster, node: Node, values: Values) -> Iterator[None]:
-    """If the others can't agree now, none joins. They may agree later, so that the end lets it join in any case before it removes it."""
+    """Lets a member join. If the others can't agree now, none joins. They may agree later, so the end of the strike always lets it join
+    before it removes it."""
     server: Any = cluster.server
     etcd: Etcd = server
     (spare,) = cluster.spares
@@ -58,7 +59,7 @@ def grown(cluster: Cluster, node: Node, values: Values) -> Iterator[None]:
 
 
 def leave(etcd: Etcd, node: Node, cluster: Cluster) -> None:
-    """It is down, since one that is removed ends by itself."""
+    """Takes the node down, since a removed member ends by itself."""
     until(lambda: remove(etcd, node), cluster)
     shutil.rmtree(node.folder / "data", ignore_errors=True)
 
@@ -77,7 +78,7 @@ def remove(etcd: Etcd, node: Node) -> None:
 
 
 def join(etcd: Etcd, node: Node) -> None:
-    """Raises unless it is certain that the node is a member, by a new number. An earlier call may have made it one."""
+    """Raises unless it is certain that the node is a member, with a new number. An earlier call may have made it a member."""
     found = members(etcd, node)
     if numbers(found).get(etcd.peer(node)) in {None, *etcd.removed}:
         found = asked(etcd, node, "cluster/member/add", peerURLs=[etcd.peer(node)])["members"]
@@ -97,7 +98,8 @@ def numbers(found: List[Dict[str, Any]]) -> Dict[str, str]:
 
 
 def until(what: Callable[[], object], cluster: Cluster) -> None:
-    """Tries until the other members answer: other strikes may hold them, and end before the run. At the end of a test it tries a little longer."""
+    """Tries until the other members answer. Other strikes may stop them, but end before the run. At the end of a test it tries a little
+    longer."""
     end, is_over = time.monotonic() + cluster.server.patience, False
     while True:
         try:

@@ -1,8 +1,9 @@
-"""PostgreSQL: a primary, and standbys of it. Rows are registers, at an isolation level; advisory locks; a queue by SKIP LOCKED.
+"""PostgreSQL: a primary, and its standbys. Rows are registers, at an isolation level. There are also advisory locks, and a queue by SKIP
+LOCKED.
 
-The meaning of errors: a connection that was refused, or is not ready (the server starts, 57P03), has sent nothing. An ERROR as an answer
-says that the server rolled the transaction back, as a serialization failure (40001). Both are a :fail. A timeout, a cut connection, and the
-message by which the server ends a session are an :info: a COMMIT may have been done before.
+The meaning of errors: with a connection that was refused, or is not ready (the server starts, 57P03), nothing was sent. An ERROR as an
+answer says that the server rolled the transaction back, for example after a serialization failure (40001). Both are a :fail. A timeout, a
+cut connection, and the message with which the server ends a session are an :info, since a COMMIT may have been done before.
 """
 from __future__ import annotations
 
@@ -45,7 +46,7 @@ class Register(SqlClient):
         self.sql.query(f"INSERT INTO r VALUES ({key}, {value}) ON CONFLICT (k) DO UPDATE SET v = excluded.v")
 
     def cas(self, key: int, old: int, new: int) -> bool:
-        """As an application does it: it reads, compares, and changes, in one transaction."""
+        """A cas in the way of an application: it reads, compares, and changes, in one transaction."""
         try:
             begin = f"BEGIN ISOLATION LEVEL {self.isolation}; SELECT v FROM r WHERE k = {key}"
             if integer(self.sql.query(begin).rows) != old:
@@ -63,7 +64,7 @@ class ReadCommitted(Register):
 
 
 class OldSnapshot(Register):
-    """Reads are done in one transaction, some of them, and so of one snapshot."""
+    """Registers in which several reads are in one transaction, and so use one snapshot."""
 
     count = 0
 
@@ -92,8 +93,8 @@ class UnlockedQueue(Queue):
 
 
 class Lock(SqlClient):
-    """An advisory lock, which is its session's. A release is done, or an :info: if the session is gone the server gives the lock
-    back once it sees that."""
+    """An advisory lock, which belongs to its session. A release is an ok or an :info: if the session is gone, the server releases the lock
+    when it notices this."""
 
     def acquire(self, key: int) -> bool:
         taken = self.sql.query(f"SELECT pg_try_advisory_lock({key})").rows == [("t",)]
@@ -120,16 +121,16 @@ PLANTED: Dict[str, Type[SqlClient]] = {"read-committed": ReadCommitted, "snapsho
 
 class PostgreSQL(Server):
     objects = CLIENTS
-    bears = {"mutex": ("pause", "cut", "slow", "loss", "reorder", "corrupt")}  # a kill ends each session, and its locks with it, while their holders work
+    bears = {"mutex": ("pause", "cut", "slow", "loss", "reorder", "corrupt")}  # a kill ends each session and its locks, while the holders still work
     sizes, in_turn, survives_power = range(1, 4), True, True
-    # The server starts a process of its own that has crashed again, so that only the log shows it.
+    # The server restarts a crashed process of its own, so only the log shows the crash.
     crashes = (r"process \(PID [0-9]+\) was terminated by signal", r"\bPANIC:  ", r"\bTRAP: ", r"invalid page in block [0-9]+ of relation")
-    durabilities = {"sync": "each commit is synced before it is answered, as by default",
+    durabilities = {"sync": "each commit is synced before it is answered (the default)",
                     "async": "synchronous_commit=off: a commit is answered before it is written", "none": "fsync=off: nothing is synced"}
     plants = {
         "read-committed": Plant("a cas that reads, compares and changes at READ COMMITTED", "cas-register"),
         "snapshot": Plant("reads of one REPEATABLE READ transaction that goes on", "register"),
-        "standby": Plant("reads at a standby, which is a write behind", "register", nodes=2),
+        "standby": Plant("reads at a standby, which may be some writes behind", "register", nodes=2),
         "unlocked": Plant("a message is read and then deleted, without a lock", "unordered-queue"),
         "session": Plant("the server is killed, and the lock's session with it, while its holder works", "mutex", "kill:n1"),
     }

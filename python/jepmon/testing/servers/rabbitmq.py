@@ -1,15 +1,16 @@
-"""RabbitMQ: one node, with durable queues, persistent messages that are confirmed, and consumers that get and acknowledge. Several nodes
-are a cluster with quorum queues, whose minority pauses itself. It takes network namespaces: the nodes find one another by one port, at an
-address each.
+"""RabbitMQ: one node, with durable queues, persistent messages with confirms, and consumers that get and acknowledge. Several nodes are a
+cluster with quorum queues, whose minority pauses itself. The cluster needs network namespaces, since all nodes use the same port, each at
+its own address.
 
-It delivers at least once: unacknowledged messages come again when a connection or the server has ended. So a dequeue takes place where a
-message comes for the first time in the whole test; a message that has come before is a :fail.
+It delivers at least once: unacknowledged messages come again when a connection or the server has ended. So a dequeue takes place when a
+message comes for the first time in the whole test. A message that has come before is a :fail.
 
 A queue is declared some time before its first message comes: a kill 0.5 s and 1.3 s after the declaration lost durable queues with all the
 confirmed messages in them (RabbitMQ 3.10.8).
 
-The meaning of errors: if the connection, or the queue in it, is not there yet, nothing was sent: a :fail. A message that was sent and not
-confirmed is an :info. A get without an answer is a :fail: a message that the broker may have sent was not acknowledged, and comes again.
+The meaning of errors: if there is no connection yet, or it has not declared the queue, nothing was sent, which is a :fail. A message that
+was sent and not confirmed is an :info. A get without an answer is a :fail: if the broker has sent a message, it was not acknowledged, and
+comes again.
 """
 from __future__ import annotations
 
@@ -38,7 +39,7 @@ TICKS = "-kernel net_ticktime 8"  # seconds until a node that is silent is held 
 
 
 class Names:
-    """The queues of the keys, in the order in which keys come, so that those of the next ones can be declared before."""
+    """The queues of the keys, in the order in which keys come, so that the queues of the next keys can be declared in advance."""
 
     AHEAD, SETTLED = 32, 5.0  # queues, and seconds until the first ones are used
 
@@ -141,7 +142,7 @@ class RabbitMQ(Server):
     def prepare(self, node: Node) -> None:
         (node.folder / "plugins").write_text("[].\n")
         members = "".join(f"cluster_formation.classic_config.nodes.{one.number + 1} = {name_of(one)}\n" for one in self.nodes)
-        # in a network namespace clients come from another address
+        # in a network namespace clients have another address
         (node.folder / "rabbitmq.conf").write_text("loopback_users = none\n" + (CONFIGURED + members if len(self.nodes) > 1 else ""))
         (node.folder / COOKIE).write_text("jepmon")
         (node.folder / COOKIE).chmod(0o400)

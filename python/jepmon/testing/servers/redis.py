@@ -1,8 +1,8 @@
-"""Redis: a primary, and replicas of it. Clients speak to the primary, which writes each command to its file and syncs the file before it
-answers (`appendonly yes`, `appendfsync always`). --durability has the looser ones, whose difference a loss of power shows.
+"""Redis: a primary, and its replicas. Clients use the primary, which writes each command to its file and syncs the file before it answers
+(`appendonly yes`, `appendfsync always`). --durability has looser settings. A loss of power shows the difference.
 
-The meaning of errors: a refused connection sent nothing, and an error as an answer means that the command was not done (`LOADING`,
-`READONLY`, `MISCONF`): both are a :fail. A timeout, or a connection that was cut, is an :info.
+The meaning of errors: with a refused connection nothing was sent, and an error as an answer means that the command was not done (`LOADING`,
+`READONLY`, `MISCONF`). Both are a :fail. A timeout, or a connection that was cut, is an :info.
 """
 from __future__ import annotations
 
@@ -54,8 +54,8 @@ class Set(RedisClient):
 
 
 class Lock(RedisClient):
-    """SET NX PX. A release never is a :fail: an unreleased lock goes away as the lease runs out, at a later moment. If it has run out
-    before, the lock is given back all the same: if somebody has taken it meanwhile, that acquire was wrong, and not this."""
+    """A lock by SET NX PX. A release is never a :fail: an unreleased lock disappears later, when its lease runs out. If the lease has run
+    out before, the release is still an ok: if somebody has taken the lock meanwhile, that acquire was wrong, and not this release."""
 
     certain: Exceptions = ()
     unsure: Exceptions = (OSError, RedisError)
@@ -98,16 +98,16 @@ CLIENTS: Dict[str, Type[RedisClient]] = {"register": Register, "mutex": Lock, "f
 class Redis(Server):
     programs = {"redis-server": "redis-server"}
     objects = {**CLIENTS}
-    # After a tear it may not start again ("Bad file format"): of its last command the first sector is lost, and the second one is kept.
+    # After a tear it may not start again ("Bad file format"): the first sector of its last command is lost, and the second one is kept.
     bears = {model: (*ALL_STRIKES, "power") for model in CLIENTS}
     size, sizes, in_turn = 2, range(1, 6), True
-    durabilities = {"always": "each command is synced before it is answered", "everysec": "the file is synced each second, as by default",
+    durabilities = {"always": "each command is synced before it is answered", "everysec": "the file is synced each second (the default)",
                     "no": "the file is never synced"}
     plants = {
-        "replica": Plant("reads at a replica, which is a write behind", "register", "partition"),
+        "replica": Plant("reads at a replica, which may be some writes behind", "register", "partition"),
         "forgetful": Plant("the server keeps nothing on its disk", "register", "kill:n1", 1),
         "early": Plant("a queue acknowledges what it has not kept", "fifo-queue", "kill:n1", 1),
-        "members": Plant("members are read at a replica, which is a write behind", "set", "partition"),
+        "members": Plant("members are read at a replica, which may be some writes behind", "set", "partition"),
         "lease": Plant("the lease is shorter than the work", "mutex", nodes=1),
     }
 
@@ -123,7 +123,7 @@ class Redis(Server):
         return words + (["--replicaof", *map(str, self.nodes[0].at)] if node.number else [])
 
     def ready(self, node: Node) -> None:
-        """Once it answers, and as a replica has the data of its primary."""
+        """Raises until the node answers and, if it is a replica, has the data of its primary."""
         connection = Connection(node.listens_at)
         try:
             wanted = b"master_link_status:up" if node.number else b"role:master"

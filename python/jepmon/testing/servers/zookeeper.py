@@ -1,10 +1,11 @@
-"""ZooKeeper: three servers; each client asks one. A znode is a register, and its version makes it a cas-register.
+"""ZooKeeper: three servers. Each client uses one of them. A znode is a register, and its version makes it a cas-register.
 
-A server answers a read by itself, from its own data. So before a read a client sets a znode that all share: the session's server then has
-all that was acknowledged before. (`sync`, which is made for that, asks the leader alone, which may have been replaced without knowing it.)
+A server answers a read from its own data. So before a read a client sets a znode that all clients share: the session's server then has
+everything that was acknowledged before. (`sync`, which is made for this, asks only the leader, and the leader may have been replaced
+without knowing it.)
 
-The meaning of errors: a refused connection, a session that was not given, and an error as an answer are a :fail. Everything else but an
-answer is an :info.
+The meaning of errors: a refused connection, a refused session, and an error as an answer are a :fail. Everything else except an answer is
+an :info.
 """
 from __future__ import annotations
 
@@ -33,7 +34,7 @@ class Register(Client):
         self.zookeeper = Connection(at, TIMEOUT)
 
     def up_to_date(self) -> None:
-        """The server has all that was acknowledged by now."""
+        """Makes sure that the server has everything that was acknowledged by now."""
         self.zookeeper.put("/read", b"")
 
     def read(self, key: int) -> Optional[int]:
@@ -61,7 +62,7 @@ class Register(Client):
 
 
 class OwnRegister(Register):
-    """Reads give the server's own data, as most applications read it."""
+    """Registers whose reads give the server's own data, as in most applications."""
 
     def up_to_date(self) -> None:
         pass
@@ -76,9 +77,9 @@ class ZooKeeper(Server):
     objects = CLIENTS
     ports = ("client", "peer", "election")
     size, sizes, survives_power = 3, range(1, 8), True
-    # A record of its log that is torn ends a server for good, so `tear` is not among those that it ought to bear.
+    # A torn record in its log ends a server for good, so `tear` is not among the strikes that it should survive.
     bears = {model: (*ALL_STRIKES, "power") for model in CLIENTS}
-    durabilities = {"sync": "each change is synced before it is acknowledged, as by default", "none": "zookeeper.forceSync=no: nothing is synced"}
+    durabilities = {"sync": "each change is synced before it is acknowledged (the default)", "none": "zookeeper.forceSync=no: nothing is synced"}
     plants = {"own": Plant("reads give the data of the client's server", "register", "pause,partition")}
 
     @classmethod

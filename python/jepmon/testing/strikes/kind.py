@@ -27,8 +27,8 @@ During = Callable[["Cluster", "Node", Values], ContextManager[None]]
 
 
 class Parameter(NamedTuple):
-    """The amount of a strike: a number between these two, drawn for each strike. From a positive `least` on, small ones are drawn as often
-    as great ones (their logarithms are even)."""
+    """A parameter of a strike: a number between these two limits, drawn for each strike. If `least` is positive, the logarithm of the
+    number is drawn evenly, so small numbers are as frequent as great ones."""
 
     least: float
     most: float
@@ -42,13 +42,13 @@ class Parameter(NamedTuple):
 
 
 class Strike(NamedTuple):
-    """A kind of strike. `text` says what it does, for the history's notes, with {node} and the parameters by their names. `during` gives
-    a context: the fault begins as it is entered, and ends as it is left, from whatever cause."""
+    """A kind of strike. `text` describes it for the notes in the history, with {node} and the parameters by their names. `during` gives a
+    context: the fault begins when the context is entered, and ends when it is left, for any reason."""
 
     text: str
     during: During
     lane: str = OTHER  # strikes of different lanes, or on different nodes, go on at once
     parameters: Mapping[str, Parameter] = {}
     nodes: int = 1  # that there must be at least
-    is_single: bool = False  # of all such strikes one at a time, whichever node is struck
+    is_single: bool = False  # only one such strike at a time, on all nodes together
     needs: FrozenSet[str] = frozenset()  # NEEDS_..: what the machine, or the test, must have

@@ -1,5 +1,5 @@
-"""Strikes on the links between nodes, and between clients and nodes. Each is an effect on some ways. A way counts its holders, so that
-strikes may overlap: it is open again once none holds it."""
+"""Strikes on the links between nodes, and between clients and nodes. A strike has an effect on some ways. A way counts the strikes on it,
+so that strikes may overlap: it is open again when no strike is left."""
 from __future__ import annotations
 
 import contextlib
@@ -52,7 +52,7 @@ def to_all(node: str, others: Sequence[str]) -> List[Pair]:
 
 
 def halves(node: str, others: Sequence[str]) -> List[Pair]:
-    """The node and the ones after it, less than half of all, and the others, which are a majority."""
+    """Two groups: the node and the nodes after it, which are less than half of all; and the others, which are a majority."""
     more = len(others) // 2 - 1  # beside the node
     return both_ways([node, *others[:more]], others[more:])
 
@@ -62,7 +62,7 @@ def one_way(node: str, others: Sequence[str]) -> List[Pair]:
 
 
 def ring(node: str, others: Sequence[str]) -> List[Pair]:
-    """Each reaches those beside it in a ring: a majority, with itself, which is another one for each."""
+    """Each node reaches its neighbours in a ring. With itself these are a majority, and each node has another majority."""
     names = [node, *others]
     count, reach = len(names), (len(names) // 2 + 1) // 2
     return [(names[one], names[other]) for one in range(count) for other in range(count)
@@ -70,7 +70,7 @@ def ring(node: str, others: Sequence[str]) -> List[Pair]:
 
 
 def bridge(node: str, others: Sequence[str]) -> List[Pair]:
-    """Two halves of the others, which the node alone reaches both of."""
+    """Two halves of the other nodes. Only this node reaches both."""
     half = len(others) // 2
     return both_ways(others[:half], others[half:])
 
@@ -89,8 +89,8 @@ STRIKES: Dict[str, Strike] = {
                    {"delay": Parameter(0.01, 0.3, 0.0, 60.0), "jitter": Parameter(0.0, 0.1, 0.0, 60.0)}, needs=NEEDS),
     "halves": Strike("{node}, in a minority, and a majority are cut off from each other", cut(halves), LINKS, nodes=3, needs=NEEDS),
     "oneway": Strike("what {node} sends to the other nodes is lost, and what they send to it comes", cut(one_way), LINKS, nodes=2, needs=NEEDS),
-    "ring": Strike("each node reaches a majority, and no two the same one, in a ring from {node} on", cut(ring), LINKS, nodes=4, needs=NEEDS),
-    "bridge": Strike("two halves, which {node} alone reaches both of", cut(bridge), LINKS, nodes=3, needs=NEEDS),
+    "ring": Strike("each node reaches a majority, no two nodes the same one, in a ring from {node} on", cut(ring), LINKS, nodes=4, needs=NEEDS),
+    "bridge": Strike("two halves are cut off from each other, and {node} alone reaches both", cut(bridge), LINKS, nodes=3, needs=NEEDS),
     "loss": packets("{share:.2g} of the packets of {node} are lost", "share", SHARE, lambda values: Effect(loss=values["share"])),
     "reorder": packets("{share:.2g} of the packets of {node} come after later ones", "share", SHARE,
                        lambda values: Effect(reorder=values["share"])),

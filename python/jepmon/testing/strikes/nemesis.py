@@ -1,4 +1,5 @@
-"""The nemesis: strikes in lanes, each a thread, so that strikes overlap at any moment. Nothing is healed between."""
+"""The nemesis: strikes in lanes, each a thread, so that strikes may overlap at any moment. It does not wait for a healthy moment between
+strikes."""
 from __future__ import annotations
 
 import contextlib
@@ -22,8 +23,8 @@ SINGLE = "single"  # the lane of all strikes that are one at a time
 
 
 class Nemesis:
-    """Strikes until the time is up, but while `calm_from` says so: it gives when the next calm begins, in seconds. `struck` counts how often
-    what has struck."""
+    """Strikes until the time is up, except during calms. `calm_from` gives the beginning of the next calm, in seconds. `struck` counts the
+    strikes by name."""
 
     def __init__(self, monitor: LongMonitor, cluster: Cluster, strikes: Mapping[str, Strike], lanes: List[Lane], seconds: float,
                  calm_from: Callable[[float], float] = lambda seconds: math.inf) -> None:
@@ -39,7 +40,7 @@ class Nemesis:
         self.struck: Counter[str] = Counter()
 
     def run(self) -> None:
-        """Until all lanes have ended what they did. Raises what a lane has raised, or that a node has died by itself."""
+        """Runs until all lanes have ended their strikes. Raises the exception of a lane, or a Died if a node has died by itself."""
         threads = [threading.Thread(target=self._run, args=(lane,), name=f"strikes {number}") for number, lane in enumerate(self._lanes)]
         for thread in threads:
             thread.start()
@@ -54,7 +55,7 @@ class Nemesis:
 
     def _run(self, lane: Lane) -> None:
         try:
-            late = 0.0  # by which strikes took longer than planned, as a restart does
+            late = 0.0  # by which strikes took longer than planned, for example by a restart
             for planned in lane.strikes:
                 if not self._wait(self._begun + planned.begin + late) or not self._wait_for_calm_to_end():
                     return
@@ -79,7 +80,7 @@ class Nemesis:
         return True
 
     def _stop(self, fault: BaseException) -> None:
-        """The first fault ends all lanes. The history notes when a node was found dead."""
+        """Ends all lanes after the first fault. Notes the time at which a dead node was found in the history."""
         with self._lock:
             is_first = self._fault is None
             self._fault = self._fault or fault
@@ -107,8 +108,8 @@ class Nemesis:
 
     @contextlib.contextmanager
     def _node(self, planned: Planned) -> Iterator[Optional[Node]]:
-        """The node that is struck: the one that was planned, or else the next one that no other strike of this lane holds. None if the
-        time is up before there is one."""
+        """The node to strike: the planned one, or else the next node without another strike of this lane. None if the time is up before
+        there is such a node."""
         kind = self._strikes[planned.name]
         single = [(SINGLE, "")] if kind.is_single else []
         first = self._cluster.nodes[planned.node]
@@ -134,8 +135,8 @@ class Nemesis:
         return None
 
     def _settled(self, planned: Planned, node: Node) -> bool:
-        """Waits until the node is ready again, if its process was struck, so that a server that starts slowly does some work between
-        two strikes. Gives whether the run goes on."""
+        """If the process of the node was struck, waits until the node is ready again, so that a slowly starting server does some work
+        between two strikes. Returns whether the run continues."""
         if self._strikes[planned.name].lane != PROCESS:
             return True
         end = time.monotonic() + self._cluster.server.patience
@@ -145,7 +146,7 @@ class Nemesis:
         return True
 
     def _wait(self, until: float) -> bool:
-        """Waits, and looks after the nodes meanwhile. Gives whether the run goes on after that."""
+        """Waits, and watches the nodes meanwhile. Returns whether the run continues after that."""
         while True:
             self._cluster.test_alive()
             now = time.monotonic()

@@ -23,9 +23,9 @@ RANGE = re.compile(rf"({NUMBER})(?:\.\.({NUMBER}))?")
 ALIASES = {"part": "partition"}  # former names of strikes
 LASTING = Parameter(0.1, 10.0, 0.01)  # seconds of a strike
 REST = Parameter(0.2, 3.0)  # seconds between two strikes of a lane
-SHARE = 0.15  # of a run: no strike that is drawn lasts longer, and the first one comes before half of it
+SHARE = 0.15  # of a run: no drawn strike lasts longer, and the first one comes within half of this
 QUIET = 0.5  # seconds at least before the first strike
-AT_LEADER = 0.25  # the chance that a strike on any node is one on the leader, where the server names one
+AT_LEADER = 0.25  # the chance that a strike on any node hits the leader, if the server names one
 UNSETTLED = 0.25  # the chance that a node is struck again before it is ready
 SCHEDULED = 1.0  # seconds of a scheduled strike that does not say
 
@@ -37,7 +37,7 @@ class Planned(NamedTuple):
     lasting: float
     name: str
     node: int
-    is_named: bool = False  # the node; else another one is struck while a strike of this lane goes on there
+    is_named: bool = False  # whether the node is named; otherwise another node is struck if this one has a strike of this lane
     at_leader: bool = False  # the leader is struck, where there is one, and else the node
     values: Mapping[str, float] = {}
     settles: bool = True  # the lane waits until the node is ready, before it strikes again
@@ -47,7 +47,7 @@ class Lane(NamedTuple):
     """Strikes one after the other."""
 
     strikes: Iterator[Planned]
-    is_shifted: bool  # what is late makes all that follow as late
+    is_shifted: bool  # a late strike delays all that follow
 
 
 class Item(NamedTuple):
@@ -63,8 +63,8 @@ class Item(NamedTuple):
 
 
 class Plan:
-    """The items of `text`, for a server with this number of nodes that has these strikes. `default` are those of `all`; those of it that
-    `why_not` gives a reason against are left out, and `left_out` says why. A strike that is asked for by name, and can't be, is a
+    """The items of `text`, for a server with this number of nodes and these strikes. `default` has the strikes of `all`. If `why_not` gives
+    a reason against one of these, it is left out, and `left_out` has the reason. An impossible strike that is asked for by name is a
     ServerError."""
 
     def __init__(self, text: str, nodes: int, strikes: Mapping[str, Strike], default: Sequence[str],
@@ -76,7 +76,7 @@ class Plan:
         items = [item for word in text.split(",") for item in self._items(word, all_of_it)]
         timed = [item for item in items if item.begin is not None]
         if timed and len(timed) < len(items):
-            raise ServerError(f"--nemesis {text}: either each strike has its time, as kill@3, or none has")
+            raise ServerError(f"--nemesis {text}: either each strike has its time, such as kill@3, or none has")
         self.scheduled = sorted(timed, key=lambda item: item.begin or 0.0)
         self.drawn = [item for item in items if item.begin is None]
         self._test_apart()
@@ -102,10 +102,10 @@ class Plan:
         name = re.split("[:@]", word)[0]
         name = ALIASES.get(name, name)
         if found is None and name in self.known:
-            raise ServerError(f"--nemesis {word}: {name} takes a node, as {name}:n1, a number or two for a parameter, as {name}:lasting=0.5..2, and "
-                              f"a time, as {name}@3+0.5")
+            raise ServerError(f"--nemesis {word}: {name} takes a node, such as {name}:n1, a number or two for a parameter, such as {name}:lasting=0.5..2, and "
+                              f"a time, such as {name}@3+0.5")
         if found is None or name not in self.known:
-            raise ServerError(f"--nemesis {word}: it takes all, none, or of {', '.join(self.known)} any, as kill,pause or kill:n1@3+0.5")
+            raise ServerError(f"--nemesis {word}: it takes all, none, or of {', '.join(self.known)} any, such as kill,pause or kill:n1@3+0.5")
         node = found["node"]
         reason = self._reason(name)
         if reason is not None:
@@ -132,14 +132,14 @@ class Plan:
         return self._too_few(name) or self._why_not(name)
 
     def _given(self, word: str, name: str, text: str) -> Dict[str, Parameter]:
-        """All parameters of a strike: those that are given, and the others as they are by themselves."""
+        """All parameters of a strike: the given ones, and the defaults of the others."""
         known = {**self.known[name].parameters, "lasting": LASTING, "rest": REST}
         given = dict(known)
         for pair in text.split(":")[1:]:
             key, _, value = pair.partition("=")
             found = RANGE.fullmatch(value)
             if key not in known or found is None:
-                raise ServerError(f"--nemesis {word}: {name} takes {', '.join(known)}, each a number or two, as lasting=0.5 or lasting=0.5..2")
+                raise ServerError(f"--nemesis {word}: {name} takes {', '.join(known)}, each a number or two, such as lasting=0.5 or lasting=0.5..2")
             least = float(found[1])
             most = least if found[2] is None else float(found[2])
             low, high = known[key].lowest, known[key].highest
@@ -149,7 +149,7 @@ class Plan:
         return given
 
     def _test_apart(self) -> None:
-        """Two strikes of a schedule on the same process, or the same clock, are not at once."""
+        """Tests that no two strikes of a schedule on the same process, or on the same clock, overlap."""
         for place, one in enumerate(self.scheduled):
             for other in self.scheduled[place + 1:]:
                 lane = self.known[one.name].lane
@@ -181,8 +181,8 @@ class Plan:
         return found
 
     def _at_once(self) -> Iterator[Tuple[Sequence[str], int]]:
-        """Lanes, and how many strikes of them go on at once: two, if that leaves a majority most of the time. One node is either down or
-        cut off: both are the same to its clients, which are to do something between."""
+        """The lanes, and the number of simultaneous strikes of each lane: two, if this leaves a majority most of the time. A single node is
+        either down or cut off, and not both: these are the same for its clients, which need time for operations between strikes."""
         at_once = 2 if self.nodes > 3 else 1
         if self.nodes == 1:
             yield (PROCESS, LINKS), 1
@@ -214,7 +214,7 @@ class Plan:
 
 
 def apart(strikes: Sequence[Planned]) -> List[List[Planned]]:
-    """In as few rows as can be, in each of which none begins before the one before has ended."""
+    """Distributes strikes over as few rows as possible. In each row no strike begins before the earlier one has ended."""
     rows: List[List[Planned]] = []
     for strike in strikes:
         for row in rows:

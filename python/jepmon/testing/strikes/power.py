@@ -1,4 +1,4 @@
-"""Strikes on the power of a node: its processes are killed, and what they had not synced is lost, or torn."""
+"""Strikes on the power of a node: its processes are killed, and unsynced data is lost or torn."""
 from __future__ import annotations
 
 import contextlib
@@ -29,6 +29,6 @@ NEEDS = frozenset([NEEDS_DISK])
 STRIKES: Dict[str, Strike] = {
     "power": Strike("{node} is without power: what it had not synced is lost", without_power(lambda disk, values: disk.lose()), PROCESS,
                     needs=NEEDS),
-    "tear": Strike("{node} is without power: of what it had not synced some sectors are lost",
+    "tear": Strike("{node} is without power: some sectors of what it had not synced are lost",
                    without_power(lambda disk, values: disk.tear(int(values["coins"]))), PROCESS, {"coins": Parameter(1, 1_000_000)}, needs=NEEDS),
 }

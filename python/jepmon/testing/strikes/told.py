@@ -3,8 +3,8 @@
     n1 is down, by kill -9 [kill n1, process]
     all links of n2 are slow [slow n2, links, delay=0.05, jitter=0.01; while kill n1, pause n3]
 
-First what it does, then in brackets: its name and its node, its lane, its parameters, and the strikes that were going on as it began.
-So of two that overlap the one that began later names the other.
+First comes the effect. In brackets follow the strike's name and node, its lane, its parameters, and the strikes that were active when it
+began. So if two strikes overlap, the later one names the earlier one.
 """
 from __future__ import annotations
 
@@ -40,7 +40,7 @@ def told(text: str, name: str, node: str, lane: str, values: Mapping[str, float]
 
 
 def read(note: str) -> Optional[Told]:
-    """The strike that a note's text tells of; None for other notes."""
+    """The strike of a note's text. None for other notes."""
     found = TEXT.fullmatch(note)
     if found is None:
         return None

@@ -31,8 +31,9 @@ class Message(NamedTuple):
 
 
 class Amqp:
-    """A connection, made when it is needed. `publish` and `get` are what may fail half-way; all that comes before them, as the
-    declaration of a queue, has sent nothing of a message: a ConnectionRefusedError. `kind` is that of the queues that it declares."""
+    """A connection, made when it is needed. `publish` and `get` may fail half-way. All steps before them, such as the declaration of a
+    queue, have not sent any part of a message, so they raise a ConnectionRefusedError. `kind` is the kind of the queues that it
+    declares."""
 
     def __init__(self, at: At, timeout: float, kind: str = CLASSIC) -> None:
         self.stream = Stream(at, timeout)
@@ -40,7 +41,7 @@ class Amqp:
         self._declared: Set[str] = set()
 
     def publish(self, queue: str, body: bytes, confirmed: bool = True, durable: bool = True) -> None:
-        """Sends a message, and waits until the broker has confirmed it: with `durable`, that it is on the disk."""
+        """Sends a message, and waits until the broker has confirmed it. With `durable` this means that the message is on the disk."""
         self.declare(queue, durable)
         try:
             self._send(METHOD, method(PUBLISH, struct.pack("!H", 0), short(""), short(queue), bytes([0])))
@@ -54,7 +55,7 @@ class Amqp:
             raise
 
     def get(self, queue: str, durable: bool = True) -> Optional[Message]:
-        """The first message, which is to be acknowledged; None if there is none."""
+        """The first message, which the caller has to acknowledge. None if there is no message."""
         self.declare(queue, durable)
         try:
             self._send(METHOD, method(GET, struct.pack("!H", 0), short(queue), bytes([WAIT])))
@@ -111,7 +112,7 @@ class Amqp:
     def _expect(self, answer: Method) -> None:
         kind = self._method()[0]
         if kind != answer:
-            raise BrokerError(f"the broker answered {kind}, and not {answer}")
+            raise BrokerError(f"the broker answered {kind}, not {answer}")
 
     def _method(self) -> Tuple[Method, bytes]:
         data = self._frame(METHOD)

@@ -31,13 +31,14 @@ class Postgres:
         self.stream, self.user, self.connected = Stream(at, timeout), user, 0
 
     def query(self, text: str) -> Answer:
-        """The answer of the last of these statements. All of them are one transaction, if the text begins none itself."""
+        """The answer of the last of these statements. All of them are one transaction, unless the text begins a transaction itself."""
         with self.stream.request(self._connect):
             self._send(b"Q", text.encode() + b"\0")
             return self._answer()
 
     def _connect(self) -> None:
-        """Until the server is ready. While it starts or ends it refuses (57P03), before anything was sent: a refused connection."""
+        """Connects, and waits until the server is ready. A server that is starting or ending refuses (57P03) before anything was sent, like
+        a refused connection."""
         self.stream.open()
         words = f"user\0{self.user}\0database\0postgres\0\0".encode()
         self.stream.send(struct.pack("!ii", 8 + len(words), 196608) + words)
@@ -51,7 +52,7 @@ class Postgres:
         self.stream.send(kind + struct.pack("!i", len(data) + 4) + data)
 
     def _answer(self) -> Answer:
-        """Up to the next message by which the server is ready."""
+        """The answer, up to the next message that says that the server is ready."""
         rows: List[Tuple[Optional[str], ...]] = []
         count, error = 0, None
         while True:

@@ -1,5 +1,5 @@
-"""A connection that is made when needed, and made again after a fault, so that a late answer never counts for the next one. It tries
-nothing again, so that a ConnectionRefusedError says that nothing was sent."""
+"""A connection that is made when it is needed, and made again after a fault, so that a late answer never counts as the answer to the next
+request. It never retries a request, so a ConnectionRefusedError says that nothing was sent."""
 from __future__ import annotations
 
 import contextlib
@@ -30,7 +30,7 @@ class Stream:
 
     @contextlib.contextmanager
     def request(self, connect: Callable[[], None]) -> Iterator[None]:
-        """The block is one request: it connects first if needed, and its time begins. A fault closes the connection."""
+        """The block is one request. Connects first if needed, and starts the time of the request. A fault closes the connection."""
         try:
             if not self.is_open:
                 connect()
@@ -41,7 +41,7 @@ class Stream:
             raise
 
     def begin(self) -> None:
-        """The time for one operation, with all that it sends and awaits, begins."""
+        """Starts the time of one operation, with everything that it sends and waits for."""
         self._end = time.monotonic() + self._seconds
 
     def send(self, data: bytes) -> None:

@@ -23,7 +23,7 @@ class ZooKeeperError(Exception):
 
 
 class NoSession(ConnectionError):
-    """The server gave none, so that nothing was asked of it yet: it is not one of a majority, or it starts."""
+    """The server gave no session, so nothing was sent to it yet. It is not part of a majority, or it is starting."""
 
 
 class Found(NamedTuple):
@@ -58,7 +58,7 @@ class ZooKeeper:
         self._asked(CREATE, text(path) + buffer(data) + ANYBODY + struct.pack(">i", 0))
 
     def put(self, path: str, data: bytes) -> None:
-        """Sets it, or creates it if it is not there. An error that is the last one's answer says that it did not take place."""
+        """Sets the node, or creates it if it does not exist. If the last answer is an error, the change did not take place."""
         for is_new in (False, True, False):
             try:
                 if is_new:
