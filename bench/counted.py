@@ -141,7 +141,7 @@ def number(count: Optional[float]) -> str:
 
 
 def beside(file: pathlib.Path, share: float, plain: List[str], without: List[str]) -> None:
-    print("| Kind, clients | Budget | Events | plain | `check` | ratio | plain, live | `script` | ratio | without ends | `check` to that |")
+    print("| Kind, clients | Budget | Events | plain | `check` | ratio | plain, live | `script` | ratio | without ends | `check` / without ends |")
     print("|---|---|---|---|---|---|---|---|---|---|---|")
     for history in BESIDE:
         events = part(history.events, share)

@@ -80,7 +80,7 @@ def part(events, share):
 def main():
     given = asked(__doc__)
     runs = given.runs
-    print("| Kind, clients, budget | Events | Exit status | `script` | Events a second | Peak memory | `check` | A reply, median | Of it the pipes | Slowest |")
+    print("| Kind, clients, budget | Events | Exit status | `script` | Events a second | Peak memory | `check` | A reply, median | `cat`, median | Slowest |")
     print("|---|---|---|---|---|---|---|---|---|---|")
     for load, model, clients, budget, most in LOADS:
         events = part(most, given.share)

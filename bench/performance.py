@@ -106,7 +106,7 @@ def version_of(file: pathlib.Path) -> str:
 def heading(given: Given, version: str, commit: str) -> str:
     day = datetime.date.today()
     part = "" if given.share == 1 else f", on {given.share:g} of the events"
-    return f"The proved program {version} of commit {commit}, measured on {day.day} {day:%B %Y} with {os.cpu_count()} cores{part}:"
+    return f"The proved program {version} of commit {commit}, measured on {day.day} {day:%B %Y} with {os.cpu_count()} cores{part}."
 
 
 # --- The tables ---
