@@ -1,4 +1,4 @@
-//! A monitor, whose calls are those of a script.
+//! A monitor that gets the steps of scripts.
 
 use crate::answers::{Answer, Seen, said_of};
 use crate::following::Subject;
@@ -10,7 +10,7 @@ use monitor::Monitor;
 use report::report;
 use std::alloc::Global;
 
-/// A step of a script. Events are of a process and of an operation.
+/// A step of a script. An event is given by its process and its operation.
 #[derive(Clone, Copy)]
 pub enum Step {
     Invoke(u32, Key, Name, Option<i64>),
@@ -22,7 +22,7 @@ pub enum Step {
     Report,
 }
 
-/// A key that changes its kind, twice.
+/// The steps in which a key changes its kind twice.
 pub const MODELS: &[Step] = &[
     Step::Invoke(0, 7, Name::Write, Some(1)),
     Step::Ok(0, 7, Name::Write, Some(1)),
@@ -33,7 +33,7 @@ pub const MODELS: &[Step] = &[
     Step::Report,
 ];
 
-/// A key that has five ends just before an ok, by budgets of four and five.
+/// The steps in which a key has five ends just before an ok, with budgets of four and five.
 pub const BUDGETS: &[Step] = &[
     Step::Model(1, ModelKind::FifoQueue),
     Step::Budget(1, 5),
@@ -46,7 +46,7 @@ pub const BUDGETS: &[Step] = &[
     Step::Report,
 ];
 
-/// One key is over budget and another is illegal. A rewind removes the illegal one.
+/// The steps in which one key is over budget and another one is illegal, and a rewind removes the illegal one.
 pub const REWINDS: &[Step] = &[
     Step::Model(1, ModelKind::FifoQueue),
     Step::Budget(1, 5),
@@ -71,7 +71,7 @@ pub struct Judged {
     text: Vec<u8>,
 }
 
-// An event of an operation whose part is an integer, or nil.
+// Returns an event of an operation whose part is an integer or nil.
 fn event(kind: EventKind, process: u32, key: Key, name: Name, part: Part) -> Event {
     Event {
         index: None,
@@ -98,7 +98,7 @@ impl Judged {
         })
     }
 
-    // The result of a step: a verdict, or for a report the length of the text.
+    // Returns the answer of a step: a verdict, or the length of the text for a report.
     fn take(&mut self, step: Step) -> Result<Answer, Refusal> {
         let verdict = match step {
             Step::Invoke(process, key, name, value) => {

@@ -3,7 +3,7 @@ use Rattle.std.proofs.Common.{◌≡◌, ℕ, ◌+◌, ⊎_elim, List, [], ◌�
 use Rattle.std.specs.Prelude.{Ok}
 use Rattle.std.proofs.lemmas.Bool.{cases_order}
 use Rattle.std.proofs.lemmas.List.Elements.{All-head, All-tail}
-use Rattle.edn.specs.Value.{Value, Values, none, more, joined}
+use Rattle.edn_values.specs.Value.{Value, Values, none, more, joined}
 use Rattle.edn.specs.Text.{IsText, IsLongestTextPrefix}
 use Rattle.edn.specs.Elements.{count_of}
 use Rattle.edn.specs.Refusals.{IsWhy}

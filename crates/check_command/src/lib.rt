@@ -1,8 +1,8 @@
-//! A recorded history, from its bytes to its text: the report, or the line of a refusal.
+//! Checks of a recorded history, from its bytes to its text: the report, or the line of a refusal.
 //!
-//! The bytes are read whole, and then element by element: `plain_events` reads an element that is spelled plainly, and `edn` and `events`
-//! read any other. Each event is pushed on a history, and the whole history is loaded into a monitor. This crate also writes the final text
-//! and returns the exit status for `confirm_command` and `run_command`.
+//! The bytes are read as a whole, and then element by element. `plain_events` reads an element with a plain spelling, and `edn` and
+//! `events` read any other. Each event is pushed on a history, and the whole history is loaded into a monitor. For `confirm_command` and
+//! `run_command`, this crate also writes the final text and returns the exit status.
 //!
 //! A call allocates only if its result can be `AllocError`, or a refusal because memory ran out.
 #![tactic(auto)]

@@ -25,21 +25,22 @@ use std::thread::Threads;
 /// The findings about a recorded history.
 #[derive(Drop)]
 pub enum Findings {
-    /// Every element was taken: the verdict on all events, and the report.
+    /// Every element was accepted: the verdict on all events, and the report.
     Judged(Verdict, Vec<u8>),
-    /// So many elements were taken, and the next one was refused.
+    /// This number of elements were accepted, and the next one was refused.
     RefusedEvent(usize, Refusal),
-    /// A refusal of another kind than an element's.
+    /// A refusal of the whole history, not of one element.
     Refused(Refusal),
 }
 
-/// Judges a text whose elements are events, in turn, up to the first that is refused. The refusals of [`Config::check`] come before
+/// Judges a text whose elements are events, in order, up to the first one that is refused. The refusals of [`Config::check`] come before
 /// anything is read.
 ///
-/// If the bytes are not a text, that is the finding, even if an element before that place would be refused. The bytes are read once, and
-/// one element of them is held at a time. If all are taken, `workers` workers, 1 to 64, judge the keys, at the cost of [`Monitor::load`];
-/// the calling thread is one of them, and waits for the others. The findings are the same by any number of them. The observer gets the
-/// number of accepted events on the way, and the moment when they are judged. The judged history stays in memory until the process ends.
+/// If the bytes are not a text, this is the finding, even if an element before that place would be refused. The bytes are read once, and
+/// one element of them is held at a time. If all elements are accepted, `workers` workers, 1 to 64, judge the keys, at the cost of
+/// [`Monitor::load`]. The calling thread is one of them, and waits for the others. The findings are the same for any number of them. The
+/// observer gets the number of accepted events, and the moment at which their judgement begins. The judged history stays in memory until
+/// the process ends.
 pub fn judge_text<X: Threads + Sync, L: Observer>(
     rt: &X,
     alloc: Global,
@@ -60,7 +61,7 @@ pub fn judge_text<X: Threads + Sync, L: Observer>(
     }
 }
 
-// The same. A refusal of another kind than an element's is an error.
+// Returns the findings about a text whose elements are events. A refusal that is not that of an element is an error.
 fn found_in<X: Threads + Sync, L: Observer>(
     rt: &X,
     alloc: Global,
@@ -93,7 +94,7 @@ fn found_in<X: Threads + Sync, L: Observer>(
     }
 }
 
-// The findings about a whole history. It is then known to have a verdict at each of its lengths.
+// Returns the findings about a whole history. Its clauses say that the history has a verdict at each of its lengths.
 fn judge_history<X: Threads + Sync, L: Observer>(
     rt: &X,
     alloc: Global,
@@ -115,13 +116,13 @@ fn judge_history<X: Threads + Sync, L: Observer>(
     let monitor = Monitor::load(rt, alloc, history, kind, budget, workers, &OpenGate)?;
     monitor.some_verdicts();
     let told = told_by(alloc, &monitor, observer);
-    // A check is the last work of its process, and the system takes the memory back as a whole. To give back each piece by itself takes a
-    // sixth of all if there are many keys.
+    // A check is the last work of its process, and the system frees the memory as a whole. If there are many keys, freeing each piece by
+    // itself would take a sixth of the whole time.
     forget(monitor);
     told
 }
 
-// The verdict of a monitor, and the report.
+// Returns the verdict of a monitor, and the report.
 fn told_by<L: Observer>(alloc: Global, monitor: &Monitor, observer: &L) -> Result<Findings, Refusal>
     ensures found { (end : Machine) → end.judged ≡ monitor.now.now → IfOk result (Finds end) }
     ensures memory { IfErr result (λ why. why ≡ Refusal.NoMemory) }
@@ -133,7 +134,7 @@ fn told_by<L: Observer>(alloc: Global, monitor: &Monitor, observer: &L) -> Resul
     Ok(Findings::Judged(verdict, text))
 }
 
-/// The line of an event that is refused after `taken` accepted ones, as `refused 6 BadIndex event 1`. Takes memory for the line.
+/// Returns the line of an event that is refused after `taken` accepted ones, such as `refused 6 BadIndex event 1`. Allocates the line.
 pub fn event_text(alloc: Global, taken: usize, refusal: &Refusal) -> Result<String, AllocError>
     ensures { IfOk result (λ text. string_bytes text ≡ event_line taken refusal.now) }
 {

@@ -1,6 +1,6 @@
 -- the bytes of a history and of an order have one answer
 use Rattle.std.proofs.Common.{◌≡◌, ℕ, ◌^◌, pos, List, [], ◌∷◌, ◌++◌, refl, sym, ap, ◌∙◌, subst}
-use Rattle.edn.specs.Value.{Value, int, Values, none, more}
+use Rattle.edn_values.specs.Value.{Value, int, Values, none, more}
 use Rattle.edn.proofs.Unique.{one_text}
 use Rattle.kinds.specs.declared.model_kind.ModelKind.{ModelKind}
 use Rattle.events.specs.declared.event.Event.{Event}

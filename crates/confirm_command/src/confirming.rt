@@ -1,4 +1,4 @@
-//! An order of a recorded history, from the bytes of both to the line that says what the order shows.
+//! The test of an order of a recorded history, from the bytes of both to the line about the order.
 ghost use Rattle.std.specs.Prelude.{◌≡◌, false};
 ghost use Rattle.confirm_command.specs.Confirms.{Confirms, ConfirmsFiles, ConfirmsInput};
 
@@ -16,18 +16,18 @@ use std::sync::Wait;
 /// Reads a recorded history of `concurrency` threads and an order of its operations to their ends. Each key is an object of this kind.
 /// Writes and flushes one line about the order, and returns the exit status:
 ///
-/// - `linearizable`, with 0, only if the list is an order of the history, which is linearizable then.
-/// - `no order place P event E WHY`, with 1, if the list is not an order: the operation that event E invokes does not fit at place P. The line
-///   says nothing of the history.
+/// - `linearizable`, with 0, only if the list is an order of the history, which is then linearizable.
+/// - `no order place P event E WHY`, with 1, if the list is not an order: the operation that event E invokes does not fit at place P.
+///   Another order may still fit.
 /// - `refused ..`, with 3, if the history is refused, in the words of `check`.
 /// - `refused 5 BadValue order place P event E WHY`, with 3, if the list cannot be a list of the history's operations.
-/// - `refused 5 BadValue order element I`, with 3, if I elements were taken and the next one is not an index.
+/// - `refused 5 BadValue order element I`, with 3, if I elements were accepted and the next one is not an index.
 /// - `refused NUMBER NAME order`, with 3, for any other refusal of the order.
 ///
 /// The status is 3 too if the writer has failed.
 ///
-/// The bytes are held once, and the elements of the order. It waits for the readers and the writer. The observer gets the number of
-/// accepted events on the way.
+/// The bytes and the elements of the order are held once. Waits for the readers and the writer. The observer gets the number of accepted
+/// events.
 pub fn confirm_text<
     X: Wait,
     R: Read + Failed,
@@ -76,9 +76,9 @@ pub fn confirm_text<
     tell(rt, alloc, &found, writer)
 }
 
-/// Reads a recorded history and an order of its operations from two files: [`confirm_text`] of their bytes, with the same status, cost and
-/// waiting. A file that can't be opened is reported as `ReadFailed`, with status 3. The observer gets each read, and a failed one with the
-/// path.
+/// Reads a recorded history and an order of its operations from two files. Does the same as [`confirm_text`] of their bytes, with the same
+/// status, cost and waiting. A file that cannot be opened is reported as `ReadFailed`, with status 3. The observer gets each read, and a
+/// failed one with the path.
 pub fn confirm_file<X: Wait + Opens, W: Write + Failed + Flushes, L: Observer>(
     rt: &X,
     alloc: Global,
@@ -120,8 +120,8 @@ pub fn confirm_file<X: Wait + Opens, W: Write + Failed + Flushes, L: Observer>(
     }
 }
 
-/// Reads a recorded history from a reader and an order of its operations from a file: [`confirm_text`] of their bytes, with the same
-/// status, cost and waiting. The observer gets each read of the file, and a failed one with its path.
+/// Reads a recorded history from a reader and an order of its operations from a file. Does the same as [`confirm_text`] of their bytes,
+/// with the same status, cost and waiting. The observer gets each read of the file, and a failed one with its path.
 pub fn confirm_input<X: Wait + Opens, R: Read + Failed, W: Write + Failed + Flushes, L: Observer>(
     rt: &X,
     alloc: Global,

@@ -1,4 +1,4 @@
-//! What a reader has.
+//! Reads of a reader.
 ghost use Rattle.std.specs.Prelude.{◌≡◌, ◌<◌, ◌≤◌, ℕ, List, [], take, length, IfOk, OnOk, OnErr, IfErr, true, false, Ok};
 ghost use Rattle.std.specs.Io.KnownBytes.{Consumes, IsAtEnd};
 ghost use Rattle.line_loop.specs.Logs.{KeepsRead};
@@ -10,16 +10,16 @@ use std::alloc::Global;
 use std::io::{Read, Write};
 use std::sync::Wait;
 
-/// Bytes of one read at most.
+/// The maximum number of bytes of one read.
 pub(crate) const PIECE: usize = 8192;
 
-/// What one read brought.
+/// The result of one read.
 pub(crate) enum Brought {
     Piece(usize),
     End,
 }
 
-// One read. An error after which `failed()` is still false counts as 0 bytes.
+// Reads once. An error after which `failed()` is still false counts as a read of 0 bytes.
 fn read_some<R: Read + Failed>(reader: &mut R, piece: &mut [u8]) -> Result<Brought, Refusal>
     requires { 0 < length piece.old }
     ensures bound { (n : ℕ) → result ≡ Ok (Brought.Piece n) → n ≤ length piece.new }
@@ -49,7 +49,8 @@ fn read_some<R: Read + Failed>(reader: &mut R, piece: &mut [u8]) -> Result<Broug
     }
 }
 
-/// One read of a reader that has not failed, with a writer in this state. An error after which `failed()` is still false counts as 0 bytes.
+/// Reads once, while the log of the reader notes the state of `writer`. The reader has not failed before. An error after which `failed()`
+/// is still false counts as a read of 0 bytes.
 pub(crate) fn read_with_writer<R: ReadsWithWriter<W>, W: Write + Flushes>(
     reader: &mut R,
     writer: &W,
@@ -86,7 +87,7 @@ pub(crate) fn read_with_writer<R: ReadsWithWriter<W>, W: Write + Flushes>(
     }
 }
 
-// The refusal when memory is refused: that the reader has failed, if it has.
+// Returns the refusal after a failed allocation: `ReadFailed` if the reader has failed, otherwise `NoMemory`.
 fn want_of_memory<R: Failed>(reader: &R) -> Refusal
     ensures { MayStopReading result (R.has_failed reader.now) }
 {
@@ -97,11 +98,11 @@ fn want_of_memory<R: Failed>(reader: &R) -> Refusal
     }
 }
 
-/// All that the reader has, read to its end in pieces of 8,192 bytes. It costs O(bytes), and memory for them.
+/// Reads all bytes of the reader, in pieces of 8,192 bytes. Costs O(bytes) time and memory.
 ///
 /// # Errors
 ///
-/// `ReadFailed` if the reader has failed, and else `NoMemory` if memory is refused. Some of the bytes were then read.
+/// `ReadFailed` if the reader has failed, otherwise `NoMemory` if an allocation fails. Some of the bytes may have been read then.
 pub fn read_whole<X: Wait, R: Read + Failed>(
     rt: &X,
     alloc: Global,

@@ -1,4 +1,4 @@
-//! The texts on standard error, in addition to standard output.
+//! The texts on standard error.
 
 use crate::hints::hint_of;
 use crate::moving_line::MovingLine;
@@ -13,27 +13,27 @@ use std::io;
 use std::io::Eprint;
 use std::rt::Clock;
 
-// Events that may take a second to judge: that they are judged is then shown at once.
+// The number of events whose judgement may take a second. From this number on the program shows at once that it judges them.
 const MANY_EVENTS: usize = 1 << 12;
 
 // The counts of a script or of a recorded history. Each count is a cell of its own, since one grows with each line, and another with each
 // event.
 #[derive(Drop)]
 struct Tally {
-    // Lines of a script that came.
+    // The number of lines of a script.
     lines: Cell<u64>,
-    // Events that were read.
+    // The number of events that were read.
     events: Cell<u64>,
-    // Lines or events that were refused.
+    // The number of lines or events that were refused.
     refused: Cell<u64>,
-    // The first that was refused, and the number of its line, from 1 on.
+    // The first refusal, and the number of its line, from 1 on.
     first: Cell<Option<(u64, Refusal)>>,
-    // Whether that closed the script.
+    // Whether the first refusal closed the script.
     is_closed: Cell<bool>,
 }
 
 impl Tally {
-    // Of nothing that came.
+    // Returns the counts before any line.
     fn new() -> Tally {
         Tally {
             lines: Cell::new(0),
@@ -45,21 +45,21 @@ impl Tally {
     }
 }
 
-// One more.
+// Adds one to the count.
 fn count(counter: &Cell<u64>) {
     counter.set(counter.get().saturating_add(1));
 }
 
-/// Prints on standard error, in addition to standard output. At the end it prints how many lines of a script were refused, the usual cause
-/// of the first refusal, and a remark on the verdict.
+/// Prints on standard error. At the end it prints the number of refused lines of a script, the usual cause of the first refusal, and a
+/// remark on the verdict.
 ///
-/// If standard error is a terminal, one line says meanwhile how far a check has come. It is written over four times a second from the first
-/// second on; a run of clients has another such line.
+/// If standard error is a terminal, one line shows the progress of a check. It is overwritten four times a second from the first second on.
+/// A run of clients has another such line.
 #[derive(Drop)]
 pub struct OnStandardError<'a, X> {
     rt: &'a X,
     is_terminal: bool,
-    // How far a check has come.
+    // The line that shows the progress of a check.
     line: MovingLine<'a, X>,
     bytes: Cell<usize>,
     tally: Tally,
@@ -67,8 +67,8 @@ pub struct OnStandardError<'a, X> {
 }
 
 impl<'a, X: Clock + Eprint> OnStandardError<'a, X> {
-    /// An observer that has printed nothing yet. `is_terminal` says whether standard error is a terminal, for the whole run. Reads the
-    /// clock if it is one, and takes no memory.
+    /// Returns an observer that has printed nothing yet. `is_terminal` says whether standard error is a terminal, for the whole run. Reads
+    /// the clock if it is a terminal. Does not allocate.
     pub fn new(rt: &'a X, is_terminal: bool) -> Self {
         OnStandardError {
             rt,
@@ -80,13 +80,13 @@ impl<'a, X: Clock + Eprint> OnStandardError<'a, X> {
         }
     }
 
-    /// A line for how far a run of clients has come. It can be sent to the thread that shows it. It reads the clock where there is a
-    /// terminal, and takes no memory.
+    /// Returns a line for the progress of a run of clients, which can be sent to the thread that shows it. Reads the clock if there is a
+    /// terminal. Does not allocate.
     pub fn moving_line(&self) -> MovingLine<'a, X> {
         MovingLine::new(self.rt, self.is_terminal)
     }
 
-    /// Says what is left to say at the end of a run. It may wait for standard error, whose errors are passed over.
+    /// Prints the texts at the end of a run. It may wait for standard error, and ignores errors.
     pub fn end(&self) {
         if let Some((line, refusal)) = self.tally.first.get() {
             self.say_refused(line);
@@ -97,7 +97,7 @@ impl<'a, X: Clock + Eprint> OnStandardError<'a, X> {
         }
     }
 
-    // How many lines of a script were refused; or which line of a recorded history is not text.
+    // Prints how many lines of a script were refused, or which line of a recorded history is not text.
     fn say_refused(&self, line: u64) {
         let lines = self.tally.lines.get();
         let refused = self.tally.refused.get();
@@ -118,20 +118,20 @@ impl<'a, X: Clock + Eprint> OnStandardError<'a, X> {
         }
     }
 
-    // The usual cause of the refusal.
+    // Prints the usual cause of the refusal.
     fn say_hint(&self, refusal: &Refusal) {
         if let Some(hint) = hint_of(refusal.number()) {
             self.say(hint);
         }
     }
 
-    // Says it in a line of its own.
+    // Prints the text on a line of its own.
     fn say<D: Display + Drop>(&self, text: D) {
         let _ = self.rt.eprintln(text);
     }
 }
 
-// The number of the line that has the byte at this place.
+// Returns the number of the line that contains the byte at index `place`.
 fn line_of(bytes: &[u8], place: usize) -> u64 {
     let feeds = bytes
         .iter()

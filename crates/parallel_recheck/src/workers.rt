@@ -1,4 +1,4 @@
-//! Pieces of work, shared out among threads.
+//! Pieces of work, divided among threads.
 ghost use Rattle.std.specs.Prelude.{◌≡◌, ◌≢◌, ◌+◌, ◌<◌, ◌≤◌, ℕ, List, None, Some, All, length, map, replicate, slice_get, IfOk, OnOk};
 ghost use denote.Param.Send.{IsSync};
 ghost use Rattle.checkpoints.specs.KeyLineView.{KeyLineView};
@@ -11,18 +11,18 @@ use edn::Gate;
 use std::alloc::{AllocError, Global};
 use std::thread::{Threads, join};
 
-// A line, and the place of its piece.
+// A line, and the index of its piece.
 #[derive(Drop)]
 struct Placed {
     place: usize,
     line: KeyLine,
 }
 
-/// The lines of these pieces, in their order, made by 1 to 64 workers. Worker `i mod workers` makes the line of piece `i`. The last worker
+/// Returns the lines of the pieces in order, made by 1 to 64 workers. Worker `i mod workers` makes the line of piece `i`. The last worker
 /// is the calling thread, and each other worker has a thread of its own. If a thread cannot be started, the calling thread does its work.
 /// The lines are the same for each number of workers. Each line costs what [`KeyEvents::line`] costs, and the workers run at the same time.
 ///
-/// The gate is called at the begin and at the end of each piece, with the piece's place.
+/// The gate is called at the beginning and at the end of each piece, with the index of the piece.
 ///
 /// # Errors
 /// `AllocError` if an allocation fails, in any thread.
@@ -43,8 +43,8 @@ pub fn recheck<R: Threads + Sync, G: Gate + Sync>(
     in_order(alloc, slots)
 }
 
-// The lines of the workers from this one on. Each worker except the last one has a thread of its own, if one can be started. Else the
-// calling thread judges its pieces after its own.
+// Returns the lines of the workers from `worker` on. Each worker except the last one has a thread of its own, if one can be started.
+// Otherwise the calling thread judges its pieces after its own ones.
 fn judged_from<R: Threads + Sync, G: Gate + Sync>(
     rt: &R,
     alloc: Global,
@@ -77,7 +77,7 @@ fn judged_from<R: Threads + Sync, G: Gate + Sync>(
     Ok(all)
 }
 
-// The lines of one worker.
+// Returns the lines of one worker.
 fn judged_by<G: Gate>(
     alloc: Global,
     pieces: &[KeyEvents],
@@ -96,7 +96,7 @@ fn judged_by<G: Gate>(
     Ok(placed)
 }
 
-// Judges the piece at a place if it is one of this worker's.
+// Judges the piece at index `place` if it belongs to this worker.
 fn judge_own<G: Gate>(
     placed: &mut Vec<Placed>,
     pieces: &[KeyEvents],
@@ -121,7 +121,7 @@ fn judge_own<G: Gate>(
     Ok(())
 }
 
-// The line of the piece at a place. The gate is called round it.
+// Returns the line of the piece at index `place`. Calls the gate before and after it.
 fn judged_at<G: Gate>(
     alloc: Global,
     pieces: &[KeyEvents],
@@ -138,7 +138,7 @@ fn judged_at<G: Gate>(
     line
 }
 
-// Empty slots.
+// Returns `count` empty slots.
 fn slots_for(alloc: Global, count: usize) -> Result<Vec<Option<KeyLine>>, AllocError>
     ensures { IfOk result (λ slots. slots.items ≡ replicate count None) }
 {
@@ -149,7 +149,7 @@ fn slots_for(alloc: Global, count: usize) -> Result<Vec<Option<KeyLine>>, AllocE
     Ok(slots)
 }
 
-// Puts each line into the slot of its place.
+// Puts each line into its slot.
 fn fill(slots: &mut [Option<KeyLine>], mut placed: Vec<Placed>)
     requires { All (λ p. p.place < length slots.old) placed.items }
     ensures slots { (lines : List KeyLineView) → AreSlotsOf lines slots.old
@@ -161,7 +161,7 @@ fn fill(slots: &mut [Option<KeyLine>], mut placed: Vec<Placed>)
     }
 }
 
-// Puts a line into the slot of its place.
+// Puts a line into its slot.
 fn put(slots: &mut [Option<KeyLine>], placed: Placed)
     requires { placed.place < length slots.old }
     ensures slots { (lines : List KeyLineView) → AreSlotsOf lines slots.old
@@ -174,7 +174,7 @@ fn put(slots: &mut [Option<KeyLine>], placed: Placed)
     slots[place] = Some(line);
 }
 
-// The lines of all slots, in order. The slots are then empty.
+// Returns the lines of all slots in order, and leaves the slots empty.
 fn in_order(alloc: Global, slots: &mut [Option<KeyLine>]) -> Result<Vec<KeyLine>, AllocError>
     requires { AreFilled slots.old }
     ensures { (lines : List KeyLineView) → AreSlotsOf lines slots.old
@@ -188,7 +188,7 @@ fn in_order(alloc: Global, slots: &mut [Option<KeyLine>]) -> Result<Vec<KeyLine>
     Ok(lines)
 }
 
-// Takes the line out of the slot of a place.
+// Takes the line out of the slot at index `place`.
 fn line_in(slots: &mut [Option<KeyLine>], place: usize) -> KeyLine
     requires { IsFilled slots.old place }
     ensures line { slice_get slots.old place ≡ Some (Some result) }

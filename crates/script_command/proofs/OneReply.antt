@@ -3,7 +3,7 @@ use Rattle.std.proofs.Common.{◌≡◌, ⊎_elim, ℕ, Bool, true, false, List,
 use Rattle.std.specs.Prelude.{◌&&◌, Option, Some, None, Result, Ok, Err}
 use Rattle.std.proofs.lemmas.Bool.{cases_order}
 use Rattle.std.proofs.lemmas.Bool.Decides.{leb_tells}
-use Rattle.edn.specs.Value.{Value, nil, bool, int, text, keyword, vector, members, pairs, Values, none, more}
+use Rattle.edn_values.specs.Value.{Value, nil, bool, int, text, keyword, vector, members, pairs, Values, none, more}
 use Rattle.edn.specs.Text.{IsText, IsLongestTextPrefix}
 use Rattle.edn.specs.declared.refusal.Refusal.{Refusal}
 use Rattle.edn.specs.declared.refusal.Refusal.TheVariants.{BadValue, Unreadable}

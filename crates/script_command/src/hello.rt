@@ -1,4 +1,4 @@
-//! The line by which the program says its version, its kinds and its limits.
+//! The hello line, with the program's version, its kinds and its limits.
 ghost use Rattle.std.specs.Prelude.{◌≡◌};
 ghost use Rattle.script_command.specs.Hello.{hello_line};
 
@@ -47,8 +47,8 @@ pub const KINDS: &[ModelKind] = each_kind!(kinds_listed;);
 
 const HELLO: &str = each_kind!(hello_of_kinds;);
 
-/// The line by which the program says its version, its kinds and its limits, with its line feed. It is an EDN map, and the same for every
-/// object and history. It costs nothing.
+/// Returns the hello line with its line feed: an EDN map with the program's version, its kinds and its limits. It is the same for every
+/// object and history. Costs nothing.
 pub fn hello_text() -> &'static str
     ensures { result.now ≡ hello_line }
 {
