@@ -11,21 +11,13 @@ mod fifo_queues;
 #[cfg(test)]
 mod frontiers;
 #[cfg(test)]
-mod joins;
-#[cfg(test)]
 mod judge;
 #[cfg(test)]
 mod judge_rows;
 #[cfg(test)]
 mod judges;
 #[cfg(test)]
-mod key_lines;
-#[cfg(test)]
-mod plain;
-#[cfg(test)]
 mod registers;
-#[cfg(test)]
-mod rewinds;
 #[cfg(test)]
 mod sets;
 #[cfg(test)]

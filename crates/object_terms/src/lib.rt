@@ -14,8 +14,6 @@ mod scope;
 mod sort;
 mod sorting;
 mod term;
-#[cfg(test)]
-mod tests;
 
 pub use constants::constant;
 pub use fault::{Fault, refused};

@@ -4,7 +4,7 @@
 //! what it finds. `specs/Meaning.antt` defines the meaning, for every value of [`Rules`], accepted by a reader or not. A
 //! word that names nothing has no value, and a case with such a word does not hold.
 //!
-//! No call of this crate allocates, except for the tests.
+//! No call of this crate allocates.
 #![tactic(auto)]
 
 mod arithmetic;
@@ -15,8 +15,6 @@ mod laws;
 mod rule;
 mod rules;
 mod term;
-#[cfg(test)]
-mod tests;
 mod value;
 
 pub use finding::{Found, fits};

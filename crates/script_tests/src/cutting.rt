@@ -1,22 +1,22 @@
 //! One text in pieces of any size, and what is left of it where it is cut off.
 
-use crate::runs::script_of;
-use crate::streams::{LINES, narrow_writer};
+use crate::runs::{LINES, WELL, script_of};
+use crate::streams::Setup;
 use std::alloc::{AllocError, Global};
 use std::io::Eprint;
 use std::rt::Clock;
 use std::sync::Wait;
 
-// Whether these bytes, at most `size` of them a read, get this reply.
+// Whether this text, at most `size` bytes of it a read, gets this reply.
 fn is_replied<X: Wait + Clock + Eprint>(
     rt: &X,
     alloc: Global,
-    bytes: &[u8],
+    text: &'static [u8],
     size: usize,
     want: &[u8],
 ) -> bool {
-    let writer = narrow_writer(alloc, usize::MAX, false);
-    let (outcome, holds, _) = script_of(rt, alloc, bytes, size, writer, want);
+    let setup = Setup { text, size, ..WELL };
+    let (outcome, holds, _) = script_of(rt, alloc, false, &setup, want);
     outcome.is_ok() && holds
 }
 
@@ -38,11 +38,12 @@ fn wanted(alloc: Global, beginning: &[u8]) -> Result<Vec<u8>, AllocError> {
             want.extend_from_slice(b"legal\n")?;
         }
     }
-    match beginning.last() {
-        None | Some(b'\n') => {}
-        Some(b'}') => want.extend_from_slice(b"legal\n")?,
-        Some(_) => want.extend_from_slice(b"refused 11 Unreadable 0\n")?,
-    }
+    let rest: &[u8] = match beginning.last() {
+        None | Some(b'\n') => b"",
+        Some(b'}') => b"legal\n",
+        Some(_) => b"refused 11 Unreadable 0\n",
+    };
+    want.extend_from_slice(rest)?;
     Ok(want)
 }
 
@@ -50,10 +51,12 @@ fn wanted(alloc: Global, beginning: &[u8]) -> Result<Vec<u8>, AllocError> {
 fn is_replied_so<X: Wait + Clock + Eprint>(
     rt: &X,
     alloc: Global,
-    beginning: &[u8],
-) -> Result<bool, AllocError> {
-    let want = wanted(alloc, beginning)?;
-    Ok(is_replied(rt, alloc, beginning, 7, want.as_slice()))
+    beginning: &'static [u8],
+) -> bool {
+    match wanted(alloc, beginning) {
+        Ok(want) => is_replied(rt, alloc, beginning, 7, want.as_slice()),
+        Err(_) => false,
+    }
 }
 
 /// Cut off at each byte: the lines before have their replies, and the last one has what its beginning gets.
@@ -61,7 +64,7 @@ fn is_replied_so<X: Wait + Clock + Eprint>(
 fn cut_off_at_each_byte(rt: HostRuntime) {
     for n in 0..=LINES.len() {
         assert!(rt;
-            matches!(is_replied_so(&rt, rt.alloc(), &LINES[..n]), Ok(true)),
+            is_replied_so(&rt, rt.alloc(), &LINES[..n]),
             "cut off after {n} bytes"
         );
     }

@@ -1,13 +1,8 @@
 //! Readers and writers that fail, where the bytes that must be written by then are known.
 
-use crate::runs::{check_of_broken, check_of_lines, script_by, script_of, script_of_broken};
-use crate::streams::{LINES, narrow_writer, unflushed_writer, witness_reader};
+use crate::runs::{LINES, WELL, check_of, is_answered_at_once, script_of};
+use crate::streams::Setup;
 use edn::Refusal;
-use linspec::Verdict;
-use std::alloc::Global;
-use std::io::Eprint;
-use std::rt::Clock;
-use std::sync::Wait;
 
 // The first two lines, and a part of the third.
 const CUT: usize = 120;
@@ -18,8 +13,12 @@ const TWO: &[u8] = b"legal\nlegal\n";
 #[test]
 fn failing_writer(rt: HostRuntime) {
     for fails in [false, true] {
-        let writer = narrow_writer(rt.alloc(), 10, fails);
-        let told = script_of(&rt, rt.alloc(), LINES, LINES.len(), writer, b"legal\nlega");
+        let setup = Setup {
+            room: 10,
+            fails,
+            ..WELL
+        };
+        let told = script_of(&rt, rt.alloc(), false, &setup, b"legal\nlega");
         assert!(rt;
             matches!(told, (Err(Refusal::WriteFailed), true, _)),
             "fails: {fails}"
@@ -27,64 +26,77 @@ fn failing_writer(rt: HostRuntime) {
     }
 }
 
+const BROKEN: Setup = Setup {
+    size: 7,
+    good: CUT,
+    ..WELL
+};
+
 const READ_FAILED: &[u8] = b"refused 20 ReadFailed\n";
 
 /// A reader that fails within the third line: the two before it have their replies, and a check is refused.
 #[test]
 fn failing_reader(rt: HostRuntime) {
-    let told = script_of_broken(&rt, rt.alloc(), false, &LINES[..CUT], 7, TWO);
+    let told = script_of(&rt, rt.alloc(), false, &BROKEN, TWO);
     assert!(rt; matches!(told, (Err(Refusal::ReadFailed), true, _)));
-    let (status, ends, len) = check_of_broken(&rt, rt.alloc(), &LINES[..CUT], 7, READ_FAILED);
-    assert!(rt; status == 3 && ends && len == READ_FAILED.len());
+    let told = check_of(&rt, rt.alloc(), &BROKEN, READ_FAILED);
+    assert!(rt; told == (3, true, READ_FAILED.len()));
 }
+
+const BROKEN_BEHIND_LINES: Setup = Setup {
+    size: CUT,
+    ..BROKEN
+};
 
 /// A reader that fails in the midst of a line, where whole lines came in the read before: they have their replies, flushed, and
 /// the line that was begun has none.
 #[test]
 fn failing_reader_behind_whole_lines(rt: HostRuntime) {
-    let told = script_of_broken(&rt, rt.alloc(), false, &LINES[..CUT], CUT, TWO);
+    let told = script_of(&rt, rt.alloc(), false, &BROKEN_BEHIND_LINES, TWO);
     assert!(rt; matches!(told, (Err(Refusal::ReadFailed), true, 12)));
 }
+
+const UNFLUSHED: Setup = Setup {
+    size: CUT,
+    flush_fails: true,
+    ..WELL
+};
+
+const UNFLUSHED_WHOLE: Setup = Setup {
+    size: usize::MAX,
+    ..UNFLUSHED
+};
 
 /// A writer that takes all bytes and fails at the flush alone: a script ends with the replies to the lines of one read, and a
 /// check with 3, whatever the verdict is.
 #[test]
 fn failing_flush(rt: HostRuntime) {
-    let told = script_of(
-        &rt,
-        rt.alloc(),
-        LINES,
-        CUT,
-        unflushed_writer(rt.alloc()),
-        TWO,
-    );
+    let told = script_of(&rt, rt.alloc(), false, &UNFLUSHED, TWO);
     assert!(rt; matches!(told, (Err(Refusal::WriteFailed), true, _)));
-    let told = check_of_lines(&rt, rt.alloc(), unflushed_writer(rt.alloc()), b"\nlegal\n");
+    let told = check_of(&rt, rt.alloc(), &UNFLUSHED_WHOLE, b"\nlegal\n");
     assert!(rt; matches!(told, (3, true, _)));
-}
-
-// Whether a script, with at most `size` bytes a read, is legal, and each line was answered at the next read.
-fn is_answered_at_once<X: Wait + Clock + Eprint>(rt: &X, alloc: Global, size: usize) -> bool {
-    let mut reader = witness_reader(LINES, size);
-    let writer = narrow_writer(alloc, usize::MAX, false);
-    let (outcome, _, _) = script_by(rt, alloc, false, &mut reader, writer, b"");
-    matches!(outcome, Ok(Some(Verdict::Legal))) && reader.was_answered
 }
 
 /// At each read the writer has the replies to all lines that were read before, and they are flushed.
 #[test]
 fn no_reply_is_held_back(rt: HostRuntime) {
     for size in [1, 7, CUT, LINES.len()] {
-        assert!(rt; is_answered_at_once(&rt, rt.alloc(), size), "by {size}");
+        let setup = Setup { size, ..WELL };
+        assert!(rt; is_answered_at_once(&rt, rt.alloc(), &setup), "by {size}");
     }
 }
 
-const REFUSED: &[u8] = b"[:verdict]\n[:rewind 1]\n[:verdict]\n[:verdict]\n";
+const REFUSED: Setup = Setup {
+    text: b"[:verdict]\n[:rewind 1]\n[:verdict]\n[:verdict]\n",
+    size: 7,
+    good: 45,
+    ..WELL
+};
 
 /// A strict script ends at its first refusal: the lines behind it have no reply, and the reader's failure is not met.
 #[test]
 fn strict_ends_at_a_refusal(rt: HostRuntime) {
     let held = b"legal\nrefused 8 NoSuchIndex\n";
-    let told = script_of_broken(&rt, rt.alloc(), true, REFUSED, 7, held);
+    let told = script_of(&rt, rt.alloc(), true, &REFUSED, held);
     assert!(rt; matches!(told, (Ok(None), true, _)));
 }

@@ -1,12 +1,10 @@
 //! The loop over lines, with readers and writers that give or take little, stutter and fail. The built program shows the rest.
-ghost use Rattle.std.specs.Prelude.{◌≡◌, nat_le, false, None, OnOk};
-ghost use Rattle.std.specs.Io.{ReadsAtMost};
-ghost use Rattle.std.specs.Io.KnownBytes.{ReadConsumes};
+ghost use Rattle.std.specs.Prelude.{◌≡◌, nat_le};
 
-use line_loop::{Failed, LineMachine, ReadsWithWriter, Watched, answer_lines};
+use crate::runs::WELL;
+use crate::streams::{Setup, drip_of, narrow_of};
+use line_loop::{LineMachine, answer_lines};
 use std::alloc::{AllocError, Global};
-use std::io;
-use std::io::{ErrorKind, Read, Write};
 use std::sync::Wait;
 
 // Answers a line by itself, and an empty line by nothing. At the end it says how many lines there were. So many close it, and
@@ -55,123 +53,13 @@ impl LineMachine for Echo {
     }
 }
 
-// Gives one byte a read. At a place there is an error, once, after which it has failed or not. It reports whether the writer had all
-// replies at each read: one for each line before that has a byte, and flushed.
-#[derive(Drop)]
-struct Drip<'a> {
-    bytes: &'a [u8],
-    at: usize,
-    error_at: usize,
-    is_failure: bool,
-    has_failed: bool,
-    was_answered: bool,
-}
-
-impl<'a> Read for Drip<'a> {
-    fn read(&mut self, buf: &mut [u8]) -> io::Result<usize>
-        ensures bound { ReadsAtMost result buf.new }
-        ensures bytes { ReadConsumes None None result buf.new }
-        ensures well { OnOk result (self.new.has_failed ≡ self.old.has_failed) }
-    {
-        if self.at == self.error_at {
-            self.error_at = usize::MAX;
-            self.has_failed = self.is_failure;
-            return Err(ErrorKind::Other.into());
-        }
-        if self.at >= self.bytes.len() || buf.is_empty() {
-            return Ok(0);
-        }
-        buf[0] = self.bytes[self.at];
-        self.at += 1;
-        Ok(1)
-    }
-}
-
-impl<'a> Failed for Drip<'a> {
-    ghost has_failed = { λ drip. drip.has_failed };
-
-    fn failed(&self) -> bool {
-        self.has_failed
-    }
-}
-
-impl<'a> ReadsWithWriter<Watched<Narrow>> for Drip<'a> {
-    fn read_with_writer(&mut self, writer: &Watched<Narrow>, buf: &mut [u8]) -> io::Result<usize> {
-        let narrow = writer.inner();
-        if narrow.flushed != narrow.held.len() || narrow.flushed != answered(self.bytes, self.at) {
-            self.was_answered = false;
-        }
-        self.read(buf)
-    }
-}
-
-// How many bytes the replies to the lines have that end before this place.
-fn answered(bytes: &[u8], at: usize) -> usize {
-    let mut all: usize = 0;
-    let mut line: usize = 0;
-    for byte in bytes.iter().take(at) {
-        if *byte != b'\n' {
-            line = line.saturating_add(1);
-        } else if line > 0 {
-            all = all.saturating_add(line).saturating_add(1);
-            line = 0;
-        }
-    }
-    all
-}
-
-// Takes this number of bytes in all, and then none, or fails. It counts the flushes, and the bytes written before the last.
-#[derive(Drop)]
-struct Narrow {
-    held: Vec<u8>,
-    room: usize,
-    fails: bool,
-    flushes: u32,
-    flushed: usize,
-}
-
-impl Write for Narrow {
-    fn write(&mut self, buf: &[u8]) -> io::Result<usize> {
-        let n = buf.len().min(self.room);
-        if n == 0 && self.fails {
-            return Err(ErrorKind::Other.into());
-        }
-        self.held.extend_from_slice(&buf[..n])?;
-        self.room = self.room.saturating_sub(n);
-        Ok(n)
-    }
-
-    fn flush(&mut self) -> io::Result<()> {
-        self.flushes = self.flushes.saturating_add(1);
-        self.flushed = self.held.len();
-        Ok(())
-    }
-}
-
-fn narrow_writer(alloc: Global, room: usize, fails: bool) -> Watched<Narrow>
-    ensures { result.has_failed ≡ false }
-{
-    Watched::new(Narrow {
-        held: Vec::new(alloc),
-        room,
-        fails,
-        flushes: 0,
-        flushed: 0,
-    })
-}
-
-fn drip_reader(error_at: usize, is_failure: bool) -> Drip<'static>
-    ensures { result.has_failed ≡ false }
-{
-    Drip {
-        bytes: b"a\n\nb\nlast",
-        at: 0,
-        error_at,
-        is_failure,
-        has_failed: false,
-        was_answered: true,
-    }
-}
+// One byte a read.
+const ECHOED: Setup = Setup {
+    text: b"a\n\nb\nlast",
+    size: 1,
+    is_failure: false,
+    ..WELL
+};
 
 // How many lines close the machine; where the reader has an error, and whether that is a failure; how much the writer takes, and whether it
 // then fails. Then the results: the lines at the end or the refusal's number, the output, and the number of flushes: once for each read
@@ -203,9 +91,16 @@ const ROWS: [Row; 9] = [
 ];
 
 fn goes<X: Wait>(rt: &X, alloc: Global, row: &Row) -> bool {
-    let (most, error_at, is_failure, room, fails, want, written, flushes) = *row;
-    let mut reader = drip_reader(error_at, is_failure);
-    let mut writer = narrow_writer(alloc, room, fails);
+    let (most, good, is_failure, room, fails, want, written, flushes) = *row;
+    let setup = Setup {
+        good,
+        is_failure,
+        room,
+        fails,
+        ..ECHOED
+    };
+    let mut reader = drip_of(&setup, 0);
+    let mut writer = narrow_of(alloc, &setup);
     let echo = Echo { lines: 0, most };
     let outcome = answer_lines(rt, alloc, echo, &mut reader, &mut writer);
     let narrow = writer.inner();

@@ -1,9 +1,11 @@
 //! The result of a script or a check as plain data.
 ghost use Rattle.std.specs.Prelude.{◌≡◌, false};
 
-use crate::streams::{Drip, LINES, Narrow, broken_reader, config, drip_reader, narrow_writer};
+use crate::streams::{Narrow, Setup, drip_of, narrow_of};
 use check_command::check_text;
 use edn::Refusal;
+use harness::Config;
+use kinds::ModelKind;
 use line_loop::{ReadsWithWriter, Watched};
 use linspec::Verdict;
 use observers::OnStandardError;
@@ -14,22 +16,42 @@ use std::rt::Clock;
 use std::sync::Wait;
 use std::thread::Threads;
 
+/// A write and a read of its value, of a script of two threads whose keys are registers.
+pub const LINES: &[u8] = b"{:type :invoke, :process 0, :f :write, :value [7 3]}
+{:type :ok, :process 0, :f :write, :value [7 3]}
+{:type :invoke, :process 0, :f :read, :value [7 nil]}
+{:type :ok, :process 0, :f :read, :value [7 3]}
+";
+
+/// All lines are read at once, and all bytes are written.
+pub const WELL: Setup = Setup {
+    text: LINES,
+    size: usize::MAX,
+    good: usize::MAX,
+    is_failure: true,
+    room: usize::MAX,
+    fails: false,
+    flush_fails: false,
+};
+
+fn config(alloc: Global) -> Config {
+    Config::judging_only(alloc, 2, ModelKind::Register, 4096)
+}
+
 /// The outcome of a script; whether the writer then holds what it was to hold; and how many bytes are flushed.
 pub type Told = (Result<Option<Verdict>, Refusal>, bool, usize);
 
-/// Runs a script by this reader and this writer.
-pub fn script_by<X: Wait + Clock + Eprint, R: ReadsWithWriter<Watched<Narrow>>>(
+fn script_by<X: Wait + Clock + Eprint, R: ReadsWithWriter<Watched<Narrow>>>(
     rt: &X,
     alloc: Global,
     is_strict: bool,
     reader: &mut R,
-    writer: Watched<Narrow>,
+    setup: &Setup,
     held: &[u8],
 ) -> Told
     requires reads { R.has_failed reader.old ≡ false }
-    requires writes { writer.has_failed ≡ false }
 {
-    let mut writer = writer;
+    let mut writer = narrow_of(alloc, setup);
     let nobody = OnStandardError::new(rt, false);
     let config = config(alloc);
     let outcome = run_script(rt, alloc, config, is_strict, reader, &mut writer, &nobody);
@@ -37,82 +59,37 @@ pub fn script_by<X: Wait + Clock + Eprint, R: ReadsWithWriter<Watched<Narrow>>>(
     (outcome, narrow.held.as_slice() == held, narrow.flushed)
 }
 
-/// For a reader of these bytes, at most `size` of them a read.
+/// Runs a script, strict or not, with a watched reader.
 pub fn script_of<X: Wait + Clock + Eprint>(
     rt: &X,
     alloc: Global,
-    bytes: &[u8],
-    size: usize,
-    writer: Watched<Narrow>,
-    held: &[u8],
-) -> Told
-    requires writes { writer.has_failed ≡ false }
-{
-    let mut reader = drip_reader(bytes, size);
-    script_by(rt, alloc, false, &mut reader, writer, held)
-}
-
-/// For one that fails behind them, to a writer that takes all.
-pub fn script_of_broken<X: Wait + Clock + Eprint>(
-    rt: &X,
-    alloc: Global,
     is_strict: bool,
-    bytes: &[u8],
-    size: usize,
+    setup: &Setup,
     held: &[u8],
 ) -> Told {
-    let mut reader = broken_reader(bytes, size);
-    let writer = narrow_writer(alloc, usize::MAX, false);
-    script_by(rt, alloc, is_strict, &mut reader, writer, held)
+    let mut reader = Watched::new(drip_of(setup, 0));
+    script_by(rt, alloc, is_strict, &mut reader, setup, held)
 }
 
-/// The status of a check by this reader and this writer; whether the writer then holds these bytes at its end; and how many it
-/// holds.
-pub fn check_by<X: Wait + Threads + Sync + Clock + Eprint>(
-    rt: &X,
-    alloc: Global,
-    reader: &mut Watched<Drip<'_>>,
-    writer: Watched<Narrow>,
-    end: &[u8],
-) -> (u8, bool, usize)
-    requires reads { reader.old.has_failed ≡ false }
-    requires writes { writer.has_failed ≡ false }
-{
-    let mut writer = writer;
-    let nobody = OnStandardError::new(rt, false);
-    let config = config(alloc);
-    let status = check_text(rt, alloc, config, 1, reader, &mut writer, &nobody);
-    let held = writer.inner().held.as_slice();
-    (status, held.ends_with(end), held.len())
+/// Whether a script is legal, and each line was answered by `legal` at the next read.
+pub fn is_answered_at_once<X: Wait + Clock + Eprint>(rt: &X, alloc: Global, setup: &Setup) -> bool {
+    let mut reader = drip_of(setup, 6);
+    let (outcome, _, _) = script_by(rt, alloc, false, &mut reader, setup, b"");
+    matches!(outcome, Ok(Some(Verdict::Legal))) && reader.was_answered
 }
 
-/// For a reader of these bytes, at most `size` of them a read, that fails behind them; to a writer that takes all.
-pub fn check_of_broken<X: Wait + Threads + Sync + Clock + Eprint>(
+/// The status of a check; whether the writer then holds these bytes at its end; and how many it holds.
+pub fn check_of<X: Wait + Threads + Sync + Clock + Eprint>(
     rt: &X,
     alloc: Global,
-    bytes: &[u8],
-    size: usize,
+    setup: &Setup,
     end: &[u8],
 ) -> (u8, bool, usize) {
-    let mut reader = broken_reader(bytes, size);
-    check_by(
-        rt,
-        alloc,
-        &mut reader,
-        narrow_writer(alloc, usize::MAX, false),
-        end,
-    )
-}
-
-/// For a reader of all lines.
-pub fn check_of_lines<X: Wait + Threads + Sync + Clock + Eprint>(
-    rt: &X,
-    alloc: Global,
-    writer: Watched<Narrow>,
-    end: &[u8],
-) -> (u8, bool, usize)
-    requires writes { writer.has_failed ≡ false }
-{
-    let mut reader = drip_reader(LINES, LINES.len());
-    check_by(rt, alloc, &mut reader, writer, end)
+    let mut reader = Watched::new(drip_of(setup, 0));
+    let mut writer = narrow_of(alloc, setup);
+    let nobody = OnStandardError::new(rt, false);
+    let config = config(alloc);
+    let status = check_text(rt, alloc, config, 1, &mut reader, &mut writer, &nobody);
+    let held = writer.inner().held.as_slice();
+    (status, held.ends_with(end), held.len())
 }

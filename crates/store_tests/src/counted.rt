@@ -38,11 +38,11 @@ pub enum Answer {
     Other,
 }
 
-pub fn told(outcome: Result<Outcome, AllocError>) -> Answer {
+pub fn told(outcome: &Result<Outcome, AllocError>) -> Answer {
     match outcome {
         Ok(Outcome::Done(Found::Unit)) => Answer::Done,
-        Ok(Outcome::Done(Found::Reg(value))) => Answer::Found(value),
-        Ok(Outcome::Done(Found::Item(value))) => Answer::Item(value),
+        Ok(Outcome::Done(Found::Reg(value))) => Answer::Found(*value),
+        Ok(Outcome::Done(Found::Item(value))) => Answer::Item(*value),
         Ok(Outcome::Refused) => Answer::Refused,
         Ok(Outcome::Lost) => Answer::Lost,
         _ => Answer::Other,
@@ -95,7 +95,7 @@ impl Counted {
         versions_law();
         let outcome = self.store.serve(entry, &Op { name, key: 7, part });
         self.serves += 1;
-        told(outcome)
+        told(&outcome)
     }
 
     fn strike(&mut self, fault: &Fault) -> Answer {

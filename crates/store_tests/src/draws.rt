@@ -1,10 +1,12 @@
 //! Draws by hand.
+use crate::forms::{Form, Kind, MEMORY, cycle_of, generator_of};
 use events::Fault;
-use generators::{Asker, Cycle, Drawn, Gen, Item, Source};
-use models::{Name, Op, Part};
+use generators::{Asker, Drawn, Item, Source};
 use rand_chacha::ChaCha8Rng;
 use rand_core::{Rng, SeedableRng};
-use std::alloc::{AllocError, Global};
+use std::alloc::Global;
+use std::panic::Expect;
+use std::process::Abort;
 
 const BOTH: [bool; 2] = [true, true];
 
@@ -12,21 +14,8 @@ const ZERO: Asker = Asker::Thread(0);
 
 const ONE: Asker = Asker::Thread(1);
 
-fn write() -> Item {
-    Item::Op(Op {
-        name: Name::Write,
-        key: 0,
-        part: Part::Int(1),
-    })
-}
-
-fn read() -> Item {
-    Item::Op(Op {
-        name: Name::Read,
-        key: 0,
-        part: Part::Nil,
-    })
-}
+// Which threads are idle, the asker, and what is drawn.
+type Row = ([bool; 2], Asker, &'static str);
 
 // The answer of a draw, in a word.
 fn word(drawn: &Drawn) -> &'static str {
@@ -46,191 +35,189 @@ fn drawn(source: &mut Source, idle: &[bool], asker: Asker) -> &'static str {
     }
 }
 
-// Whether each asker in turn, while both threads are idle, draws what its row says.
-fn follows(source: &mut Source, rows: &[(Asker, &'static str)]) -> bool {
-    for &(asker, want) in rows {
-        if drawn(source, &BOTH, asker) != want {
+fn source_of<R: Abort>(rt: &R, alloc: Global, seed: u64, forms: &[Form]) -> Source {
+    Source::new(alloc, generator_of(rt, alloc, forms), seed)
+}
+
+// Whether a draw for each row, in turn, is what the row says.
+fn draws(source: &mut Source, rows: &[Row]) -> bool {
+    for (idle, asker, want) in rows {
+        if drawn(source, idle, *asker) != *want {
             return false;
         }
     }
     true
 }
 
-// The same of a new source, and the place of its stream then.
-fn followed(
-    source: Result<Source, AllocError>,
-    rows: &[(Asker, &'static str)],
-) -> Result<(bool, u128), AllocError> {
-    let mut source = source?;
-    let follows = follows(&mut source, rows);
-    Ok((follows, source.place()))
+// The same of a new source, and the places of it and of a copy then.
+fn followed<R: Abort>(
+    rt: &R,
+    alloc: Global,
+    seed: u64,
+    forms: &[Form],
+    rows: &[Row],
+) -> (bool, u128, u128) {
+    let mut source = source_of(rt, alloc, seed, forms);
+    let follows = draws(&mut source, rows);
+    let copy = source.copy().expect(rt, MEMORY);
+    (follows, source.place(), copy.place())
 }
 
-fn writes_and_reads(alloc: Global) -> Result<Cycle, AllocError> {
-    Ok(Cycle::new(vec![in alloc; write(), read()]?))
-}
-
-fn only(alloc: Global, item: Item) -> Result<Gen, AllocError> {
-    Ok(Gen::Ops(Cycle::new(vec![in alloc; item]?)))
-}
-
-fn limit(alloc: Global, most: u64, child: Gen) -> Result<Gen, AllocError> {
-    Ok(Gen::Limit(most, Box::new(alloc, child)?))
+fn follows<R: Abort>(rt: &R, alloc: Global, forms: &[Form], rows: &[Row]) -> bool {
+    let (follows, _, _) = followed(rt, alloc, 0, forms, rows);
+    follows
 }
 
 // The first three of writes and reads in turn.
-fn three_of_two(alloc: Global) -> Result<Source, AllocError> {
-    let both = Gen::Ops(writes_and_reads(alloc)?);
-    Ok(Source::new(alloc, limit(alloc, 3, both)?, 0))
-}
+const THREE_OF_TWO: [Form; 2] = [Form::Ops(&[Kind::Write, Kind::Read]), Form::Limit(3)];
+
+const OF_THREE: [Row; 4] = [
+    (BOTH, ZERO, "write"),
+    (BOTH, ZERO, "read"),
+    (BOTH, ZERO, "write"),
+    (BOTH, ZERO, "done"),
+];
 
 #[test]
 fn limit_and_cycle(rt: HostRuntime) {
-    let rows = &[
-        (ZERO, "write"),
-        (ZERO, "read"),
-        (ZERO, "write"),
-        (ZERO, "done"),
-    ];
-    assert!(rt; followed(three_of_two(rt.alloc()), rows) == Ok((true, 0)));
+    assert!(rt; followed(&rt, rt.alloc(), 0, &THREE_OF_TWO, &OF_THREE) == (true, 0, 0));
 }
 
 // A write and then reads, in phases.
-fn phases(alloc: Global) -> Result<Source, AllocError> {
-    let first = limit(alloc, 1, only(alloc, write())?)?;
-    let children = vec![in alloc; first, only(alloc, read())?]?;
-    Ok(Source::new(alloc, Gen::Phases(children), 0))
-}
+const PHASES: [Form; 4] = [
+    Form::Ops(&[Kind::Write]),
+    Form::Limit(1),
+    Form::Ops(&[Kind::Read]),
+    Form::Phases,
+];
 
-// The drawn item, by who is idle and by the asker.
-const PHASES: [([bool; 2], Asker, &str); 3] = [
+const IN_PHASES: [Row; 3] = [
     (BOTH, ZERO, "write"),
     ([false, true], ONE, "pending"),
     (BOTH, ONE, "read"),
 ];
 
-fn wait_for_idle(alloc: Global) -> Result<bool, AllocError> {
-    let mut source = phases(alloc)?;
-    for (idle, asker, want) in PHASES {
-        if drawn(&mut source, &idle, asker) != want {
-            return Ok(false);
-        }
-    }
-    Ok(true)
-}
-
 #[test]
 fn phases_wait_for_idle(rt: HostRuntime) {
-    assert!(rt; wait_for_idle(rt.alloc()) == Ok(true));
+    assert!(rt; follows(&rt, rt.alloc(), &PHASES, &IN_PHASES));
 }
 
 // A read for each thread.
-fn read_each(alloc: Global) -> Result<Source, AllocError> {
-    let child = limit(alloc, 1, only(alloc, read())?)?;
-    Ok(Source::new(alloc, Gen::each_thread(alloc, 2, child)?, 0))
-}
+const READ_EACH: [Form; 3] = [Form::Ops(&[Kind::Read]), Form::Limit(1), Form::EachOfTwo];
+
+const FOR_EACH: [Row; 5] = [
+    (BOTH, ZERO, "read"),
+    (BOTH, ZERO, "pending"),
+    (BOTH, ONE, "read"),
+    (BOTH, ZERO, "done"),
+    (BOTH, Asker::Nemesis, "done"),
+];
 
 #[test]
 fn each_thread_once(rt: HostRuntime) {
-    let rows = &[
-        (ZERO, "read"),
-        (ZERO, "pending"),
-        (ONE, "read"),
-        (ZERO, "done"),
-        (Asker::Nemesis, "done"),
-    ];
-    assert!(rt; matches!(followed(read_each(rt.alloc()), rows), Ok((true, _))));
+    assert!(rt; follows(&rt, rt.alloc(), &READ_EACH, &FOR_EACH));
 }
 
 // A heal of the nemesis, and then reads of the clients.
-fn heal_then_reads(alloc: Global) -> Result<Source, AllocError> {
-    let heals = Gen::Nemesis(Box::new(alloc, only(alloc, Item::Fault(Fault::Heal))?)?);
-    let heal = limit(alloc, 1, heals)?;
-    let clients = Gen::Clients(Box::new(alloc, only(alloc, read())?)?);
-    let children = vec![in alloc; heal, clients]?;
-    Ok(Source::new(alloc, Gen::Seq(children), 0))
-}
+const HEAL_THEN_READS: [Form; 6] = [
+    Form::Ops(&[Kind::Heal]),
+    Form::Nemesis,
+    Form::Limit(1),
+    Form::Ops(&[Kind::Read]),
+    Form::Clients,
+    Form::Seq,
+];
+
+const IN_SEQUENCE: [Row; 4] = [
+    (BOTH, ZERO, "pending"),
+    (BOTH, Asker::Nemesis, "heal"),
+    (BOTH, ZERO, "read"),
+    (BOTH, Asker::Nemesis, "done"),
+];
 
 #[test]
 fn nemesis_then_clients(rt: HostRuntime) {
-    let rows = &[
-        (ZERO, "pending"),
-        (Asker::Nemesis, "heal"),
-        (ZERO, "read"),
-        (Asker::Nemesis, "done"),
-    ];
-    assert!(rt; matches!(followed(heal_then_reads(rt.alloc()), rows), Ok((true, _))));
-}
-
-fn empty(alloc: Global) -> Gen {
-    Gen::Ops(Cycle::new(Vec::new(alloc)))
+    assert!(rt; follows(&rt, rt.alloc(), &HEAL_THEN_READS, &IN_SEQUENCE));
 }
 
 // A mix of an inner mix that gives nothing, and of reads.
-fn mixed_with_nothing(alloc: Global, seed: u64) -> Result<Source, AllocError> {
-    let inner = Gen::Mix(vec![in alloc; empty(alloc)]?);
-    let children = vec![in alloc; inner, only(alloc, read())?]?;
-    Ok(Source::new(alloc, Gen::Mix(children), seed))
+const MIXED_WITH_NOTHING: [Form; 4] = [
+    Form::Ops(&[]),
+    Form::Mix,
+    Form::Ops(&[Kind::Read]),
+    Form::Mix,
+];
+
+const A_READ: [Row; 1] = [(BOTH, ZERO, "read")];
+
+// The place of the stream after a read of that: the inner mix takes a word of its own where it is asked first.
+fn place_of(seed: u64) -> u128 {
+    if ChaCha8Rng::seed_from_u64(seed).next_u32() % 2 == 0 {
+        2
+    } else {
+        1
+    }
 }
 
-// The drawn item, and the places of the source and of its copy then.
-fn first_of_mix(alloc: Global, seed: u64) -> Result<(&'static str, u128, u128), AllocError> {
-    let mut source = mixed_with_nothing(alloc, seed)?;
-    let found = drawn(&mut source, &BOTH, ZERO);
-    let copy = source.copy()?;
-    Ok((found, source.place(), copy.place()))
-}
-
-// An inner mix that gives nothing takes a word of its own where it is asked first.
 #[test]
 fn mix_moves_the_stream(rt: HostRuntime) {
     for seed in 0..16 {
-        let first = ChaCha8Rng::seed_from_u64(seed).next_u32();
-        let place = if first % 2 == 0 { 2 } else { 1 };
-        assert!(rt;
-            first_of_mix(rt.alloc(), seed) == Ok(("read", place, place)),
-            "{seed}"
-        );
+        let place = place_of(seed);
+        let told = followed(&rt, rt.alloc(), seed, &MIXED_WITH_NOTHING, &A_READ);
+        assert!(rt; told == (true, place, place), "{seed}");
     }
 }
+
+const NOTHING: [Form; 1] = [Form::Ops(&[])];
 
 #[test]
 fn empty_ops_is_done(rt: HostRuntime) {
-    let source = Ok(Source::new(rt.alloc(), empty(rt.alloc()), 0));
-    assert!(rt; matches!(followed(source, &[(ZERO, "done")]), Ok((true, _))));
+    assert!(rt; follows(&rt, rt.alloc(), &NOTHING, &[(BOTH, ZERO, "done")]));
 }
 
 // A mix of two, so that the order of the answers is that of the stream.
-fn mixed(alloc: Global, seed: u64) -> Result<Source, AllocError> {
-    let children = vec![in alloc; only(alloc, write())?, only(alloc, read())?]?;
-    let generator = limit(alloc, 40, Gen::Mix(children))?;
-    Ok(Source::new(alloc, generator, seed))
-}
+const MIXED: [Form; 4] = [
+    Form::Ops(&[Kind::Write]),
+    Form::Ops(&[Kind::Read]),
+    Form::Mix,
+    Form::Limit(40),
+];
 
-// The word that a draw answers where it asks first whom the stream's word says.
-fn asked_by(word: u32) -> &'static str {
-    if word % 2 == 0 { "write" } else { "read" }
-}
-
-// Whether 40 draws are those of the words of the seed, each at its place, and nothing is drawn behind them.
-fn draws_of_words(alloc: Global) -> Result<bool, AllocError> {
-    let mut source = mixed(alloc, 7)?;
-    let mut words = ChaCha8Rng::seed_from_u64(7);
-    for before in 0..40u64 {
-        if source.place() != u128::from(before) {
-            return Ok(false);
-        }
-        if drawn(&mut source, &BOTH, ZERO) != asked_by(words.next_u32()) {
-            return Ok(false);
+// The words that 40 draws answer, each of which asks first whom the low bit of a word of the seed says.
+fn asked_by(seed: u64) -> [&'static str; 40] {
+    let mut words = ChaCha8Rng::seed_from_u64(seed);
+    let mut asked = ["write"; 40];
+    for word in asked.iter_mut() {
+        if words.next_u32() % 2 == 1 {
+            *word = "read";
         }
     }
-    Ok(drawn(&mut source, &BOTH, ZERO) == "done" && source.place() == 40)
+    asked
+}
+
+// Whether the draws are these, each at its place.
+fn are_drawn(source: &mut Source, wants: &[&str]) -> bool {
+    for (place, want) in wants.iter().enumerate() {
+        if source.place() != place as u128 || drawn(source, &BOTH, ZERO) != *want {
+            return false;
+        }
+    }
+    true
+}
+
+// Whether 40 draws are those of the words of the seed, and nothing is drawn behind them.
+fn draws_of_words<R: Abort>(rt: &R, alloc: Global) -> bool {
+    let asked = asked_by(7);
+    let mut source = source_of(rt, alloc, 7, &MIXED);
+    are_drawn(&mut source, &asked)
+        && drawn(&mut source, &BOTH, ZERO) == "done"
+        && source.place() == 40
 }
 
 // The low bit of each word says which child is asked first, and both always give an item.
 #[test]
 fn words_are_those_of_the_seed(rt: HostRuntime) {
-    assert!(rt; draws_of_words(rt.alloc()) == Ok(true));
+    assert!(rt; draws_of_words(&rt, rt.alloc()));
 }
 
 // Whether both draw the same, each at the same place.
@@ -246,18 +233,18 @@ fn draw_the_same(copy: &mut Source, source: &mut Source) -> bool {
     true
 }
 
-fn copy_draws_the_same(alloc: Global) -> Result<bool, AllocError> {
-    let mut source = mixed(alloc, 3)?;
+fn copy_draws_the_same<R: Abort>(rt: &R, alloc: Global) -> bool {
+    let mut source = source_of(rt, alloc, 3, &MIXED);
     for _ in 0..5 {
         drawn(&mut source, &BOTH, ZERO);
     }
-    let mut copy = source.copy()?;
-    Ok(draw_the_same(&mut copy, &mut source))
+    let mut copy = source.copy().expect(rt, MEMORY);
+    draw_the_same(&mut copy, &mut source)
 }
 
 #[test]
 fn copies_draw_the_same(rt: HostRuntime) {
-    assert!(rt; copy_draws_the_same(rt.alloc()) == Ok(true));
+    assert!(rt; copy_draws_the_same(&rt, rt.alloc()));
 }
 
 fn prepared(source: &mut Source, asker: Asker) -> &'static str {
@@ -267,66 +254,68 @@ fn prepared(source: &mut Source, asker: Asker) -> &'static str {
     }
 }
 
+// The item that a draw prepared for a thread, and the place then.
+fn prepared_at(source: &mut Source, asker: Asker) -> (&'static str, u128) {
+    (prepared(source, asker), source.place())
+}
+
 // The place after a commit.
 fn committed(source: &mut Source) -> u128 {
     source.commit();
     source.place()
 }
 
-// The item that a draw prepared for each thread, and the places after both and after two commits.
-fn prepared_for_both(source: &mut Source) -> (&'static str, &'static str, [u128; 4]) {
-    let first = prepared(source, ZERO);
-    let after_first = source.place();
-    let second = prepared(source, ONE);
-    let after_second = source.place();
+// Whether draws that are prepared for both threads change nothing, the first of two commits moves the source by one, and the second by none.
+fn is_seen_once(source: &mut Source, place: u128) -> bool {
+    let first = prepared_at(source, ZERO);
+    let second = prepared_at(source, ONE);
     let once = committed(source);
     let twice = committed(source);
-    (first, second, [after_first, after_second, once, twice])
+    first == second && first.1 == place && once == place.saturating_add(1) && twice == once
 }
 
-fn is_seen_once_committed(alloc: Global) -> Result<bool, AllocError> {
-    let mut source = mixed(alloc, 5)?;
-    for before in 0..10u64 {
-        let place = u128::from(before);
-        let (first, second, places) = prepared_for_both(&mut source);
-        if first != second || places != [place, place, place + 1, place + 1] {
-            return Ok(false);
+fn is_seen_once_committed<R: Abort>(rt: &R, alloc: Global) -> bool {
+    let mut source = source_of(rt, alloc, 5, &MIXED);
+    for place in 0..10u64 {
+        if !is_seen_once(&mut source, u128::from(place)) {
+            return false;
         }
     }
-    Ok(true)
+    true
 }
 
 // A prepared draw is visible only after its commit, and a commit of nothing changes nothing.
 #[test]
 fn prepared_draw_changes_nothing(rt: HostRuntime) {
-    assert!(rt; is_seen_once_committed(rt.alloc()) == Ok(true));
+    assert!(rt; is_seen_once_committed(&rt, rt.alloc()));
 }
 
-fn one_of(alloc: Global, cycle: &Cycle) -> Result<Gen, AllocError> {
-    limit(alloc, 1, Gen::Ops(cycle.copy()?))
-}
+// A write and a read, the first of which was given: one of them, and a copy of that.
+const TURNED: [Form; 2] = [Form::Turned(&[Kind::Write, Kind::Read]), Form::Limit(1)];
 
-// How many items a cycle has after its first was given, and whether a generator that is one of them is over.
-fn turned(alloc: Global) -> Result<(usize, bool), AllocError> {
-    let mut cycle = writes_and_reads(alloc)?;
+const TURNED_COPY: [Form; 3] = [
+    Form::Turned(&[Kind::Write, Kind::Read]),
+    Form::Limit(1),
+    Form::Copied,
+];
+
+// How many items a cycle has after its first was given.
+fn turned_items<R: Abort>(rt: &R, alloc: Global) -> usize {
+    let mut cycle = cycle_of(rt, alloc, &[Kind::Write, Kind::Read]);
     cycle.turn();
-    let generator = one_of(alloc, &cycle)?;
-    Ok((cycle.items().len(), generator.is_over()))
+    cycle.items().len()
 }
 
-// A source by a copy of that generator.
-fn of_a_copy(alloc: Global) -> Result<Source, AllocError> {
-    let mut cycle = writes_and_reads(alloc)?;
-    cycle.turn();
-    let generator = one_of(alloc, &cycle)?;
-    let copy = generator.copy(alloc)?;
-    Ok(Source::new(alloc, copy, 0))
+fn is_over<R: Abort>(rt: &R, alloc: Global, forms: &[Form]) -> bool {
+    generator_of(rt, alloc, forms).is_over()
 }
+
+const LEFT: [Row; 2] = [(BOTH, ZERO, "read"), (BOTH, ZERO, "done")];
 
 // A cycle has its items whatever was given, and a copy of a generator is as far as the generator.
 #[test]
 fn copies_of_generators(rt: HostRuntime) {
-    assert!(rt; matches!(turned(rt.alloc()), Ok((2, false))));
-    let rows = &[(ZERO, "read"), (ZERO, "done")];
-    assert!(rt; matches!(followed(of_a_copy(rt.alloc()), rows), Ok((true, _))));
+    assert!(rt; turned_items(&rt, rt.alloc()) == 2);
+    assert!(rt; !is_over(&rt, rt.alloc(), &TURNED));
+    assert!(rt; follows(&rt, rt.alloc(), &TURNED_COPY, &LEFT));
 }

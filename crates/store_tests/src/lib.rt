@@ -7,6 +7,8 @@ mod counted;
 #[cfg(test)]
 mod draws;
 #[cfg(test)]
+mod forms;
+#[cfg(test)]
 mod outcomes;
 #[cfg(test)]
 mod schedules;

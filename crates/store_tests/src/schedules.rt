@@ -1,7 +1,10 @@
 //! A schedule by hand.
+use crate::forms::MEMORY;
 use events::Fault;
 use nemesis::Schedule;
-use std::alloc::{AllocError, Global};
+use std::alloc::Global;
+use std::panic::Expect;
+use std::process::Abort;
 
 fn word(fault: Option<&Fault>) -> &'static str {
     match fault {
@@ -12,9 +15,11 @@ fn word(fault: Option<&Fault>) -> &'static str {
     }
 }
 
-fn scheduled(alloc: Global) -> Result<Schedule, AllocError> {
-    let faults = vec![in alloc; (2u32, Fault::Heal), (2, Fault::Pause(1))]?;
-    Ok(Schedule::new(faults))
+fn scheduled<R: Abort>(rt: &R, alloc: Global) -> Schedule {
+    let mut faults = Vec::new(alloc);
+    faults.push((2, Fault::Heal)).expect(rt, MEMORY);
+    faults.push((2, Fault::Pause(1))).expect(rt, MEMORY);
+    Schedule::new(faults)
 }
 
 // A length of the history, the fault that is due then, and whether it is taken.
@@ -27,21 +32,21 @@ const DUE: [(u32, &str, bool); 6] = [
     (1_048_576, "none", false),
 ];
 
-fn is_due_in_turn(alloc: Global) -> Result<bool, AllocError> {
-    let mut schedule = scheduled(alloc)?;
+fn is_due_in_turn(schedule: &mut Schedule) -> bool {
     for (length, want, taken) in DUE {
         if word(schedule.due(length)) != want {
-            return Ok(false);
+            return false;
         }
         if taken {
             schedule.advance();
         }
     }
-    Ok(true)
+    true
 }
 
 // A fault is due until it is taken.
 #[test]
 fn schedule_in_turn(rt: HostRuntime) {
-    assert!(rt; is_due_in_turn(rt.alloc()) == Ok(true));
+    let mut schedule = scheduled(&rt, rt.alloc());
+    assert!(rt; is_due_in_turn(&mut schedule));
 }

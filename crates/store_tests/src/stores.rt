@@ -70,22 +70,32 @@ fn refusal_of_partition(alloc: Global, other: u8) -> Result<Option<Refusal>, Ref
     refusal_of(alloc, &partition(alloc, other)?)
 }
 
+// The refusal of a store that so many replicas would have.
+fn refusal_of_count(alloc: Global, replicas: u8) -> Option<Refusal> {
+    opened(alloc, replicas).err()
+}
+
+const ABSENT: Option<Refusal> = Some(Refusal::NoSuchReplica);
+
+const BAD_VALUE: Option<Refusal> = Some(Refusal::BadValue);
+
 #[test]
 fn bad_faults(rt: HostRuntime) {
-    let absent = Some(Refusal::NoSuchReplica);
-    assert!(rt; refusal_of(rt.alloc(), &Fault::Pause(3)) == Ok(absent));
-    for (other, why) in [(0, Some(Refusal::BadValue)), (1, absent)] {
-        assert!(rt; refusal_of_partition(rt.alloc(), other) == Ok(why));
-    }
-    for replicas in [0, 8] {
-        assert!(rt; opened(rt.alloc(), replicas).err() == absent);
-    }
+    assert!(rt; refusal_of(rt.alloc(), &Fault::Pause(3)) == Ok(ABSENT));
+    assert!(rt; refusal_of_partition(rt.alloc(), 0) == Ok(BAD_VALUE));
+    assert!(rt; refusal_of_partition(rt.alloc(), 1) == Ok(ABSENT));
+    assert!(rt; refusal_of_count(rt.alloc(), 0) == ABSENT);
+    assert!(rt; refusal_of_count(rt.alloc(), 8) == ABSENT);
+}
+
+fn copied(outcome: &Outcome) -> Answer {
+    told(&outcome.copy())
 }
 
 #[test]
 fn copies_of_outcomes(rt: HostRuntime) {
     let found = Outcome::Done(Found::Reg(Some(5)));
-    assert!(rt; told(found.copy()) == Answer::Found(Some(5)));
-    assert!(rt; told(Outcome::Refused.copy()) == Answer::Refused);
-    assert!(rt; told(Outcome::Lost.copy()) == Answer::Lost);
+    assert!(rt; copied(&found) == Answer::Found(Some(5)));
+    assert!(rt; copied(&Outcome::Refused) == Answer::Refused);
+    assert!(rt; copied(&Outcome::Lost) == Answer::Lost);
 }

@@ -2,8 +2,8 @@ use Rattle.std.proofs.Common.{◌+◌, pos, [], ◌∷◌, ◌++◌, ap, ◌∙�
 use Rattle.models.specs.declared.operation.Name.TheVariants.{Write}
 use Rattle.models.specs.declared.operation.Part.TheVariants.{Int}
 use Rattle.checkpoints.specs.KeyLineView.{KeyLineView}
-use Rattle.judge_tests.proofs.ShortLine.{may_invoke, may_return}
-use Rattle.judge_tests.proofs.key_lines.three_and_five.Goals as goal
+use Rattle.verdict_tests.proofs.ShortLine.{may_invoke, may_return}
+use Rattle.verdict_tests.proofs.key_lines.three_and_five.Goals as goal
 
 pub push-requires : goal.push-requires
 push-requires c =

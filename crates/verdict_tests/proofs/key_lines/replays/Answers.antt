@@ -1,7 +1,7 @@
 use Rattle.std.proofs.Common.{◌∙◌, ap}
 use Rattle.checkpoints.specs.KeyLineView.{KeyLineView}
-use Rattle.judge_tests.proofs.LongLine.{writes_borrowed}
-use Rattle.judge_tests.proofs.key_lines.replays.Goals as goal
+use Rattle.verdict_tests.proofs.LongLine.{writes_borrowed}
+use Rattle.verdict_tests.proofs.key_lines.replays.Goals as goal
 
 pub rebuild-requires : goal.rebuild-requires
 rebuild-requires c = writes_borrowed 65 c.deref.result.now c.in_ok-line.line.now.events (c.deref.ensures.value ∙ c.in_ok-borrowed.ensures) c.in_ok-line.ensures

@@ -2,8 +2,8 @@ use Rattle.std.proofs.Common.{◌+◌, [], ◌∷◌, ◌++◌, ap, ◌∙◌, a
 use Rattle.models.specs.declared.operation.Name.TheVariants.{Release}
 use Rattle.models.specs.declared.operation.Part.TheVariants.{Nil}
 use Rattle.checkpoints.specs.KeyLineView.{KeyLineView}
-use Rattle.judge_tests.proofs.ShortLine.{may_invoke, may_return, may_fail, may_crash}
-use Rattle.judge_tests.proofs.key_lines.of_a_release.Goals as goal
+use Rattle.verdict_tests.proofs.ShortLine.{may_invoke, may_return, may_fail, may_crash}
+use Rattle.verdict_tests.proofs.key_lines.of_a_release.Goals as goal
 
 pub push-requires : goal.push-requires
 push-requires c =

@@ -6,7 +6,7 @@ use Rattle.events.specs.declared.event.Event.{Event}
 use Rattle.events.specs.Events.{op_event}
 use Rattle.events.specs.ProcessRule.{busy_after, MayComeFrom, IsHistory}
 use Rattle.checkpoints.specs.Borrowed.{AreBorrowedBy}
-use Rattle.judge_tests.specs.LongLine.{write_by, writes, writes_from}
+use Rattle.verdict_tests.specs.LongLine.{write_by, writes, writes_from}
 
 from_free : (n i k : ℕ) (busy : ℕ → Option ℕ) → n ≤ 2 * i → busy 0 ≡ None → MayComeFrom n busy (writes_from i k)
 from_free n i zero busy le free = tt

@@ -1,8 +1,8 @@
 use Rattle.std.proofs.Common.{◌+◌, ◌*◌, [], ◌∷◌, ◌++◌, refl, sym, ap, ◌∙◌, subst}
 use Rattle.events.specs.ProcessRule.{IsHistory}
 use Rattle.checkpoints.specs.KeyLineView.{KeyLineView}
-use Rattle.judge_tests.proofs.LongLine.{may_push_first, may_push_second, both_pushed}
-use Rattle.judge_tests.proofs.key_lines.written.Goals as goal
+use Rattle.verdict_tests.proofs.LongLine.{may_push_first, may_push_second, both_pushed}
+use Rattle.verdict_tests.proofs.key_lines.written.Goals as goal
 
 pub push-requires : goal.push-requires
 push-requires c =

@@ -2,9 +2,9 @@ use Rattle.std.proofs.Common.{◌+◌, pos, [], ◌∷◌, ◌++◌, ap, ◌∙�
 use Rattle.models.specs.declared.operation.Name.TheVariants.{Write}
 use Rattle.models.specs.declared.operation.Part.TheVariants.{Int}
 use Rattle.checkpoints.specs.KeyLineView.{KeyLineView}
-use Rattle.judge_tests.specs.ShortLine.{heal}
-use Rattle.judge_tests.proofs.ShortLine.{may_invoke_then, may_return_then}
-use Rattle.judge_tests.proofs.key_lines.behind_a_fault.Goals as goal
+use Rattle.verdict_tests.specs.ShortLine.{heal}
+use Rattle.verdict_tests.proofs.ShortLine.{may_invoke_then, may_return_then}
+use Rattle.verdict_tests.proofs.key_lines.behind_a_fault.Goals as goal
 
 pub push-requires-2 : goal.push-requires-2
 push-requires-2 c =

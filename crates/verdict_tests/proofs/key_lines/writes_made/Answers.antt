@@ -1,6 +1,6 @@
 use Rattle.std.proofs.Common.{◌∷◌, ◌++◌, [], ap, ◌∙◌}
-use Rattle.judge_tests.proofs.LongLine.{one_more_made}
-use Rattle.judge_tests.proofs.key_lines.writes_made.Goals as goal
+use Rattle.verdict_tests.proofs.LongLine.{one_more_made}
+use Rattle.verdict_tests.proofs.key_lines.writes_made.Goals as goal
 
 pub loop-preserved : goal.loop-preserved
 loop-preserved c =

@@ -1,6 +1,6 @@
 //! Lines of a few events, against statuses that follow from the definitions by hand.
 ghost use Rattle.std.specs.Prelude.{◌≡◌, IfOk};
-ghost use Rattle.judge_tests.specs.LongLine.{writes, writes_from};
+ghost use Rattle.verdict_tests.specs.LongLine.{writes, writes_from};
 
 use crate::plain::event;
 use checkpoints::KeyLine;

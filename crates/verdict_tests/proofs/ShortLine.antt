@@ -5,7 +5,7 @@ use Rattle.models.specs.declared.operation.Part.{Part}
 use Rattle.events.specs.declared.event.EventKind.TheVariants.{Invoke, Ok, Fail, Info}
 use Rattle.events.specs.declared.event.Event.{Event}
 use Rattle.events.specs.ProcessRule.{IsHistory}
-use Rattle.judge_tests.specs.ShortLine.{event_by, heal}
+use Rattle.verdict_tests.specs.ShortLine.{event_by, heal}
 
 module _ (i : ℕ) (name : Name) (part : Part) (events : List (ℕ × Event)) (first : Event) (invokes : first ≡ event_by Invoke name part) where
   pub may_invoke : events ≡ [] → IsHistory (events ++ (i, first) ∷ [])
