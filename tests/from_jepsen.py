@@ -4,7 +4,7 @@
 A case is a folder of tests/from-jepsen. It has input.edn, or input.py, which prints the input. It has args, one word a line. The output
 must agree to the byte with stdout, stderr and status (0 if there is no such file). The file verdict has the last line of the program on
 that output, judged as the output's own advice says. The script gives refused outputs to jepmon check too, which must refuse them. With
-words, it runs the cases of these names alone.
+names as arguments, it runs these cases alone.
 """
 import functools
 import pathlib
