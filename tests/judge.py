@@ -190,7 +190,7 @@ def run_full_device() -> List[str]:
 
 
 def run_closed_pipe() -> List[str]:
-    """A reader that ends before it has all."""
+    """The reader of the output ends before it has read everything."""
     with tempfile.TemporaryDirectory() as folder:
         lines = "".join(f"{{:type :{kind}, :process 0, :f :write, :value [{key} 1]}}\n" for key in range(8000) for kind in ("invoke", "ok"))
         pathlib.Path(folder, "many.edn").write_text(lines)

@@ -82,7 +82,7 @@ def run_beyond() -> List[str]:
         faults += differing("the verdict", (status, lines[-1]), (2, "unknown key 5 index 1048576"))
         faults += differing("the hot key", lines[0], f"key 5 model {kind_of_register()} budget 4096 events 1050000 status full 1048576")
         faults += differing("keys", len(lines), 66_002)
-        faults += differing("what was said", "more than 1,048,576 events, which one check does not take; it is judged in" in error, True)
+        faults += differing("what was said", "more than 1,048,576 events, which are too many for one check; it is judged in" in error, True)
         faults += differing("what was not judged", "key 5 has more than 1,048,576 events, and is judged up to event 1048576" in error, True)
         path.write_text("".join([*others, line("invoke", 1, "read", 165_999, "nil"), line("ok", 1, "read", 165_999, 2)]))
         status, output, error = tool("judge", str(path), "--out", str(folder / "out"), "--html", str(folder / "page.html"))

@@ -6,15 +6,15 @@ the live Monitor, causes in words, pages) is tested, and not proved.
 import os
 import sys
 
-if sys.version_info < (3, 9):  # so an older Python must be able to read this file and __main__.py
+if sys.version_info < (3, 9):  # an older Python must be able to parse this file and __main__.py
     _SAID = "jepmon needs Python 3.9 or later, and this is {}.{}: {}".format(sys.version_info[0], sys.version_info[1], sys.executable)
-    _CALLED = os.path.basename(sys.argv[0])  # that of `python -m` is "-m", and "-c" in Python 2
+    _CALLED = os.path.basename(sys.argv[0])  # it is "-m" under `python -m`, and "-c" in Python 2
     if _CALLED in ("-m", "-c", "explain", "from-jepsen") or _CALLED.startswith("jepmon"):
         sys.stderr.write(_SAID + "\n")
-        sys.exit(3)  # and not 1, which says that a history is illegal
+        sys.exit(3)  # not 1: status 1 means that a history is illegal
     raise ImportError(_SAID)
 
-TYPE_CHECKING = False  # as that of typing, which an older Python does not have
+TYPE_CHECKING = False  # like typing.TYPE_CHECKING: an older Python has no module typing
 
 if TYPE_CHECKING:
     from .history.kinds import ABSENT

@@ -3,11 +3,11 @@ import importlib
 import sys
 from typing import List
 
-INTERRUPTED = 130  # the status
-MODULES = {"test": "testing"}  # where a tool has another name than its module
+INTERRUPTED = 130  # the exit status after Ctrl-C
+MODULES = {"test": "testing"}  # the tools whose module has another name
 TOOLS = {
     "judge": "judges a recorded history, and says why it is illegal",
-    "shards": "a history as shards in a folder, which are judged elsewhere, and joined",
+    "shards": "splits a history into shards in a folder, judges shards, and joins the results",
     "explain": "runs a check, and shows the file's own events beside its last line",
     "from-jepsen": "turns a recorded Jepsen history into one that jepmon reads",
     "from-json": "turns JSON lines into a history that jepmon reads",
@@ -18,7 +18,7 @@ TOOLS = {
 
 def usage() -> str:
     lines = (f"  {name:<12} {what}" for name, what in TOOLS.items())
-    return "\n".join(["usage: python3 -m jepmon TOOL WORD..", "", *lines, "", "python3 -m jepmon TOOL --help says more of one", ""])
+    return "\n".join(["usage: python3 -m jepmon TOOL WORD..", "", *lines, "", "python3 -m jepmon TOOL --help explains one tool", ""])
 
 
 def main(words: List[str]) -> int:
@@ -38,7 +38,7 @@ def main(words: List[str]) -> int:
     try:
         module = importlib.import_module("jepmon." + MODULES.get(words[0], words[0].replace("-", "_")))
         status: int = module.main()
-    except KeyboardInterrupt:  # while modules are read: later each tool says what it means
+    except KeyboardInterrupt:  # while modules are loaded; after that each tool handles Ctrl-C itself
         return INTERRUPTED
     return status
 

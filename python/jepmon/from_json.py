@@ -51,7 +51,7 @@ def _turn(arguments: Optional[List[str]]) -> int:
         output, status = found.text, 0
     except Refused as refusal:
         command.say(NAME, f"refused: {refusal}")
-    except Exception as fault:  # a fault of this program must not pass as a history either
+    except Exception as fault:  # also after a fault of this program the output must not look like a history
         command.say(NAME, f"refused: a fault of from-json itself: {fault!r}")
     command.write_output([output])
     return status
@@ -91,7 +91,7 @@ def _told(found: Recorded) -> Iterator[str]:
     yield from found.account.told()
     yield from outcomes(found.facts.outcomes)
     if found.key_names or found.value_names:
-        yield "keys or values are numbered: comments at the end of the output tell what they are"
+        yield "keys or values are numbered: comments at the end of the output have their meanings"
     choice, threads = models.chosen(found.facts, None, {}, found.possible), models.concurrency_of(found.facts)
     if choice.common:
         yield f"judge it by: jepmon check FILE --concurrency {threads} --model {choice.common}"

@@ -23,13 +23,13 @@ from .shrinking.units import Unit, dragging, with_dragged
 class Part(NamedTuple):
     """An illegal part of a history, of one key."""
 
-    events: List[Event]  # with the indices, lines and processes of the history; sets without the removed values
-    text: str  # the same as a history by itself: `jepmon check` with these options calls it illegal at its last event
+    events: List[Event]  # the events, with the indices, lines and processes of the history; sets without the removed values
+    text: str  # the same events as a separate history: `jepmon check` with these options calls it illegal at its last event
     options: Options  # the key's own model and budget, and the history's concurrency
-    of: int  # how many operations of the key had begun by the fatal event
-    operations: int  # how many of them are left
-    values: FrozenSet[int]  # of a set: what was taken out of each answer
-    checks: int  # how often the program was asked
+    of: int  # the number of operations of the key that had begun by the fatal event
+    operations: int  # the number of these operations that remain
+    values: FrozenSet[int]  # for a set: the values that were removed from each answer
+    checks: int  # the number of questions to the program
     finished: bool  # False: the limit of work was met, and more might be removed
 
 
@@ -58,16 +58,16 @@ class Left(NamedTuple):
     """The rest of a history."""
 
     operations: List[Operation]
-    values: FrozenSet[int]  # that went out of answers
+    values: FrozenSet[int]  # the values that were removed from answers
 
 
 class Search:
-    """The search for the smallest part that the program calls illegal at the event of index fatal, its last."""
+    """The search for the smallest part that the program calls illegal at its last event, which has the index `fatal`."""
 
     def __init__(self, options: Options, fatal: int, hints: FrozenSet[int], program: Optional[str], effort: Effort) -> None:
         self.options, self.fatal, self.hints, self.program, self.effort = options, fatal, hints, program, effort
         self.checks = 0
-        self.is_spent = False  # whether there was no effort left for a check
+        self.is_spent = False  # whether a check was omitted since there was no effort left
 
     def run(self, whole: List[Operation]) -> Optional[Left]:
         """The remaining operations when no more may be removed, or no effort is left."""
@@ -147,7 +147,7 @@ class Search:
 
 
 def taken_out(whole: List[Operation], units: List[Unit], out: Set[int]) -> Left:
-    """The operations without those of these units."""
+    """Returns the operations without the operations of these units."""
     values = frozenset(value for number in out for value in units[number].values)
     places = {place for number in out for place in units[number].operations}
     return Left(without(whole, places, values), values)

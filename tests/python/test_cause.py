@@ -31,65 +31,65 @@ def said_of(found: cause.Cause) -> str:
 EXAMPLES = {
     ("stale-read.edn", "register"): """\
 Client 1 read 1 from key 7, which could not hold 1 any more.
-While it was open (events 4 to 5), key 7 can have held 2, never 1. Asked of jepmon: the answer 2 would have been legal.
+While it was open (events 4 to 5), key 7 can have held 2, never 1. jepmon says that the answer 2 would have been legal.
 1 was last possible just before event 3, the :ok of client 0's write of 2.
 1 was brought in by client 0's write of 1 (events 0 to 1).""",
     ("cas-over-another-value.edn", "cas-register"): """\
 Client 0's cas from 1 to 2 took place on key 7, which could not hold 1 any more.
-While it was open (events 4 to 5), key 7 can have held 3, never 1. Asked of jepmon: a :fail would have been legal.
+While it was open (events 4 to 5), key 7 can have held 3, never 1. jepmon says that a :fail would have been legal.
 1 was last possible just before event 3, the :ok of client 1's write of 3.
 1 was brought in by client 0's write of 1 (events 0 to 1).""",
     ("mutex-held-twice.edn", "mutex"): """\
 Client 1 acquired lock 4, which client 0 had acquired and not released.
 Client 0 had acquired it (events 0 to 1), and no release had begun since.
-Asked of jepmon: a :fail would have been legal.""",
+jepmon says that a :fail would have been legal.""",
     ("mutex-held-twice.edn", "register"): """\
 Key 4 is judged by the model register, which has no acquire. So it never takes place.
 Was --model mutex meant?""",
     ("queue-out-of-order.edn", "fifo-queue"): """\
 Client 1 took 6 from queue 1 before 5, which had been put in earlier.
 Client 0 had put in 5 (events 0 to 1) before client 0 began to put in 6 (event 2), and no dequeue had answered 5.
-While it was open (events 4 to 5), it can have found 5. Asked of jepmon: the answer 5 would have been legal.""",
+While it was open (events 4 to 5), it can have found 5. jepmon says that the answer 5 would have been legal.""",
     ("delivered-twice.edn", "unordered-queue"): """\
 Client 1 took 5 from queue 1, which client 0 had taken already.
 5 was put in once, by client 0 (events 0 to 1), and had been taken once before, by client 0 (events 2 to 4).
 While it was open (events 3 to 5), there was nothing that it can have found.
-Asked of jepmon: a :fail would have been legal.""",
+jepmon says that a :fail would have been legal.""",
     ("delivered-but-never-sent.edn", "unordered-queue"): """\
 Client 0 took 7 from queue 1, but nobody had put it in.
-While it was open (events 4 to 5), it can have found 5 or 6. Asked of jepmon: each of these answers would have been legal.""",
+While it was open (events 4 to 5), it can have found 5 or 6. jepmon says that each of these answers would have been legal.""",
 }
 STORES = {
     "stale_replica": """\
 Client 3 read 200 from key 3, which could not hold 200 any more.
-While it was open (events 39 to 47), key 3 can have held 203, 503 or 504, never 200. Asked of jepmon: each of these answers would \
+While it was open (events 39 to 47), key 3 can have held 203, 503 or 504, never 200. jepmon says that each of these answers would \
 have been legal.
 200 was last possible just before event 33, the :ok of client 4's write of 502.
 200 was brought in by client 1's write of 200 (events 4 to 14).""",
     "two_winners": """\
 Client 1's cas from 4 to 3 on key 9 was recorded as failed (event 56), but it must have taken place.
 Without it no order of the operations is possible from event 50 on, the :ok of client 2's read of 3.
-Asked of jepmon: an :info would have been legal. Only what certainly did not take place may be recorded as :fail.""",
+jepmon says that an :info would have been legal. Only what certainly did not take place may be recorded as :fail.""",
     "lease_runs_out": """\
 Client 3 acquired lock 2, which client 1 had acquired and not released.
 Client 1 had acquired it (events 19 to 40), and in no order of the operations had it been released since.
-Asked of jepmon: a :fail would have been legal.""",
+jepmon says that a :fail would have been legal.""",
     "delivered_twice": """\
 Client 3 took 1022 from queue 1, which client 2 had taken already.
 1022 was put in once, by client 0 (events 190 to 194), and had been taken once before, by client 2 (events 214 to 215).
-While it was open (events 216 to 220), it can have found 1023, 1024, 1025, 1026, 2025, 2026 or 2 others. Asked of jepmon: the answer \
+While it was open (events 216 to 220), it can have found 1023, 1024, 1025, 1026, 2025, 2026 or 2 others. jepmon says that the answer \
 1023, 1024, 1025 or 1026 (the first 4 of 8) would have been legal.""",
     "out_of_order": """\
 Client 3 took 2025 from queue 1 before 1023, which had been put in earlier.
 Client 0 had put in 1023 (events 196 to 197) before client 1 began to put in 2025 (event 199), and no dequeue had answered 1023.
-While it was open (events 216 to 220), it can have found 1023. Asked of jepmon: the answer 1023 would have been legal.""",
+While it was open (events 216 to 220), it can have found 1023. jepmon says that the answer 1023 would have been legal.""",
     "invented": """\
 Client 3 took 99999 from queue 1, but nobody had put it in.
-While it was open (events 216 to 220), it can have found 1023. Asked of jepmon: the answer 1023 would have been legal.""",
+While it was open (events 216 to 220), it can have found 1023. jepmon says that the answer 1023 would have been legal.""",
     "lost_member": """\
 Client 1's read of set 5 lacks 203, which had been added before.
 203 was added by client 2 (events 21 to 23), and the read began after that, at event 60.
-Asked of jepmon: with 203 as well it would have been legal.""",
+jepmon says that with 203 as well this read would have been legal.""",
 }
 
 
@@ -131,7 +131,7 @@ In the next test let fewer clients use one key at once.""")
 
     def test_numbers_of_one_and_two(self) -> None:
         text = (TOP / "examples" / "mutex-held-twice.edn").read_text()
-        self.assertIn("Both operations of the key up to there:", cause.lines(explained(text, program.Options(2, "mutex"))))
+        self.assertIn("Both operations of the key up to the illegal event:", cause.lines(explained(text, program.Options(2, "mutex"))))
         found = explained("\n".join(text.splitlines()[:3]), program.Options(2, "mutex", 1))
         self.assertEqual(found.headline[:47], "At event 1 more than 1 outcome was possible for")
 
@@ -140,15 +140,15 @@ In the next test let fewer clients use one key at once.""")
         text = (TOP / "tests" / "cases" / "check_of_a_blown_and_a_dead_key" / "history.edn").read_text()
         options = program.Options(2, "fifo-queue", 4, by_ends=True)
         blown = "".join(text.splitlines(True)[:3])
-        self.assertEqual(explained(blown, options).sentences[0], "Asked of jepmon: with --budget 65536 this key is legal to its end.")
+        self.assertEqual(explained(blown, options).sentences[0], "jepmon says that with --budget 65536 this key is legal to its end.")
         wrong = blown + ("{:type :invoke, :process 0, :f :dequeue, :value [1 nil]}\n{:type :ok, :process 0, :f :dequeue, :value [1 9]}\n")
-        self.assertEqual(explained(wrong, options).sentences[0], "Asked of jepmon: with --budget 65536 this key is illegal, at event 4.")
+        self.assertEqual(explained(wrong, options).sentences[0], "jepmon says that with --budget 65536 this key is illegal, at event 4.")
 
     def test_text(self) -> None:
         """The part with its events, and what the sentences say of these."""
         found = explained((TOP / "examples" / "stale-read.edn").read_text(), program.Options())
         self.assertEqual(cause.lines(found)[-8:], [
-            "All 3 operations of the key up to there:",
+            "All 3 operations of the key up to the illegal event:",
             "    event 0, line 2: {:type :invoke, :process 0, :f :write, :value [7 1]}",
             "    event 1, line 3: {:type :ok, :process 0, :f :write, :value [7 1]}    <-- 1 comes in",
             "    event 2, line 4: {:type :invoke, :process 0, :f :write, :value [7 2]}",
@@ -187,7 +187,7 @@ In the next test let fewer clients use one key at once.""")
         for shrink, want in ((True, """\
 Client 3 read 200 from key 3, which could not hold 200 any more.
 There were too many orders of the whole history to try within the limit of work: what follows is true of the part below by itself.
-While it was open (events 39 to 47), key 3 can have held 203, never 200. Asked of jepmon: the answer 203 would have been legal.
+While it was open (events 39 to 47), key 3 can have held 203, never 200. jepmon says that the answer 203 would have been legal.
 200 was last possible just before event 38, the :ok of client 0's read of 203.
 200 was brought in by client 1's write of 200 (events 4 to 14)."""), (False, """\
 Client 3's read of 200 on key 3 fits no order of the operations.

@@ -188,7 +188,7 @@ class Recorded(unittest.TestCase):
         lines, said = self.judged(self.file(*too_many(1), *equal(2)), "--concurrency", "11")
         self.assertEqual(lines[0], "key 1 model wide-fifo-queue budget 4096 events 16 status over 13")
         self.assertIn("Before event 13 two enqueues of 20 to queue 1 had not failed, and by its ends", said)
-        self.assertIn("by its ends it is over its budget at event 11", " ".join(said.split()))
+        self.assertIn("this key, judged by its ends, is over its budget at event 11", " ".join(said.split()))
         self.assertEqual(said.count(equal_values.note([2])), 1)
         _, said = self.judged(self.file(*too_many(1)), "--concurrency", "11", "--no-cause")
         self.assertIn(equal_values.LEFT.format(1), said)

@@ -62,7 +62,7 @@ class Order(Turned):
         self.assertEqual(self.turned(text(*events)), self.want(IN_TIME))
 
     def test_times_that_are_missing(self) -> None:
-        self.assertIn("the one of line 6 has no :time: which came first?", self.refused(text(*HOLD[:5], "1 ok acquire nil")))
+        self.assertIn("the event of line 6 has no :time: which came first?", self.refused(text(*HOLD[:5], "1 ok acquire nil")))
 
     def test_operations_that_touch_are_open_at_once(self) -> None:
         events = ("0 invoke write 1 1", "0 ok write 1 5", "1 invoke read nil 5", "1 ok read nil 6", "2 invoke read nil 0", "2 ok read nil 9")
@@ -100,7 +100,7 @@ class Order(Turned):
 
     def test_files_of_clients_with_an_index_each(self) -> None:
         self.assertEqual(self.turned(text(*HOLD, indices="0 1 2 3 0 1")), self.want(IN_TIME))
-        self.assertIn("events do not stand in their order", self.refused(text(*HOLD, times=False, indices="0 1 2 3 0 1")))
+        self.assertIn("events are not in their order", self.refused(text(*HOLD, times=False, indices="0 1 2 3 0 1")))
 
     def test_files_that_pass(self) -> None:
         """Edited files: with gaps, without some; and an :index that is the number of an operation."""
@@ -212,7 +212,7 @@ class Fields(Turned):
             lines = text("0 invoke write 1", "0 ok write 1", "0 invoke read nil", "0 ok read 2").splitlines(True)
             given = "".join(line.replace("}", f", {name} {place // 2}}}") for place, line in enumerate(lines))
             self.assertIn(f"line 3: {name} is 1 here and 0 before: {what}", self.refused(given))
-            self.assertIn(f"say --ignore {name[1:]} if it is nothing", self.refused(given, order="times" if ":time" in given else None))
+            self.assertIn(f"say --ignore {name[1:]} if it means nothing", self.refused(given, order="times" if ":time" in given else None))
             self.assertEqual(len(self.turned(given.replace(f"{name} 1", f"{name} 0"))), 4)
 
 

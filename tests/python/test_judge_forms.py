@@ -168,7 +168,7 @@ class Rows(unittest.TestCase):
             ('{"process":[],"type":"ok","f":"write"}', "line 1: its process is []"),
             ('{"process":0,"type":"ok","key":1}', "line 1: this event has no operation"),
             ('{"process":0,"type":"invoke","f":"write","key":1,"value":1}\n{"process":"a","type":"ok","f":"read"}',
-             'line 2: its process is "a", and those before it are numbers'),
+             'line 2: its process is "a", and the processes before it are numbers'),
             ('{"process":0,"type":"invoke","f":"push all","key":1}', 'line 1: its operation is "push all"'),
             ('{"process":0,"type":"invoke","f":"txn","value":[]}', "line 1: "),
             ('{"process":0,"type":"invoke","f":"write","key":1', "line 1: the text ends within the object that begins here"),

@@ -155,7 +155,7 @@ class Ways(unittest.TestCase):
         said: List[str] = []
         with quiet([]), mock.patch.object(command, "write_error", said.append):
             self.assertEqual((tool.main(["h.edn"]), tool.main(["h.edn", "--jobs", "1"])), (0, 3))
-        self.assertIn("line 1: [:model 7 :register] is a command of jepmon script, which shards do not take", said[-1])
+        self.assertIn("line 1: [:model 7 :register] is a command of jepmon script, and shards accept only events", said[-1])
 
     def test_what_is_long_goes_to_shards(self) -> None:
         """By itself, of whatever form; here what has more than 3 events is long."""

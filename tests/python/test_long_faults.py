@@ -74,7 +74,7 @@ class Faults(Monitored):
         with self.assertRaisesRegex(ValueError, "the monitor is closed"):
             with monitor.fault("late"):
                 pass
-        with self.assertRaisesRegex(ValueError, "its object in its block alone"):
+        with self.assertRaisesRegex(ValueError, "an object only in its block"):
             register.read().name
         with self.assertRaisesRegex(ValueError, "had its block already"):
             op.__enter__()

@@ -94,7 +94,7 @@ class Drawn(unittest.TestCase):
     def test_no_key_is_left(self) -> None:
         keys = self.keys(first=65535)
         self.counts.timed_out[65535] = 3
-        with self.assertRaisesRegex(ValueError, "each key from 65535 to 65535 has had 3 timeouts: no new one is left"):
+        with self.assertRaisesRegex(ValueError, "each key from 65535 to 65535 has had 3 timeouts: there is no new key left"):
             keys.write_key()
 
 

@@ -39,7 +39,7 @@ class Attributes(Monitored):
         with Monitor(self.program) as monitor:
             for name, said in (("outcome", r"^op.outcome says how the block ended: call op.fail\(\)"), ("told", "^op.told can't be set"),
                                ("key", "^op.key can't be set"), ("fail", "^op.fail can't be set"),
-                               ("status", r"^an operation has no status: call op.fail\(\).*op.value is what a read or a dequeue answered$")):
+                               ("status", r"^an operation has no status: call op.fail\(\).*op.value is the answer of a read or a dequeue$")):
                 with self.assertRaisesRegex(AttributeError, said), monitor.write(0, 1) as op:
                     setattr(op, name, "fail")
                 self.assertEqual(op.outcome, "info")
@@ -203,7 +203,7 @@ class Numbers(Monitored):
         self.assertEqual(self.numbers(["a", Text("a"), (1, "b"), (1, Text("b"))]), [0, 0, 1, 1])
 
     def test_what_is_unequal_to_itself_is_refused(self) -> None:
-        with self.assertRaisesRegex(ValueError, "nan is unequal to itself"):
+        with self.assertRaisesRegex(ValueError, "nan is not equal to itself"):
             self.numbers([float("nan")])
 
     def test_true_is_not_what_1_is(self) -> None:

@@ -107,7 +107,7 @@ class Pages(unittest.TestCase):
     def test_it_says_what_is_proved(self) -> None:
         for name, make in MADE.items():
             with self.subTest(name):
-                self.assertEqual(html.unescape(page.render(make())).count("The verdict is jepmon's, and proved, "), 1)
+                self.assertEqual(html.unescape(page.render(make())).count("The verdict is jepmon's, and is proved. "), 1)
 
     def test_it_says_the_verdict_and_the_facts(self) -> None:
         read = Reader(page.render(register()))

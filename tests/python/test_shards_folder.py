@@ -101,14 +101,14 @@ class Folders(unittest.TestCase):
         self.judge()
         self.assertEqual(self.join(), ("refused 4 Mismatch event 7\n", 3))
         self.history.unlink()
-        with self.assertRaisesRegex(shards.ShardsError, "is not there any more as it was"):
+        with self.assertRaisesRegex(shards.ShardsError, "was removed or has changed"):
             self.join()
 
     def test_a_split_that_is_cut_off(self) -> None:
         self.folder.mkdir()
         (self.folder / "splitting").touch()
         (self.folder / "shard-9-0.edn").write_text("old")
-        with self.assertRaisesRegex(shards.ShardsError, "did not come to its end"):
+        with self.assertRaisesRegex(shards.ShardsError, "jepmon-shards split was cut off"):
             self.join()
         self.split(written(0, 3).encode())
         self.assertFalse((self.folder / "shard-9-0.edn").exists())

@@ -86,7 +86,7 @@ class Traces(Case):
     def test_what_is_refused(self) -> None:
         cases: List[Dict[str, Any]] = [trace(ph="B"), trace(args=[1]), trace(args={"op": "read"}), trace(name="GC")]
         for event, reason in zip(cases, ("traceEvents of ph B have their begin and their end apart", "the args of a traceEvent are not an object",
-                                         "have 'op', which is said outside of them too", "GC")):
+                                         "have 'op', and the event itself has it too", "GC")):
             self.refused(self.text(trace(), event), reason)
 
 

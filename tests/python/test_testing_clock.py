@@ -102,7 +102,7 @@ class Needs(unittest.TestCase):
 
     def test_without_a_compiler_it_is_said_before_anything_starts(self) -> None:
         with mock.patch.object(clocks, "compiler", return_value=None):
-            with self.assertRaisesRegex(ServerError, "^--nemesis bump: it takes a compiler of C, of cc, gcc, clang: .*; there are kill, pause, "):
+            with self.assertRaisesRegex(ServerError, "^--nemesis bump: it needs a compiler of C, of cc, gcc, clang: .*; there are kill, pause, "):
                 planned(self.given(MyServer, "register"))
 
     def test_a_server_that_can_not_be_reached_is_refused(self) -> None:

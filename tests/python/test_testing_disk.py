@@ -226,7 +226,7 @@ class Needs(Monitored):
 
     def test_where_nothing_can_be_mounted_it_is_said_before_anything_starts(self) -> None:
         with mock.patch.object(mounts, "why_not", return_value="/dev/fuse: No such file or directory"):
-            with self.assertRaisesRegex(ServerError, r"^--nemesis power: it takes a file system by FUSE, as root on Linux: /dev/fuse: No such "
+            with self.assertRaisesRegex(ServerError, r"^--nemesis power: it needs a file system by FUSE, as root on Linux: /dev/fuse: No such "
                                         r"file or directory; there are kill, pause, cut, slow"):
                 planned(self.given("kill,power"))
             self.assertEqual(planned(self.given("all")).left_out.keys(), {"loss", "reorder", "corrupt"})
@@ -237,7 +237,7 @@ class Needs(Monitored):
 
         with mock.patch.object(mounts, "why_not", return_value="/dev/fuse: Permission denied"):
             left_out = planned(self.given("all")._replace(server=Surviving)).left_out
-        self.assertEqual(left_out["power"], "it takes a file system by FUSE, as root on Linux: /dev/fuse: Permission denied")
+        self.assertEqual(left_out["power"], "it needs a file system by FUSE, as root on Linux: /dev/fuse: Permission denied")
         self.assertEqual(left_out["power"], left_out["tear"])
 
 

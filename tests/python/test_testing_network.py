@@ -165,7 +165,7 @@ class Namespaces(Room):
         node.words = [sys.executable, "-c", ECHO, "127.0.0.1", str(PORT)]
         node.start()
         said = (r"^n1 listens at 127\.0\.0\.1, port 7000, where nobody else reaches it in its network namespace: let it listen at "
-                r"node\.address, which is 10\.0\.0\.1, or take --network proxy$")
+                r"node\.address, which is 10\.0\.0\.1, or use --network proxy$")
         with node.inside(), self.assertRaisesRegex(ServerError, said):
             node.wait_until(node.accepts, PATIENCE, "was not ready")
 
@@ -220,14 +220,14 @@ class TheChoice(unittest.TestCase):
         with mock.patch.object(links, "why_not", return_value=None):
             self.assertEqual(network(AUTO, False, True), NAMESPACES)
         with mock.patch.object(links, "why_not", return_value="not permitted"):
-            with self.assertRaisesRegex(ServerError, "^--network namespaces: .*: not permitted; they take root, and one node takes none$"):
+            with self.assertRaisesRegex(ServerError, "^--network namespaces: .*: not permitted; they need root, and one node needs none$"):
                 network(AUTO, False, True)
 
     def test_where_there_are_none_it_is_said(self) -> None:
         if why_not() is None:
             self.assertEqual(network(NAMESPACES, False), NAMESPACES)
         else:
-            with self.assertRaisesRegex(ServerError, "^--network namespaces: there are none to be had here: "):
+            with self.assertRaisesRegex(ServerError, "^--network namespaces: namespaces are not possible here: "):
                 network(NAMESPACES, True)
 
 

@@ -192,7 +192,7 @@ class TheTemplate(Runs):
 
     def test_it_is_short(self) -> None:
         """The user's files: all but the server that stands for the user's own."""
-        self.assertLess(TEMPLATE.read_text().index("# --- The server"), len(TEMPLATE.read_text()))
+        self.assertLess(TEMPLATE.read_text().index("# --- The example server"), len(TEMPLATE.read_text()))
         self.assertLess(len(TEMPLATE.read_text().splitlines()), 60)
 
 
@@ -343,7 +343,7 @@ class Words(Runs):
                             ("./none.py", "none.py: there is no such file"),
                             ("redis --inject-bug x", "--inject-bug x: redis has replica, "),
                             ("redis --object cas-register", "--object cas-register: redis has register, "),
-                            ("redis --object set --inject-bug lease", "--object set: the plant lease is one of a mutex"),
+                            ("redis --object set --inject-bug lease", "--object set: the known fault lease is a fault of a mutex"),
                             ("redis --nodes 9", "--nodes 9: redis takes 1 to 5"),
                             ("redis --nemesis x", "--nemesis x: it takes"),
                             ("redis --time 0", "argument --time: it takes seconds"),

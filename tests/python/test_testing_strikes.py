@@ -119,7 +119,7 @@ class Plans(unittest.TestCase):
                                   ("ring", 3, "it takes 4 nodes, and there are 3"), ("kill:leader", 3, "does not say which node is its leader"),
                                   ("slow:speed=1", 1, "slow takes delay, jitter, lasting, rest, each a number"),
                                   ("slow:delay=2..1", 1, "delay is from 0 to 60, the least first"), ("loss:share=2", 1, "share is from 0 to 1"),
-                                  ("kill:lasting=2@3", 1, r"lasts as long as \+SECONDS says"), ("kill:delay=1..", 1, "a number or two"),
+                                  ("kill:lasting=2@3", 1, r"\+SECONDS is its length"), ("kill:delay=1..", 1, "a number or two"),
                                   ("kill:n1@2+4,pause:n1@3", 1, "both are strikes on the process of n1, and they overlap"),
                                   ("kill@1.2.3", 1, "kill takes a node, such as kill:n1, .* a time, such as"), ("kill@", 1, "a time, such as kill@3"),
                                   ("slow:delay=fast", 1, "slow takes a node, .* a parameter, such as slow:lasting=0.5..2"), ("part:x", 2, "partition takes a")):

@@ -1,4 +1,4 @@
-"""Which fault came before an event that a cause mentions."""
+"""Names the fault that came before an event of a cause."""
 from __future__ import annotations
 
 from typing import Sequence
@@ -9,8 +9,8 @@ from ..history.fault_times import quoted, since
 
 
 def before(faults: Sequence[Fault], event: Event) -> str:
-    """How long after which fault the event came: `0.07 s after "n1 is down, by kill -9" began`. If the history has no times, only after
-    which fault. The text is empty if no fault had begun by then."""
+    """Says how long after the last fault the event came: `0.07 s after "n1 is down, by kill -9" began`. If the history has no times, names
+    only the fault. The text is empty if no fault had begun by then."""
     moment = event.fields.get("time")
     if isinstance(moment, int) and any(fault.begin_time for fault in faults):
         return since(faults, moment)
@@ -24,6 +24,6 @@ def before(faults: Sequence[Fault], event: Event) -> str:
 
 
 def of_event(faults: Sequence[Fault], event: Event) -> str:
-    """The sentence about the verdict's own event."""
+    """Returns the sentence about the event that the verdict names."""
     last = before(faults, event)
     return f"Event {event.index} came {last}." if last else ""

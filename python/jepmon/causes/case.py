@@ -1,4 +1,4 @@
-"""The facts about one illegal key: from the walk, and from questions to the program."""
+"""The facts about one illegal key. They come from the walk, and from questions to the program."""
 from __future__ import annotations
 
 from typing import Any, Callable, Iterable, List, Mapping, NamedTuple, Optional, Sequence, Tuple
@@ -13,11 +13,11 @@ from .beside import before
 from .effort import Effort
 from .names import Names
 
-ASKED = 4  # other answers that the program is asked about
+ASKED = 4  # the program is asked about at most this many other answers
 
 
 class Mention(NamedTuple):
-    """An event that the sentences mention, and its part in them in a few words, or no words."""
+    """An event that the sentences mention, with a note of a few words about it, or an empty note."""
 
     event: Event
     note: str
@@ -34,8 +34,8 @@ class Found(NamedTuple):
 class Last(NamedTuple):
     """When something was last possible: just before this event (an ok or a :fail), and never later."""
 
-    known: bool  # False: there was too much to try
-    event: Optional[Event]  # None, where it is known: it never was
+    known: bool  # False if there was too much to try
+    event: Optional[Event]  # None, if `known`: it was never possible
 
 
 class Case(NamedTuple):
@@ -44,15 +44,15 @@ class Case(NamedTuple):
     model: str
     key: int
     front: List[Event]
-    operations: List[Operation]  # of these events
-    fatal: Operation  # completed by the last of them
-    later: List[Event]  # of the key, after the fatal one
+    operations: List[Operation]  # the operations of these events
+    fatal: Operation  # the operation that the last of these events completes
+    later: List[Event]  # the events of the key after the fatal one
     walked: Walk
     options: Options
     names: Names
     program: Optional[str]
     effort: Effort
-    faults: Sequence[Fault] = ()  # that the history notes
+    faults: Sequence[Fault] = ()  # the faults that the history notes
 
     @property
     def object(self) -> str:
@@ -87,7 +87,7 @@ class Case(NamedTuple):
 
     def last_possible(self, test: Callable[[Any], bool]) -> Last:
         """When the object last could have a state that passes the test, or the fatal operation last could take place. The search goes back
-        from the end, stop by stop."""
+        from the end, from one stop (a saved state of the walk) to the stop before it."""
         until, left = len(self.front) - 1, self.effort.work
         try:
             for stop in reversed(self.walked.stops):
@@ -101,7 +101,7 @@ class Case(NamedTuple):
         return Last(True, None)
 
     def _last_between(self, stop: Stop, until: int, test: Callable[[Any], bool], work: int) -> Tuple[Optional[Event], int]:
-        """The last event between the stop and this place just before which the test passed, and the remaining work."""
+        """Returns the last event between `stop` and `until` just before which the test passed, and the remaining work."""
         last: Optional[Event] = None
         walker, fatal = stop.walker.copy(UNBOUNDED, work), self.fatal.invocation.index
         for event in self.front[stop.steps:until + 1]:
@@ -125,7 +125,8 @@ class Case(NamedTuple):
         return None
 
     def ended_by(self, event: Event, owned: str) -> str:
-        """The first event after which something was impossible, with its operation (`owned`) and the fault that came before it."""
+        """Describes the first event after which something was impossible, with its operation (`owned`) and the fault that came before
+        it."""
         last = before(self.faults, event)
         return f"event {event.index}, the :{event.kind} of {owned}" + (f", {last}" if last else "")
 
@@ -134,7 +135,7 @@ class Case(NamedTuple):
         return next(operation for operation in self.operations if event in (operation.invocation, operation.completion))
 
     def legal_with(self, completions: Iterable[Event]) -> List[Event]:
-        """The completions of the list with which the program would call the key's events legal, instead of the fatal event."""
+        """Returns the completions that would have been legal: with each one instead of the fatal event, the program says `legal`."""
         return [completion for completion in completions if self._is_legal(completion)]
 
     def _is_legal(self, completion: Event) -> bool:
@@ -145,13 +146,13 @@ class Case(NamedTuple):
         return check(text.encode(), as_asked(self.options), self.program).word == "legal"
 
     def with_answers(self, answers: Sequence[Any]) -> List[Any]:
-        """The answers of the list that the program would call legal, instead of the given one."""
+        """Returns the answers of the list that the program would call legal if they replaced the given answer."""
         return [event.value for event in self.legal_with(self.front[-1]._replace(kind="ok", value=answer) for answer in answers)]
 
     def as_a_failure(self) -> str:
-        """The program's reply to a :fail instead of the :ok."""
+        """Says how the program replies if a :fail replaces the :ok."""
         failed = self.front[-1]._replace(kind="fail", value=self.fatal.invocation.value)
-        return "Asked of jepmon: a :fail would have been legal." if self.legal_with([failed]) else ""
+        return "jepmon says that a :fail would have been legal." if self.legal_with([failed]) else ""
 
     def with_asked(self, said: str, answers: Sequence[Any]) -> str:
         """The sentence about the possible values, with the program's reply to these answers."""
@@ -162,9 +163,9 @@ class Case(NamedTuple):
         if len(legal) < len(asked):
             return f"{said}."
         if len(answers) == len(legal) > 1:
-            return f"{said}. Asked of jepmon: each of these answers would have been legal."
+            return f"{said}. jepmon says that each of these answers would have been legal."
         some = f" (the first {len(legal)} of {len(answers)})" if len(answers) > len(legal) else ""
-        return f"{said}. Asked of jepmon: the answer {self.names.any_of(legal)}{some} would have been legal."
+        return f"{said}. jepmon says that the answer {self.names.any_of(legal)}{some} would have been legal."
 
 
 def _by_size(state: State) -> Any:
@@ -175,7 +176,7 @@ def _by_size(state: State) -> Any:
 
 
 def mentions(operations: Iterable[Operation], notes: Mapping[int, str] = {}) -> List[Mention]:
-    """Both events of each operation, with its note, by the index of its invocation, at the last of them."""
+    """Returns both events of each operation. The later event has the note, which is found by the index of the invocation."""
     found: List[Mention] = []
     for operation in operations:
         note = notes.get(operation.invocation.index, "")

@@ -1,11 +1,11 @@
 """Why a key is illegal, or unknown, in words.
 
-    cause = explain(events, report, options)    # of what `program.check` said; None if that is no illegal and no unknown
+    cause = explain(events, report, options)    # of a report of `program.check`; None if the verdict is neither illegal nor unknown
     print("\n".join(lines(cause)))
 
 The verdict is the program's, and so is each statement about another answer: the tool asks the program about it. The walk
-(objects/configurations.py) finds everything else in the sentences, and is not proved. If the walk gave up, or found another event than the
-program, the sentences have only the program's replies, or facts about the smallest illegal part.
+(objects/configurations.py) finds everything else in the sentences, and is not proved. The walk gives up if there is too much to try. If it
+gave up, or found another event than the program, the sentences have only the program's replies, or facts about the smallest illegal part.
 """
 from __future__ import annotations
 
@@ -47,10 +47,10 @@ class Cause(NamedTuple):
 
     verdict: str  # the program's own line
     key: int
-    headline: str  # one sentence, which says all that matters
-    sentences: List[str]  # what else there is to say
+    headline: str  # one sentence with the main fact
+    sentences: List[str]  # further facts
     mentions: List[Mention]  # events that the sentences mention, perhaps with a few words, in the order of the history
-    part: Optional[Part]  # the smallest illegal part, where it was looked for and found
+    part: Optional[Part]  # the smallest illegal part, if it was searched for and found
     names: Names = Names()
     proviso: str = NOT_PROVED
 
@@ -114,7 +114,7 @@ def of_illegal(options: Options, front: List[Event], later: List[Event], names: 
 
 
 def of_part_alone(found: Optional[Found]) -> Optional[Found]:
-    """The sentences about the smallest part, if the whole has too many orders."""
+    """Returns the sentences about the smallest part, if the whole history has too many orders."""
     if found is None:
         return None
     proviso = "There were too many orders of the whole history to try within the limit of work: what follows is true of the part below by itself."
@@ -122,7 +122,7 @@ def of_part_alone(found: Optional[Found]) -> Optional[Found]:
 
 
 def untold(options: Options, front: List[Event], names: Names) -> Found:
-    """Only the program's replies, since the walk gave up."""
+    """Returns a cause that has only the program's replies, since the walk gave up."""
     fatal = next(operation for operation in operations(front, options.concurrency) if operation.completion is front[-1])
     where = names.object(options.model, front[-1].key)
     said = f"{capital(client(fatal))}'s {names.operation(fatal)} on {where} fits no order of the operations."
@@ -147,14 +147,14 @@ def lines(cause: Cause, width: int = 110) -> List[str]:
 
 
 def of_part(part: Part) -> List[str]:
-    """What the part is."""
+    """Returns the lines that introduce the part: how many operations it has, and how it was found."""
     if part.operations == part.of:
         what = {1: "The only operation", 2: "Both operations"}.get(part.of, f"All {part.of} operations")
-        return [f"{what} of the key up to there:"]
-    which, verb = ("This one", "is") if part.operations == 1 else (f"These {part.operations}", "are")
+        return [f"{what} of the key up to the illegal event:"]
+    which, verb = ("This one operation", "is") if part.operations == 1 else (f"These {part.operations} operations", "are")
     asked = f"jepmon was asked {ordinal_times(part.checks)}{'' if part.finished else '; the limit of the search was met, and more might be removed'}"
-    said = [f"{which} of the key's {part.of} operations up to there {verb} illegal alone ({asked}):"]
-    return said + ["    (of sets only the members that matter are shown)"] if part.values else said
+    said = [f"{which}, of the key's {part.of} up to the illegal event, {verb} illegal without the others ({asked}):"]
+    return said + ["    (sets are shown with only the members that matter)"] if part.values else said
 
 
 def shown(event: Event, names: Names, note: str) -> str:

@@ -1,17 +1,17 @@
 """The limit of the work for the cause of a verdict. It counts steps and not time, so a history has the same cause on every machine under
-any load. A sentence names the omitted parts."""
+any load. If the limit is met, a sentence names the omitted parts."""
 from __future__ import annotations
 
 from typing import List
 
 from ..objects.configurations import WORK, Walk
 
-WHOLE = 10_000_000  # for one key: about as many microseconds on a machine that does nothing else
-ASKING = 3_000  # for the start of the program
-CHARACTER = 0.2  # of the text that it is asked about
-OUTCOME = 0.1  # that it tries
-LEAN = 500.0  # outcomes that it tries for an event of a wide kind: some fifty in loads of twelve clients without think time
-WALKED = 0.5  # outcome that a walk of this package tries
+WHOLE = 10_000_000  # for one key; a unit is about a microsecond on an idle machine
+ASKING = 3_000  # the cost of a start of the program
+CHARACTER = 0.2  # the cost of a character of the text of a question
+OUTCOME = 0.1  # the cost of an outcome that the program tries
+LEAN = 500.0  # outcomes that the program tries for an event of a wide kind: some fifty in loads of twelve clients without think time
+WALKED = 0.5  # the cost of an outcome that a walk of this package tries
 GAVE_UP = "Left out, since the limit of work was met: {}."
 
 
@@ -20,9 +20,9 @@ class Effort:
 
     def __init__(self, whole: float = WHOLE, work: int = WORK) -> None:
         self.left = whole
-        self.work = work  # of one walk
-        self.left_out: List[str] = []  # what was not looked for, or not to its end, in a few words each
-        self._outcomes = 1.0  # that an event of the key brings the program to try
+        self.work = work  # the limit of one walk
+        self.left_out: List[str] = []  # the searches that were omitted or not finished, each in a few words
+        self._outcomes = 1.0  # the number of outcomes that the program tries for an event of the key
 
     def learn(self, walked: Walk, is_wide: bool = False) -> None:
         """Learns the cost of an event from a walk through the key's events, and counts the walk. An event of a wide kind costs the program
@@ -44,5 +44,5 @@ class Effort:
 
     @property
     def said(self) -> str:
-        """The parts that were left out, as a sentence; nothing if there is none."""
+        """Names the omitted searches in a sentence; the text is empty if there are none."""
         return GAVE_UP.format("; ".join(self.left_out)) if self.left_out else ""

@@ -29,10 +29,10 @@ def equal_enqueues(made: Sequence[Operation]) -> Optional[Two]:
 
 
 def of_equal_values(over: Over) -> Found:
-    """The cause, if the kind wide-fifo-queue left it."""
+    """Returns the cause, if equal values made the key unknown by the kind wide-fifo-queue."""
     event, named = over.front[-1], over.names.object(over.model, over.key)
     two = equal_enqueues(operations(over.front, over.options.concurrency))
-    if two is None:  # the program says otherwise
+    if two is None:  # the program has found equal values that this function does not find
         return Found(f"{capital(named)} is not judged from event {event.index} on.", [], [Mention(event, "")])
     headline = (f"Before event {event.index} two enqueues of {over.names.value(two[0].invocation.value)} to {named} had not failed, and by its ends "
                 "it is over its budget: from there on jepmon does not judge it.")
@@ -53,7 +53,7 @@ def said_by_ends(over: Over) -> str:
     report = check(text.encode(), as_asked(over.options)._replace(by_ends=True), over.program)
     if report.word != "unknown" or report.index is None:
         return ""
-    return f"Asked of jepmon: by its ends it is over its budget at event {over.whole[report.index].index}."
+    return f"jepmon says that this key, judged by its ends, is over its budget at event {over.whole[report.index].index}."
 
 
 def note_of_equal_values(over: Over) -> str:

@@ -1,4 +1,4 @@
-"""Failures that do not depend on a model: a :fail of an operation that has certainly taken place, and an operation that the object does not
+"""Causes that do not depend on a model: a :fail of an operation that has certainly taken place, and an operation that the object does not
 have."""
 from __future__ import annotations
 
@@ -23,7 +23,7 @@ def of_failure(case: Case) -> Found:
         sentences.append(f"Without it no order of the operations is possible from event {forced.index} on, the :{forced.kind} of "
                          f"{case.names.owned(by)}.")
     if case.legal_with([case.front[-1]._replace(kind="info")]):
-        sentences.append("Asked of jepmon: an :info would have been legal. Only what certainly did not take place may be recorded as "
+        sentences.append("jepmon says that an :info would have been legal. Only what certainly did not take place may be recorded as "
                          ":fail.")
     return Found(headline, sentences, told)
 

@@ -1,4 +1,4 @@
-"""Locks: who held it, or who had released it."""
+"""Causes for locks: who held the lock, or who had released it."""
 from __future__ import annotations
 
 from typing import List
@@ -48,7 +48,7 @@ def of_free(case: Case, last: List[Operation]) -> str:
 
 
 def of_failed(case: Case) -> str:
-    """The acquires that were recorded as failed, although one of them may have taken place."""
+    """Mentions the acquires that were recorded as failed: one of them may have taken place."""
     failed = case.others("acquire", lambda operation: operation.outcome == "fail")
     if not failed:
         return ""

@@ -1,4 +1,4 @@
-"""Queues: who had enqueued a value, who had taken it already, and which values were before it."""
+"""Causes for queues: who had enqueued a value, who had taken it already, and which values were before it."""
 from __future__ import annotations
 
 from typing import List, Optional
@@ -91,7 +91,7 @@ def passed_over(case: Case, real: List[Operation]) -> Optional[Operation]:
 
 
 def other_answers(case: Case) -> List[str]:
-    """The values that the dequeue can have found, and the program's reply to them."""
+    """Says which values the dequeue can have found, and how the program replies to these answers."""
     found = case.findings()
     if not found:
         return [f"{capital(case.while_open)}, there was nothing that it can have found.", case.as_a_failure()]

@@ -1,4 +1,4 @@
-"""Registers: the value of the register, the writer of the value that was found, and the write that ended it."""
+"""Causes for registers: the value of the register, the writer of the value that was found, and the write that overwrote this value."""
 from __future__ import annotations
 
 from typing import List, Optional
@@ -69,7 +69,7 @@ def of_failed(case: Case, value: int, failed: List[Operation]) -> Found:
 
 
 def while_open(case: Case, value: int) -> str:
-    """The value of the register, and the program's reply to that value as an answer."""
+    """Says which values the register can have held while the operation was open, and how the program replies to them as answers."""
     held = case.held()
     if not held:
         return case.as_a_failure()

@@ -1,4 +1,4 @@
-"""Sets: the members that a read's answer lacks, and the members that it should not have."""
+"""Causes for sets: the members that a read's answer lacks, and the members that it should not have."""
 from __future__ import annotations
 
 from typing import AbstractSet, FrozenSet, List
@@ -94,10 +94,10 @@ def adds_of(case: Case, value: int) -> List[Operation]:
 
 
 def other_answers(case: Case, answer: FrozenSet[int], found: List[FrozenSet[int]]) -> List[str]:
-    """The program's reply to the possible answer that differs least from the given answer."""
+    """Says how the program replies to the possible answer that differs least from the given answer."""
     nearest = sorted(found, key=lambda finding: (len(finding ^ answer), len(finding), sorted(finding)))
     legal = case.with_answers(nearest[:1])
-    return [f"Asked of jepmon: {difference(case, answer, legal[0])} it would have been legal."] if legal else []
+    return [f"jepmon says that {difference(case, answer, legal[0])} this read would have been legal."] if legal else []
 
 
 def difference(case: Case, answer: FrozenSet[int], other: FrozenSet[int]) -> str:

@@ -1,4 +1,5 @@
-"""Why a key is over its budget: how the possible outcomes grew, which operations caused this, and what the user can do."""
+"""Explains why a key is over its budget: how the number of possible outcomes grew, which operations caused this, and what the user can
+do."""
 from __future__ import annotations
 
 from typing import Dict, List, NamedTuple, Optional, Tuple
@@ -17,11 +18,11 @@ SHOWN = 8  # steps of the growth
 TOLD = 12  # operations whose invocations are mentioned
 COUNTED = 100_000  # ends that are counted beyond the budget
 GREATEST = BUDGETS[-1]
-CERTAIN = float("inf")  # it has taken place in each outcome
+CERTAIN = float("inf")  # the factor of an operation that has taken place in each outcome
 
 
 class Counted(NamedTuple):
-    """The count of a wide kind, which its budget limits: the word for one counted thing, and its explanation."""
+    """The things that the budget of a wide kind limits: the word for one of them, and a sentence that explains it."""
 
     noun: str
     meaning: str
@@ -58,7 +59,7 @@ class Over(NamedTuple):
 
 
 class Growth(NamedTuple):
-    """How the outcomes grew to the event at which they are too many."""
+    """The growth of the number of outcomes, up to the event at which there are too many."""
 
     steps: List[Tuple[int, int]]  # events, and the number of outcomes just before them, if it was greater than ever before
     factors: Dict[int, float]  # the factor by which each operation multiplies them at the end; empty if they are too many to count
@@ -108,7 +109,8 @@ def may_still_take_place(operation: Operation, index: int) -> bool:
 
 
 def growth_of(over: Over, pending: List[Operation]) -> Optional[Growth]:
-    """The growth of the outcomes. None if there are too many to try, or if the walk finds another event than the program."""
+    """Returns the growth of the number of outcomes. None if there are too many to try, or if the walk finds another event than the
+    program."""
     walker = Walker(over.model, COUNTED, over.effort.work)
     steps: List[Tuple[int, int]] = []
     most = 1
@@ -133,7 +135,7 @@ def growth_of(over: Over, pending: List[Operation]) -> Optional[Growth]:
 
 
 def of_pending(over: Over, pending: List[Operation], factors: Dict[int, float]) -> List[str]:
-    """The operations that make the outcomes many: those that timed out, and those that were open."""
+    """Lists the operations that cause many outcomes: those that timed out, and those that were open."""
     later = ", and may take place at any later moment" if factors else ""
     said: List[str] = []
     for timed_out in (True, False):
@@ -189,7 +191,7 @@ def with_greatest_budget(over: Over) -> str:
         over.effort.leave_out(f"what jepmon says of this key with --budget {GREATEST}")
         return ""
     report = check(text.encode(), as_asked(over.options)._replace(budget=GREATEST), over.program)
-    asked = f"Asked of jepmon: with --budget {GREATEST} this key"
+    asked = f"jepmon says that with --budget {GREATEST} this key"
     if report.word == "legal" or report.index is None:
         return f"{asked} is legal to its end." if report.word == "legal" else ""
     index = over.whole[report.index].index

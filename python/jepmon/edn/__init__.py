@@ -1,7 +1,7 @@
 """Reads EDN, element by element, from a text or from a file in pieces: the reader of all tools.
 
-It reads all of EDN that Jepsen writes. It skips tags and metadata, so that an element counts without them. With `profile=True` it reads
-only what the program `jepmon` reads (docs/FORMATS.md, Text), and says what is outside this profile. An atom is its own spelling, and a
+It reads all of EDN that Jepsen writes. It skips tags and metadata: an element is read as if it had none. With `profile=True` it reads only
+what the program `jepmon` reads (docs/FORMATS.md, Text), and says what is outside this profile. An atom is its own spelling, and a
 collection is a Many. Text that can't be read raises Unreadable, with its line and the reason. For speed, shards have their own reader of
 bytes (shards/reading.py), which test_edn_readers.py compares with this reader.
 """
@@ -29,7 +29,7 @@ class Element(NamedTuple):
     line: int  # on which it begins
     text: str
     value: Value
-    rows: Rows = ()  # of a run (flat maps, one a line): the requested fields of its elements
+    rows: Rows = ()  # if this is a run (flat maps, one a line): the requested fields of its elements
 
     @property
     def last_line(self) -> int:
@@ -53,7 +53,7 @@ class Unreadable(Exception):
         self.line, self.reason, self.place = line, reason, place
 
 
-Find = Callable[[str, int], Tuple[Rows, int]]  # in a text, from a place on: a run, and the place behind it
+Find = Callable[[str, int], Tuple[Rows, int]]  # finds a run in a text from a place on; returns it, and the place behind it
 Open = Tuple[str, int, Optional[List[Value]]]  # an open collection or prefix: its text and place, and the list of members to which it belongs
 
 
@@ -66,18 +66,18 @@ class Reader:
         self._profile = edn_profile.Profile() if profile else None
         self._piece = ""
         self._before = 0  # characters before the piece
-        self._begun: Optional[int] = None  # the place in the piece from which it is read again, behind a run
-        self._rest = 0  # the place in the piece from which it is read together with the next piece
-        self._line, self._counted = line, 0  # the line of a place in the piece
+        self._begun: Optional[int] = None  # the place in the piece behind a run: reading continues there
+        self._rest = 0  # the rest of the piece from this place on is read together with the next piece
+        self._line, self._counted = line, 0  # the line of the place `_counted` in the piece
         self._stack: List[Open] = []  # collections that are open, and prefixes that wait for an element, the innermost last
-        self._unwraps = False  # whether the first element, where it is a vector or list, is the text
-        self._whole: Optional[Open] = None  # this vector or list
+        self._unwraps = False  # whether the first element is the whole text if it is a vector or list
+        self._whole: Optional[Open] = None  # the vector or list that is the whole text
         self._whole_line = line
-        self._is_closed = False  # whether it is
+        self._is_closed = False  # whether this vector or list has ended
         self._element_line = line
         self._element_place = 0  # of the element at the top, characters from 0
         self._held = ""  # the first part of this element, which is before the piece
-        self._begin = 0  # where the rest of it begins in the piece
+        self._begin = 0  # the place in the piece at which the rest of this element begins
         self._find: Optional[Find] = None
 
     def elements(self) -> Iterator[Element]:
@@ -93,7 +93,7 @@ class Reader:
     def _read(self) -> Iterator[Element]:
         stack, profile = self._stack, self._profile
         tokens, find = TOKEN if profile is not None else TOKEN_OR_MAP, self._find
-        members: Optional[List[Value]] = None  # of the innermost collection; None at the top, and where a prefix waits
+        members: Optional[List[Value]] = None  # the members of the innermost collection; None at the top, and if a prefix waits for its element
         for piece, begun, is_last in self._all_parts():
             if profile is not None:
                 profile.begin(piece)
@@ -154,7 +154,7 @@ class Reader:
                     members.append(value)
                     continue
                 for value, begin, end in atoms_of(token) if kind == RUN else ((value, token.start(1), token.end()),):
-                    if members is not None:  # an atom of the run that was before it has ended a prefix
+                    if members is not None:  # an earlier atom of the run has ended a prefix
                         members.append(value)
                         continue
                     if stack:
@@ -188,7 +188,8 @@ class Reader:
         self._is_closed = True
 
     def _end_prefixes(self) -> Tuple[Optional[List[Value]], bool]:
-        """An element with prefixes has ended. Returns the members among which it is, and whether it is dropped."""
+        """Ends the prefixes of an element that has ended. Returns the list of members to which the element belongs, and whether the element
+        is dropped."""
         members = None
         while members is None and self._stack:
             text, place, members = self._stack.pop()
@@ -225,7 +226,7 @@ class Reader:
             self._counted = 0
             parts, count = [self._piece[self._rest:], following], len(following)
             following = next(self._pieces, None)
-            while following is not None and count < len(parts[0]):  # so that a long string is not read anew for each piece
+            while following is not None and count < len(parts[0]):  # so that a long string is not read again for each piece
                 parts.append(following)
                 count += len(following)
                 following = next(self._pieces, None)
@@ -233,7 +234,7 @@ class Reader:
         yield self._piece, True
 
     def _line_at(self, place: int) -> int:
-        """The line of a place in the piece. Places are asked for in their order."""
+        """Returns the line of a place in the piece. Callers ask for places in ascending order."""
         self._line += self._piece.count("\n", self._counted, place)
         self._counted = place
         return self._line
@@ -255,7 +256,7 @@ class Reader:
         self._refuse(place, f"more follows the {self._whole[0]!r} that has the history")
 
     def _refuse_token(self, kind: int, place: int) -> NoReturn:
-        """Refuses a token by which no element begins."""
+        """Refuses a token that does not begin an element."""
         if self._is_closed:
             self._refuse_more(place)
         if kind == UNENDED:
@@ -282,7 +283,8 @@ class Reader:
             self._refuse(place, f"here more than {edn_profile.DEEPEST} collections are open in one another")
 
     def _test_map(self, value: Many, token: Match[str]) -> None:
-        """Refuses a flat map like a map that comes token by token: if it is too deep in other collections, or if a key has no value."""
+        """Tests a flat map as the reader tests a map that it reads token by token. Refuses the map if it is too deep in other collections,
+        or if a key has no value."""
         if not self._stack:
             self._begin_element("{", token.start(1))
         kept = len(self._stack)
@@ -298,7 +300,7 @@ class Reader:
         del self._stack[kept:]
 
     def _test_profile(self, profile: edn_profile.Profile, token: Match[str], kind: int) -> None:
-        """Refuses a token that is outside the profile, and white space before it or in it that the profile does not have."""
+        """Refuses a token that is outside the profile. Refuses also white space before it or in it that the profile does not have."""
         places = [place for _, place, _ in atoms_of(token)] if kind == RUN else [token.start(1)] if kind != COMMENT else []
         found = profile.outside(token, places)
         if found is not None:

@@ -7,16 +7,16 @@ from typing import Iterable, Match, Optional, Tuple
 
 DEEPEST = 32  # collections in one another
 INTEGERS = range(-(1 << 63), 1 << 63)
-MARKS = frozenset(("{", "[", "#{", "}", "]", "#_", "", '"'))  # also the end of the text, and a string that does not end
+MARKS = frozenset(("{", "[", "#{", "}", "]", "#_", "", '"'))  # "" is the end of the text, and '"' is a string that does not end
 
-ATOM = r"(?::[A-Za-z][A-Za-z0-9_?!*.-]*|[+-]?(?:0|[1-9][0-9]{0,17})|nil|true|false)"  # but for the longest integers
+ATOM = r"(?::[A-Za-z][A-Za-z0-9_?!*.-]*|[+-]?(?:0|[1-9][0-9]{0,17})|nil|true|false)"  # without the longest integers
 WHOLE_ATOM = ATOM + r'(?![^ \t\r\n,;"\[\]{}()])'
 RUN = ATOM + rf"(?:[ \t\r\n,]+{ATOM})*"
 STRING = r'"(?:[^"\\]|\\[trn\\"])*"'
 SPELLED = r'\\.[^ \t\r\n,;"\[\]{}()]*|"|\(|\)|[^ \t\r\n,;"\[\]{}()]+'
-OTHER_SPACE = r"[^\S \t\r\n]"  # white space that is none to the program
+OTHER_SPACE = r"[^\S \t\r\n]"  # white space that the program does not accept as white space
 
-# The kind of a token that is outside, by its spelling.
+# The kind of a token that is outside the profile, by its spelling.
 OUTSIDE = (
     (r".*\ufffd.*", "bytes that are not UTF-8"),
     (r".*\s.*", "text with white space that is neither a space, a tab nor the end of a line"),
@@ -44,7 +44,7 @@ class Profile:
         self._has_space = False
 
     def begin(self, piece: str) -> None:
-        """The tokens that follow are of this piece of the text."""
+        """Begins a piece of the text: the next tokens are from this piece."""
         self._piece, self._has_space = piece, self._space.search(piece) is not None
 
     def is_inside(self, token: Match[str]) -> bool:
@@ -53,7 +53,8 @@ class Profile:
         return (text in MARKS or self._token.fullmatch(text) is not None) and not self._has_space
 
     def outside(self, token: Match[str], places: Iterable[int]) -> Optional[Tuple[int, str]]:
-        """The part of a token that is outside the profile, and its place, if its atoms begin at these places; None if nothing is."""
+        """Returns the part of a token that is outside the profile, and the place of this part. The atoms of the token begin at `places`.
+        None if the whole token is inside."""
         space = self._space.search(self._piece, token.start(), token.end() if places else token.start(1))
         for place in sorted([*places, space.start()] if space else places):
             reason = reason_of(self._piece, place)
@@ -66,7 +67,7 @@ def reason_of(piece: str, place: int) -> Optional[str]:
     """Why the text at this place of the piece is outside the profile. None if it is inside."""
     if place == len(piece) or re.compile(f"{WHOLE_ATOM}|{STRING}|[{{}}\\[\\]]|#[{{_]").match(piece, place):
         return None
-    if piece[place] == '"':  # one that does not end is for the reader to refuse
+    if piece[place] == '"':  # the reader itself refuses a string that does not end
         return ESCAPES if re.compile(r'"(?:[^"\\]|\\.)*"', re.S).match(piece, place) else None
     spelled = re.compile(SPELLED, re.S).match(piece, place)
     text = spelled[0] if spelled else piece[place]

@@ -10,7 +10,7 @@ from typing import Iterator, List, Match, Tuple
 
 from .values import Many, Value
 
-PLAIN = r"""[^{}\[\]()";\\\#^'`~@]*"""  # atoms, and what stands between them
+PLAIN = r"""[^{}\[\]()";\\\#^'`~@]*"""  # atoms, and the white space between them
 STRING = r'"[^"\\]*(?:\\.[^"\\]*)*"'
 VECTOR = rf"\[{PLAIN}(?:(?:{STRING}|\[{PLAIN}\]){PLAIN})*\]"
 SET = rf"\#\{{{PLAIN}\}}"
@@ -44,11 +44,11 @@ RUN, ATOM, OPEN, CLOSE, PREFIX, COMMENT, UNENDED, STRANGE, END, MAP = range(10)
 MARKS = {"{": OPEN, "[": OPEN, "(": OPEN, "#{": OPEN, "}": CLOSE, "]": CLOSE, ")": CLOSE, "": END,
          "#_": PREFIX, "#^": PREFIX, "^": PREFIX, "'": PREFIX, "`": PREFIX, "~": PREFIX, "@": PREFIX,
          '"': UNENDED, '#"': UNENDED, "\\": STRANGE}
-METADATA = ("^", "#^")  # two elements follow these: the metadata and what has it
+METADATA = ("^", "#^")  # two elements follow these marks: the metadata, and the element that has it
 
 
 def kind_of(text: str) -> int:
-    """The kind of a token that is none of the marks, and no map."""
+    """Returns the kind of a token that is neither a mark nor a map."""
     if text[0] == ";":
         return COMMENT
     if text[0] == "#":

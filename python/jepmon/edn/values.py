@@ -5,7 +5,7 @@ import re
 from typing import Any, Dict, NamedTuple, Optional, Sequence, Tuple, Union
 
 CLOSING = {"{": "}", "[": "]", "(": ")", "#{": "}"}
-NUMERIC = frozenset("+-0123456789")  # with which numbers begin
+NUMERIC = frozenset("+-0123456789")  # the first characters of numbers
 DIGITS = frozenset("123456789")  # an integer that begins with one of these has no other spelling
 INTEGER = re.compile(r"[+-]?[0-9]{1,1000}N?")
 ATOMS = {str}

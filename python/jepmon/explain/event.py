@@ -14,7 +14,7 @@ class Options(NamedTuple):
 
     concurrency: int
     model: str
-    kind: str = ""  # by which the program has judged the key, if that is a wide one
+    kind: str = ""  # the kind by which the program has judged the key, if it is a wide kind
 
 
 class Event:
@@ -35,7 +35,7 @@ class Event:
 
     @property
     def is_answer(self) -> bool:
-        """Whether this tells the answer of a read."""
+        """Returns whether this event is a read's answer."""
         return self.kind == "ok" and self.name == "read"
 
 
@@ -57,7 +57,7 @@ class Shower:
         return f"{mark:4}event {event.index}, line {event.line}{client}: {text[:LONGEST]}"
 
     def client(self, process: Optional[int]) -> str:
-        """The name of a process by its client: after an operation that timed out, the client continues as another process."""
+        """Names the client of a process. After an operation that timed out, the client continues as another process."""
         if process is None or process < self.concurrency:
             return f"process {process}"
         return f"client {process % self.concurrency} (process {process})"

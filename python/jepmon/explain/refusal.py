@@ -1,4 +1,4 @@
-"""Why jepmon refuses an event: the reasons for `refused N NAME event I`."""
+"""Explains why jepmon refuses an event: the reasons for `refused N NAME event I`."""
 from __future__ import annotations
 
 from typing import Iterator, Sequence
@@ -25,7 +25,7 @@ def of_refusal(number: int, events: Sequence[Event], index: int, options: Option
     elif number == 3:
         yield f"{who} has no operation open: was its invocation left out?"
     elif number == 4:
-        yield "a completion has the name, the key and the part of its invocation, except for the answer of a read or a dequeue:"
+        yield "a completion has the name, the key and the operand of its invocation, except for the answer of a read or a dequeue:"
         yield from (shower.event(began) for began in open_at(events, index) if began.process == event.process)
     elif number == 5:
         yield fault_of(event.element.value)

@@ -28,7 +28,7 @@ OPTIONS = ("--concurrency", "--model", "--budget", "--workers")
 
 
 class WrongWords(Exception):
-    """A fault of the command line."""
+    """A mistake in the command line."""
 
 
 class Words(command.Words):
@@ -50,7 +50,7 @@ def parser() -> argparse.ArgumentParser:
 
 
 def work() -> int:
-    """Prints the lines of the check, and explains them. Gives the status of the check."""
+    """Prints the lines of the check, and explains them. Returns the exit status of the check."""
     words = parser()
     try:
         given = words.parse_args()
@@ -101,7 +101,7 @@ def tell(report: program.Report, raw: bytes, stated: Dict[str, str], asked: prog
             say(line)
             is_told = True
     except Exception as fault:
-        say(f"no more can be said of it, by a fault of explain itself: {fault!r}")
+        say(f"explain can't explain this further, because of a fault of its own: {fault!r}")
     return is_told
 
 

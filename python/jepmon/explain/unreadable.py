@@ -1,4 +1,4 @@
-"""Why jepmon can't read a file: the reasons for `refused 11 Unreadable PLACE`."""
+"""Explains why jepmon can't read a file: the reasons for `refused 11 Unreadable PLACE`."""
 from __future__ import annotations
 
 import re
@@ -13,7 +13,7 @@ DELIMITER = r'[ \t\r\n,;"\[\]{}]'
 
 
 def of_unreadable(raw: bytes, place: int) -> Iterator[str]:
-    """Why the bytes are not a text of the profile. The place is the length of the longest prefix that is one."""
+    """Says why the bytes are not a text of the profile. The place is the length of the longest prefix that can be read."""
     whole = of_encoding(raw)
     if whole is not None:
         yield whole
@@ -62,7 +62,7 @@ def of_encoding(raw: bytes) -> Optional[str]:
     if raw.startswith(b"\x1f\x8b"):
         return f"the file is compressed by gzip: zcat FILE | jepmon check /dev/stdin; {tool('from-jepsen')} takes it as it is"
     if raw.startswith((b"\xff\xfe", b"\xfe\xff")):
-        return "the file is UTF-16: iconv -f UTF-16 -t UTF-8 FILE brings it to UTF-8"
+        return "the file is UTF-16: iconv -f UTF-16 -t UTF-8 FILE converts it to UTF-8"
     if b"\0" in raw[:1000]:
         return f"byte {raw.index(0)} of the file, counted from 0, is 0: is it binary, or UTF-16?"
     return None

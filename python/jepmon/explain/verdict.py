@@ -9,7 +9,7 @@ from ..history.kinds import BROUGHT, DIFFERING, MODELS, REGISTERS
 from .event import Event, Options, Shower, is_set, open_at
 
 SHOWN = 14  # events of a key
-COUNTED = {  # what makes a wide kind unknown
+COUNTED = {  # the reason for which a key of a wide kind is unknown
     "wide-register": "the register has many outcomes because of the writes among these operations that an answer needs (lean ends):",
     "wide-cas-register": "the register has many outcomes because of the values that these operations may leave, one after another (fronts):",
 }

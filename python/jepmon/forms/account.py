@@ -27,8 +27,8 @@ MODEL, KEY, CLIENT, UNIT, ORDER, TYPE, ABSENT, OUTCOME = (
 class Guess(NamedTuple):
     """Something that the input does not say."""
 
-    of: str  # one of those above
-    assumed: str  # what is taken, and why
+    of: str  # one of the subjects above
+    assumed: str  # the assumption, and the reason for it
     option: str  # the option that settles it, as the user writes it
 
     def __str__(self) -> str:
@@ -36,16 +36,16 @@ class Guess(NamedTuple):
 
 
 class Account:
-    """How many lines of an input were used or skipped, and the guesses about it."""
+    """The lines of an input that were used or skipped, and the guesses about it."""
 
     def __init__(self) -> None:
-        self.lines = 0  # of the input, once it is closed
+        self.lines = 0  # the lines of the input, once the account is closed
         self.taken = 0  # lines that hold an event or a part of one
-        self.skipped: Counter[str] = collections.Counter()  # lines that hold none, by the reason
+        self.skipped: Counter[str] = collections.Counter()  # the number of lines without an event, by the reason
         self.guesses: List[Guess] = []
-        self.fields: List[str] = []  # that were not looked at, as a user names them
+        self.fields: List[str] = []  # the fields that were not used, as a user names them
         self._until = 0  # the last line that was taken
-        self._latest = 0  # how many lines were taken last
+        self._latest = 0  # the number of lines that were taken last
 
     def took(self, first: int, last: int) -> None:
         """Records the lines of an event. A line that holds several events counts once."""
@@ -80,7 +80,7 @@ class Account:
             self.guesses.append(guess)
 
     def field(self, name: str) -> None:
-        """Records a field that was not looked at."""
+        """Records a field that was not used."""
         if name not in self.fields:
             self.fields.append(name)
 
@@ -148,7 +148,7 @@ class Shifted(Account):
 
 
 def lines_of(text: str) -> int:
-    """How many lines a text has; the last one may lack its line feed."""
+    """Returns the number of lines of a text. The last line may lack its line feed."""
     return text.count("\n") + (not text.endswith("\n") and text != "")
 
 

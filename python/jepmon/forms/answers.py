@@ -1,4 +1,4 @@
-"""Whether an operation took place, if its own answer says that it did not."""
+"""Decides whether an operation took place if its own answer says that it did not."""
 from __future__ import annotations
 
 from typing import Any, Counter, Optional
@@ -12,7 +12,7 @@ YES = ("", "ok", "true", "success", "yes", "1", "acquired", "released", "stored"
 NO = ("fail", "failed", "false", "no", "0")
 OPEN = ("info", "timeout", "unknown", "error")
 UNANSWERED = kinds.OPERATIONS - kinds.ANSWERED
-DECIDES = ("cas", "acquire", "release")  # whose answer is true or false
+DECIDES = ("cas", "acquire", "release")  # the operations whose answer is true or false
 
 
 def answered(line: int, name: str, answer: Any) -> Optional[str]:

@@ -42,11 +42,11 @@ def decimal_of(text: str) -> "Union[float, bytes]":
     made = float(text)
     if len(text) < HELD and "e" not in text and "E" not in text or repr(made) == text:
         return made
-    import decimal  # which takes time to load, and seldom has to
+    import decimal  # loaded here, since loading takes time and is seldom necessary
 
     try:
         number = decimal.Decimal(text)
-    except ArithmeticError:  # its exponent has too many digits
+    except ArithmeticError:  # the exponent has too many digits
         return text.encode()
     if number == decimal.Decimal(repr(made)):
         return made
@@ -82,12 +82,12 @@ def cell_value(line: int, cell: str, mapping: Mapping) -> Any:
 
 
 def quoted_value(line: int, text: str, mapping: Mapping) -> Any:
-    """Reads a text in quotes, such as in logfmt: as a list, an object or a text of JSON if it is one, and otherwise as it is."""
+    """Reads a text in quotes, such as in logfmt: as a list, an object or a text of JSON if it spells one, and otherwise as a plain text."""
     return cell_value(line, text, mapping) if text.lstrip()[:1] in ("[", "{", '"') and text.strip() else text
 
 
 def _words(line: int, text: str, mapping: Mapping) -> Optional[List[Any]]:
-    """Reads a list as Go prints it, [1 2]; None if the text is another one."""
+    """Reads a list as Go prints it, [1 2]. None if the text is not such a list."""
     found = WORDS.fullmatch(text)
     return None if found is None else [cell_value(line, word, mapping) for word in found[1].split(" ")]
 

@@ -16,14 +16,14 @@ class Clients:
     def __init__(self, source: Optional[Source], said: Optional[str]) -> None:
         self._source = source if isinstance(source, Several) else None
         self._said = said
-        self._files: Dict[Any, Set[str]] = {}  # of each client
+        self._files: Dict[Any, Set[str]] = {}  # the files of each client
 
     @property
     def are_of_several_files(self) -> bool:
         return self._source is not None
 
     def named(self, client: Any, line: int) -> Any:
-        """The client of an event in this line."""
+        """Returns the client of the event in this line."""
         if self._source is None or self._said == ONE:
             return client
         file = self._source.part_of(line)

@@ -22,7 +22,7 @@ INTEGER = re.compile(r"-?[0-9]{1,30}")
 DECIMAL = re.compile(r"-?[0-9]{1,20}\.[0-9]{1,20}")
 DATE = re.compile(r"(\d{4})-?(\d\d)-?(\d\d)[T ](\d\d):(\d\d):(\d\d)(?:[.,](\d{1,12}))?\s*(Z|[+-]\d\d:?(?:\d\d)?|UTC|GMT)?")
 PERIOD = re.compile(r"PT(?=[0-9])(?:([0-9]+)H)?(?:([0-9]+)M)?(?:([0-9]+(?:\.[0-9]+)?)S)?")  # of ISO 8601
-NEVER = {(1 << 63) - 1, (1 << 64) - 1}  # the times of returns that never came, as Go prints the largest integers
+NEVER = {(1 << 63) - 1, (1 << 64) - 1}  # Go prints these largest integers as the times of returns that never came
 # The unit of a number that counts from 1970 to the years 2001 to 2100, by its size.
 SIZES = (("s", 10**9, 41 * 10**8), ("ms", 10**12, 41 * 10**11), ("us", 10**15, 41 * 10**14), ("ns", 10**18, 41 * 10**17))
 
@@ -35,15 +35,15 @@ class Clock:
         self._is_known: Optional[bool] = None  # whether the unit of the times is known
         self._has_zone: Optional[bool] = None
         self._units: Set[str] = set()
-        self.needs_unit = False  # whether the unit has to be known, as for a duration or a clock error
+        self.needs_unit = False  # whether the unit has to be known, for example because of a duration or a clock error
 
     def time(self, line: int, field: Any, unit: Optional[str]) -> Optional[Time]:
-        """The time in a field, whose name may have the unit. None if the field has no time."""
+        """Reads the time in a field. The name of the field may say the unit. None if the field has no time."""
         if type(field) is int or type(field) is float:
             return self._number(line, field, unit)
         if field is None or field == "":
             return None
-        if isinstance(field, bytes):  # a decimal that a double does not hold
+        if isinstance(field, bytes):  # a decimal that a double can't hold exactly
             return self._number(line, float(field), unit)
         if isinstance(field, str):
             text = field.strip()
@@ -80,7 +80,7 @@ class Clock:
         return None if self._is_known != (unit is not None) else 1 if unit is None else UNITS[unit]
 
     def coarsest(self) -> int:
-        """By how many nanoseconds a return may be later than its time, if times have several units."""
+        """Returns how many nanoseconds after its recorded time a return may have happened, if times have several units."""
         return max(UNITS[unit] for unit in self._units) - 1 if len(self._units) > 1 else 0
 
     def _number(self, line: int, number: Time, unit: Optional[str]) -> Time:
@@ -96,7 +96,7 @@ class Clock:
         return number * UNITS[unit]
 
     def _guessed(self, line: int, number: Time) -> str:
-        """The unit of a number that counts from 1970, by its size."""
+        """Guesses the unit of a number that counts from 1970, by its size."""
         for unit, least, most in SIZES:
             if least <= number <= most:
                 self._account.guess(UNIT, f"{unit} since 1970, by the size of {number}", "--time-unit")
@@ -107,7 +107,7 @@ class Clock:
         if self._is_known is None:
             self._is_known = is_known
         if self._is_known != is_known:
-            raise Refused(f"line {line}: {_shown(field)} is a time of another kind than those before it: let all be of one clock, and say "
+            raise Refused(f"line {line}: {_shown(field)} is a time of another kind than those before it: let all times be of one clock, and say "
                           "--time-unit for numbers without one")
 
     def _date(self, line: int, text: str) -> int:
@@ -155,7 +155,7 @@ def _date_of(text: str, line: int) -> "tuple[int, bool]":
 
 @functools.lru_cache(maxsize=1 << 12)
 def _seconds(head: str) -> Optional[int]:
-    """The seconds since 1970 of 2024-05-01T10:00:00 in UTC; None if it is none."""
+    """Returns the seconds since 1970 of a date such as 2024-05-01T10:00:00 in UTC. None if the text is not such a date."""
     if len(head) != 19 or head[4] != "-":
         return None
     try:

@@ -24,7 +24,7 @@ PACKED = (
 
 
 def pieces_of(file: BinaryIO) -> Iterator[bytes]:
-    """The bytes of a file that is open."""
+    """Yields the bytes of an open file in pieces."""
     while True:
         try:
             piece = file.read(PIECE)
@@ -51,7 +51,7 @@ def texts_of(pieces: Iterable[bytes]) -> Iterator[str]:
 
 
 def plain(pieces: Iterable[bytes]) -> Iterator[bytes]:
-    """The bytes out of gzip, and without a byte order mark."""
+    """Yields the bytes unpacked from gzip, and without a byte order mark."""
     pieces = iter(pieces)
     front = b""
     for piece in pieces:
@@ -81,7 +81,7 @@ def joined(front: bytes, pieces: Iterator[bytes]) -> Iterator[bytes]:
 
 
 def unpacked(pieces: Iterator[bytes]) -> Iterator[bytes]:
-    """The unpacked bytes of gzip, which may have several parts. If a few bytes unpack to many, these come in pieces."""
+    """The unpacked bytes of gzip, which may have several parts. If a few bytes unpack to many, it yields these in several pieces."""
     inflate = zlib.decompressobj(wbits=31)
     for piece in pieces:
         try:

@@ -1,4 +1,4 @@
-"""Which form a recorded history has, by how its text begins."""
+"""Finds the form of a recorded history by the beginning of its text."""
 from __future__ import annotations
 
 import re
@@ -22,7 +22,7 @@ FRONT = 200_000  # characters within which a log's first event is looked for
 
 
 def form_of(text: str) -> str:
-    """The form of a text. Raises Refused if it is not the form of a history."""
+    """Returns the form of a text. Raises Refused if the text has no form of a history."""
     comments = rows.COMMENTS.match(text)
     if comments is not None and EDN_BEHIND.match(text, comments.end()) is None:
         text = text[comments.end():]

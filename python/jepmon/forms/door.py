@@ -32,10 +32,10 @@ from .written import Written
 
 OWN, JEPSEN, KEYED, LOG = "jepmon's own form", "Jepsen's form", "EDN with a key in each event", "a log, an operation a line"
 NO_KEYS = (KEY, "its values have no keys: all of it is one object, key 0", "--key K")
-FURTHER = ("time", "error")  # fields that are copied from the original history
-MOST_WHOLE = 250_000  # events that are judged by one check, if nobody asked for shards
+FURTHER = ("time", "error")  # other fields that are copied from the original history
+MOST_WHOLE = 250_000  # one check judges at most this many events; a longer history is judged in shards, also if nobody asked for them
 TIME = re.compile(r":time (-?[0-9]{1,19})(?=[,}\s])")
-LONGEST = 200  # lines that one event of it may take
+LONGEST = 200  # an event may have at most this many lines
 
 
 class Options(NamedTuple):
@@ -43,12 +43,12 @@ class Options(NamedTuple):
 
     key: Optional[str] = None  # the key of a history without keys
     nil_is_absent: bool = False
-    model: Optional[str] = None  # that is stated for all keys
-    mapping: Mapping = Mapping()  # what is said of the fields of rows, and of the order of events
+    model: Optional[str] = None  # the model that the user states for all keys
+    mapping: Mapping = Mapping()  # the stated meaning of the fields of rows, and the stated order of events
     guesses_key: bool = True  # whether a history without keys is one object, if the user names no key
-    values: Optional[str] = None  # which values are one: "exact", "text" or "number"
+    values: Optional[str] = None  # which spellings are one value: "exact", "text" or "number"
     absent: Sequence[str] = ()  # the texts of answers that mean that a key is missing
-    initial: Optional[str] = None  # what each register holds at first
+    initial: Optional[str] = None  # the first value of each register
 
     @property
     def missing_is_judged(self) -> bool:
@@ -69,7 +69,7 @@ class Options(NamedTuple):
         return self.missing_is_judged or self.initial is not None or not self.meant.says_nothing
 
     def asked(self, order: Optional[str]) -> Asked:
-        """The same options for events in Jepsen's form, which are taken in this order."""
+        """Returns the same options for events in Jepsen's form, which are read in this order."""
         skew = None if self.mapping.skew is None or order == LINES else nanoseconds(self.mapping.skew)
         return Asked(self.key, self.missing_is_judged, order, self.mapping.contradictions, skew, meant=self.meant, ignored=self.mapping.ignored)
 
@@ -118,22 +118,22 @@ class Translation:
         self.history = read
         self.account = account
         self.nil_is_absent, self.initial = nil_is_absent, initial
-        self.notes = notes  # of how it came about
-        self._texts = texts  # in EDN, whose events have more fields than were kept
+        self.notes = notes  # notes on how it came about
+        self._texts = texts  # the original text, if it is EDN: its events have more fields than were kept
 
     def reason_for_shards(self) -> Optional[str]:
-        """Why one check does not get the history. None if it does."""
+        """Returns the reason why one check can't judge the history. None if one check can."""
         events, keys = len(self.history.events), len(self.history.keys)
         if events > kinds.EVENTS:
-            return f"{events:,} events, which one check does not take"
-        return f"{keys:,} keys, which one check does not take" if keys > len(kinds.KEYS) else "" if events > MOST_WHOLE else None
+            return f"{events:,} events, which are too many for one check"
+        return f"{keys:,} keys, which are too many for one check" if keys > len(kinds.KEYS) else "" if events > MOST_WHOLE else None
 
     def turned(self, in_shards: bool) -> Turned:
         """The history in jepmon's own form."""
         return written(self.history, self.nil_is_absent, OF_SHARDS if in_shards else Limits(), self.initial)
 
     def beside(self, wanted: Set[int], begun: int) -> Dict[int, Dict[str, Any]]:
-        """The times and errors of the events with these indices. `begun` events come before the history's own."""
+        """Returns the times and errors of the events with these indices. The tool has put `begun` events before the history's own."""
         rows = {index: row for index, row in self._rows(begun) if index in wanted and len(row) > 2}
         if self._texts is None:
             return {index: {name: said for name, said in zip(FURTHER, row[7]) if said is not None} for index, row in rows.items() if row[7] is not None}

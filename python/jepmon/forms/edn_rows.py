@@ -18,7 +18,7 @@ from .files import Source
 from .rows import Row
 from .written import Written
 
-LOOKED_AT = 50  # elements within which the first event of a client is looked for
+LOOKED_AT = 50  # the first event of a client is searched for in at most this many elements
 PORCUPINE = ("get", "put", "append")
 
 
@@ -48,7 +48,7 @@ def written(source: Source, account: Account, asked: rows_told.Asked) -> Written
 
 
 def is_one(text: str) -> bool:
-    """Whether the first event of a client has a field of its key."""
+    """Returns whether the first event of a client has its key in a field."""
     try:
         for _, element in zip(range(LOOKED_AT), edn.Reader(text).history()):
             fields = edn.fields_of(element.value)

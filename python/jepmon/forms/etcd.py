@@ -52,7 +52,7 @@ def turned(row: Row, writer: Writer) -> Optional[Row]:
 
 
 def _error(row: Row, came: Dict[str, Any]) -> Any:
-    """The error of an operation, which may have taken place all the same. None if there is no error."""
+    """Returns the error of an operation; the operation may have taken place in spite of the error. None if there is no error."""
     told = [came.get(name) for name in ("error", "clienterror", "err")] + [_inner(row, came, "txn").get("error")]
     error = next((error for error in told if error not in (None, "", False)), None)
     if _inner(row, came, "txn").get("failure"):

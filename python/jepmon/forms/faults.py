@@ -9,7 +9,7 @@ from ..history import fault_notes as notes
 from ..history.fault_notes import Fault
 from ..history.nemesis_faults import ended_by
 
-SHOWN = 60  # characters of what a nemesis did
+SHOWN = 60  # at most this many characters of a text of a nemesis are shown
 
 
 class _Note:
@@ -48,7 +48,7 @@ def of_notes(made: Sequence[_Note]) -> List[Fault]:
     """The faults of a nemesis. A fault lasts until the operation that ends it, or until the end of the history. Otherwise it is a
     moment."""
     faults: List[Fault] = []
-    held: Dict[int, str] = {}  # the names of those that hold, by their places among the faults
+    held: Dict[int, str] = {}  # the names of the faults that still last, by their places in `found`
     for note in made:
         ended = [place for place, name in held.items() if note.name in ended_by(name)]
         for place in ended:
@@ -70,7 +70,7 @@ def of_text(text: str) -> List[Fault]:
 
 
 def of_lines(lines: Callable[[], Iterable[str]]) -> List[Fault]:
-    """The faults in these lines, which are read twice."""
+    """Returns the faults in these lines. Reads the lines twice."""
     return sorted(notes.faults_of(lines()) + of_notes(list(_own(lines()))), key=lambda fault: fault.begin)
 
 
@@ -89,7 +89,7 @@ def _own(lines: Iterable[str]) -> Iterator[_Note]:
 
 def noted(text: str, faults: Sequence[Fault]) -> str:
     """The events of a text, an event a line, with notes of these faults between them."""
-    marks: Dict[int, List[str]] = {}  # by how many events come before them
+    marks: Dict[int, List[str]] = {}  # the notes, by the number of events before them
     for fault in faults:
         folded = notes.folded(fault.text[:notes.LONGEST])
         kind = notes.NOTE if fault.end == fault.begin else notes.BEGIN

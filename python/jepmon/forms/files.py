@@ -11,17 +11,17 @@ from typing import IO, Callable, Iterator, List, Optional, Sequence
 
 from . import Beyond, Refused, decoding
 
-MOST = 1 << 30  # characters of a text that is held
-FRONT = 1 << 16  # characters by which a form is told
+MOST = 1 << 30  # a text in memory has at most this many characters
+FRONT = 1 << 16  # the form is found by at most this many characters
 HELD = 1 << 25  # bytes of standard input that are held in memory
-DEEPEST = 4  # folders in one another that are looked through
-MOST_ENTRIES = 20_000  # of folders that are looked through
+DEEPEST = 4  # folders within folders are searched to this depth
+MOST_ENTRIES = 20_000  # at most this many entries of folders are searched
 LISTED = 12  # histories that a refusal names
 
 # The names of files with histories, the best first. The last two lack facts that the first ones have.
 NAMES = ("history.edn", "history.jsonl", "history.ndjson", "history.json", "history.csv", "history.txt", "jepsen.log")
 ENDINGS = (".edn", ".jsonl", ".ndjson", ".json", ".csv")
-BESIDE = ("results.edn", "test.edn", "test.jepsen", "results.json")  # what Jepsen writes beside a history
+BESIDE = ("results.edn", "test.edn", "test.jepsen", "results.json")  # files that Jepsen writes beside a history
 LATEST = ("latest", "current")
 
 
@@ -29,11 +29,11 @@ class Source:
     """A recorded history as it was found: a file, or the bytes of standard input. It can be read any number of times."""
 
     def __init__(self, name: str, path: Optional[str], opened: Callable[[], IO[bytes]], notes: Sequence[str] = ()) -> None:
-        self.name = name  # how it is told of
-        self.path = path  # None of standard input
+        self.name = name  # its name in messages
+        self.path = path  # None for standard input
         self._opened = opened
         self._text: Optional[str] = None
-        self._feeds, self._last = 0, "\n"  # of the text that was read last: its line feeds, and its last character
+        self._feeds, self._last = 0, "\n"  # the number of line feeds, and the last character, of the text that was read last
         with opened() as file:
             begin = file.read(len(decoding.MARK))
         self.is_plain = path is not None and not begin.startswith((decoding.GZIP, decoding.MARK))  # whether the text is exactly the file
@@ -77,7 +77,7 @@ class Source:
         return self.path, line
 
     def _front(self) -> str:
-        """The first lines, up to one that says something."""
+        """Returns the first lines, up to the first line with a content."""
         front = ""
         for piece in self.texts():
             front += piece
@@ -99,7 +99,7 @@ class Several(Source):
         self.path, self.is_plain = None, False
         self.front = parts[0].front
         self._text = None
-        self.bases: List[int] = []  # how many lines come before those of each
+        self.bases: List[int] = []  # for each file, the number of lines before its first line
         count = 0
         for part in parts:
             collections.deque(part.texts(), 0)
@@ -111,7 +111,7 @@ class Several(Source):
             f"{part.name} has {base + 1} to {end}" for part, base, end in zip(parts, self.bases, [*self.bases[1:], count])))
 
     def texts(self) -> Iterator[str]:
-        """The texts, one behind the other."""
+        """Yields the texts, one after another."""
         for part in self.parts:
             last = ""
             for piece in part.texts():
@@ -137,7 +137,7 @@ class Several(Source):
 
 
 def several(words: Sequence[str]) -> Source:
-    """The history in these files and folders, each of which has a part. A single one has the whole history."""
+    """Returns the history in these files and folders. Each of several has a part of the history; a single one has the whole history."""
     if len(words) == 1:
         return found(words[0])
     if len(set(words)) < len(words):
@@ -167,7 +167,7 @@ def opened(word: str, notes: Sequence[str] = ()) -> Source:
 
 
 def of_pipe(name: str, file: IO[bytes]) -> Source:
-    """The history that a pipe gives. It is kept in memory or in a file without a name, so that it can be read again."""
+    """Returns the history that arrives through a pipe. It is kept in memory or in a file without a name, so that it can be read again."""
     kept = _Kept()
     for piece in decoding.pieces_of(file):  # type: ignore[arg-type]
         kept.file.write(piece)
@@ -178,7 +178,7 @@ class _Kept:
     """A file without a name. It disappears when its last reader closes it."""
 
     def __init__(self) -> None:
-        import tempfile  # which takes time to load, and seldom has to
+        import tempfile  # loaded here, since loading takes time and is seldom necessary
 
         self.file = tempfile.SpooledTemporaryFile(HELD)
 
@@ -206,7 +206,7 @@ class _Again:
 
 
 def of_text(text: str, name: str = "text") -> Source:
-    """A history that is held already."""
+    """Returns a history whose text is in memory already."""
     return Source(name, None, lambda: io.BytesIO(text.encode()))
 
 
@@ -214,7 +214,7 @@ def of_text(text: str, name: str = "text") -> Source:
 
 
 def located(path: pathlib.Path) -> pathlib.Path:
-    """The file that a path names. A folder stands for the one history in it."""
+    """Returns the file that a path names. For a folder it is the one history in the folder."""
     try:
         if not path.is_dir():
             return path
@@ -271,7 +271,7 @@ def _files(folder: pathlib.Path) -> Iterator[pathlib.Path]:
 
 
 def _beside(path: pathlib.Path) -> str:
-    """The history next to a file that is not a history."""
+    """Names the history beside a file that is not a history."""
     beside = path.parent / "history.edn"
     return f" (it is there: {beside})" if path.name in BESIDE and beside.is_file() else ""
 

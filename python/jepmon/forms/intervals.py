@@ -28,15 +28,15 @@ class Interval(NamedTuple):
     argument: Any  # of the invocation
     answer: Any  # of the completion
     call: Time
-    ends: Optional[Time]  # None where it never returned
+    ends: Optional[Time]  # None if it never returned
     outcome: str  # "ok", "fail" or "info"
     error: Optional[str]
-    mark: int  # by which rows are told apart; 0 of a read
-    last: int = 0  # the line of its completion, if that is another one
+    mark: int  # a number that distinguishes rows; 0 for a read
+    last: int = 0  # the line of its completion, if it is another line
 
 
 class Fault(NamedTuple):
-    """What a nemesis did."""
+    """A fault that a nemesis injected."""
 
     time: Time
     line: int
@@ -45,23 +45,23 @@ class Fault(NamedTuple):
 
 
 def of_told(told: Told, writer: Writer) -> Interval:
-    """The operation that a row tells."""
+    """Returns the operation of a row."""
     line = told.line
     if told.call is None:
-        raise Refused(f"line {line}: this operation has no time of its call, which those before it have")
+        raise Refused(f"line {line}: this operation has no time of its call, but the operations before it have one")
     if told.name is None:
         raise Refused(f"line {line}: this operation has no name, such as read or write; say --map FIELD=op for the field that names it")
     if told.ends is not None and told.ends < told.call:
-        raise Refused(f"line {line}: it returns at {told.ends}, before its call at {told.call}; leave the return out where there is none")
+        raise Refused(f"line {line}: it returns at {told.ends}, before its call at {told.call}; leave the return out if there is none")
     argument, answer, outcome = told.value, told.answer, told.outcome
     if told.name in ANSWERED:
         if answer is MISSING:
             argument, answer = None, argument
-        elif argument in (MISSING, None, ""):  # Go prints an empty text where there is none
+        elif argument in (MISSING, None, ""):  # Go prints an empty text if there is no argument
             argument = None
         else:
-            raise Refused(f"line {line}: a {told.name} has the argument {element(argument)[:60]}, and only an answer is known; "
-                          "is it the key? let its field be called key")
+            raise Refused(f"line {line}: a {told.name} has the argument {element(argument)[:60]} and an answer too, but can only have an answer; "
+                          "say --map FIELD=NAME for the field that is not one, such as FIELD=key or FIELD=outcome")
     elif answer is not MISSING and told.name in UNANSWERED and (outcome is None or outcome == "ok" and says_no(told.name, answer)):
         outcome = answered(line, told.name, answer) or outcome
     if outcome is None:
@@ -88,8 +88,8 @@ class Operations:
         self._writer, self._timeline = writer, Timeline()
         self._clients: Set[Any] = set()
         self._count = self._returned = 0
-        self._calls: Dict[Any, List[Time]] = {}  # of each key, if they are kept
-        self._ends: Dict[Any, List[Time]] = {}  # of those that have certainly returned
+        self._calls: Dict[Any, List[Time]] = {}  # the calls of each key, if they are kept
+        self._ends: Dict[Any, List[Time]] = {}  # the returns of the operations that have certainly returned
 
     def take(self, interval: Interval, keeps_times: bool) -> None:
         line, client, name, key, argument, answer, call, ends, outcome, error, mark, last = interval
@@ -101,17 +101,17 @@ class Operations:
         begun = line, name, key, () if argument is MISSING else argument, call, None, mark
         self._timeline.operation(client, call, ends, outcome, begun, (last or line, name, key, () if value is MISSING else value, ends, error, mark))
         if keeps_times:
-            named = key if isinstance(key, (str, int, float, tuple)) else element(key)  # a tuple where there is none
+            named = key if isinstance(key, (str, int, float, tuple)) else element(key)  # a tuple if there is no key
             self._calls.setdefault(named, []).append(call)
             if ends is not None and outcome != "info":
                 self._ends.setdefault(named, []).append(ends)
 
     def are_of_several(self) -> bool:
-        """Whether several clients may have done them."""
+        """Returns whether several clients may have done the operations."""
         return self._count > 1 and (len(self._clients) > 1 or None in self._clients)
 
     def are_apart(self) -> bool:
-        """Whether their clients may have clocks that differ."""
+        """Returns whether the clients of the operations may have clocks that differ."""
         return self._timeline.are_apart()
 
     def test(self, names: str) -> None:
@@ -130,8 +130,8 @@ class Operations:
                               "lines twice? If they are two operations, let a field tell them apart")
 
     def lost(self, skew: Time) -> int:
-        """The number of pairs of operations of one key that are ordered by their times, but not if each operation is wider by a clock
-        error."""
+        """Counts the pairs of operations of one key that lose their order: their times order them, but not if each operation begins earlier
+        and ends later by a clock error."""
         count = 0
         for key, ends in self._ends.items():
             calls = sorted(self._calls[key])
@@ -142,7 +142,7 @@ class Operations:
         """Writes the events. Each operation begins earlier and ends later by a clock error, and a return in a coarse unit is at the end of
         this unit."""
         waiting = sorted(faults, key=lambda fault: fault[:2], reverse=True)
-        last: Dict[int, Tuple[Any, ...]] = {}  # what was given of the invocation of each process
+        last: Dict[int, Tuple[Any, ...]] = {}  # the data of the invocation of each process
         for kind, process, given in self._timeline.moments(skew, skew + coarse):
             line, name, key, value, time, error, _ = given if given is not None else last.pop(process)
             if kind == "invoke":

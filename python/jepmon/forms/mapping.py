@@ -21,7 +21,7 @@ from typing import Any, Dict, List, Mapping as Map, NamedTuple, Optional, Patter
 from . import Refused
 from .vocabulary import ABSENT, MEANINGS, OPERATIONS, TYPES, UNITS, Slot, plain, slot_of
 
-LINES, INDEX, TIMES = ORDERS = ("lines", "index", "times")  # the orders in which events are taken
+LINES, INDEX, TIMES = ORDERS = ("lines", "index", "times")  # the possible orders of the events
 APART, ONE = CLIENTS = ("apart", "one")
 MEMBERS = ("fields", "ignore", "rows", "line", "columns", "operations", "outcomes", "absent", "time_unit")
 
@@ -37,13 +37,13 @@ class Mapping(NamedTuple):
     operations: Map[str, str] = OPERATIONS
     outcomes: Map[str, str] = TYPES
     absent: "frozenset[str]" = frozenset(ABSENT)
-    has_absent: bool = False  # that the user says which cells hold no value
+    has_absent: bool = False  # whether the user says which cells hold no value
     time_unit: Optional[str] = None
     order: Optional[str] = None
     skew: Optional[str] = None
-    clients: Optional[str] = None  # whether a client of one name in several files is one, or as many as files have it
-    unfinished: bool = False  # whether it is said that a client does one operation after the other
-    contradictions: Map[str, str] = {}  # the type of an :ok of EDN that is answered by false ("false"), or has an :error ("error")
+    clients: Optional[str] = None  # whether clients with one name in several files are one client ("one"), or one client for each file ("apart")
+    unfinished: bool = False  # whether the user says that a client does one operation after another
+    contradictions: Map[str, str] = {}  # the type that the user gives to an :ok of EDN with the answer false ("false"), or with an :error ("error")
 
     def with_field(self, words: str) -> Mapping:
         """Adds a field, given as FIELD=NAME."""
@@ -67,7 +67,7 @@ def slot_named(name: str, place: str) -> Slot:
 
 
 def read(path: str) -> Mapping:
-    """The mapping that a file says."""
+    """Reads the mapping in a file."""
     try:
         with open(path, encoding="utf-8") as file:
             said = json.load(file)
@@ -82,7 +82,7 @@ def read(path: str) -> Mapping:
 
 
 def of(said: Any) -> Mapping:
-    """The mapping that an object says."""
+    """Makes the mapping of an object of JSON."""
     if not isinstance(said, dict):
         raise Refused("a mapping is an object")
     for name in said:
@@ -121,7 +121,7 @@ def _text(said: Dict[str, Any], name: str) -> Optional[str]:
 
 
 def _known(said: Dict[str, Any], name: str, known: Map[str, str]) -> Map[str, str]:
-    """The words of the tables, and those that a user adds."""
+    """Returns the known words, and the words that the user adds."""
     added = _words(said, name)
     for word, meaning in added.items():
         if meaning not in set(known.values()):

@@ -1,4 +1,4 @@
-"""The options by which a user says what the fields of rows are; jepmon-judge and jepmon-from-json have them."""
+"""The options that explain the fields of rows; jepmon-judge and jepmon-from-json have them."""
 from __future__ import annotations
 
 import argparse
@@ -17,7 +17,8 @@ def add(parser: argparse.ArgumentParser) -> None:
     """Adds the options to a command line."""
     group = parser.add_argument_group("rows of JSON, CSV and logs")
     group.add_argument("--map", metavar="FIELD=NAME", action="append", default=[],
-                       help="read a field as the one of this known name, such as --map path=key; a path into objects has dots")
+                       help="the field FIELD means what the known name NAME means: with --map path=key the field path is the key; dots lead "
+                       "into objects")
     group.add_argument("--mapping", metavar="FILE", help="a mapping file (JSON): fields, words, lines of a log, columns")
     group.add_argument("--time-unit", choices=tuple(UNITS), help="the unit of times that are numbers and do not name one")
     group.add_argument("--unfinished", choices=("info",), help="an operation that is open when its client invokes the next one never returned")
@@ -30,9 +31,11 @@ def add_order(parser: argparse.ArgumentParser) -> None:
     group.add_argument("--ignore", metavar="FIELD", action="append", default=[], help="a field without a meaning for the history")
     group.add_argument("--order", choices=ORDERS, help="take events in the order of their lines, of their :index, or of their times")
     group.add_argument("--skew", metavar="TIME", help="the error of each clock, such as 5ms: orders within it are not certain")
-    group.add_argument("--clients", choices=CLIENTS, help="for several files: clients of one name are apart, a client for each file, or one")
-    group.add_argument("--outcome", metavar="WORD=KIND", action="append", default=[], type=_contradiction, help="false=fail: an :ok of EDN, or of a dequeue, "
-                       "that is answered by false is a :fail; error=info: an :ok with an :error is an :info; KIND is ok, fail or info")
+    group.add_argument("--clients", choices=CLIENTS, help="for several files: clients with the same name are a client for each file (apart), "
+                       "or one client (one)")
+    group.add_argument("--outcome", metavar="WORD=KIND", action="append", default=[], type=_contradiction, help="false=fail: an :ok "
+                       "with the answer false is a :fail (in EDN; in rows only of a dequeue); error=info: an :ok with an :error is an :info; KIND is "
+                       "ok, fail or info")
 
 
 def _contradiction(words: str) -> Tuple[str, str]:
@@ -43,9 +46,9 @@ def _contradiction(words: str) -> Tuple[str, str]:
 
 
 def of_order(given: argparse.Namespace) -> Mapping:
-    """The options of any form."""
+    """Reads the options for any form."""
     if given.skew is not None:
-        nanoseconds(given.skew)  # which refuses what is none
+        nanoseconds(given.skew)  # this refuses a text that is not a length of time
     made = Mapping(order=given.order, skew=given.skew, clients=given.clients, contradictions=dict(given.outcome))
     for field in given.ignore:
         made = made.with_ignored(field)
@@ -53,7 +56,7 @@ def of_order(given: argparse.Namespace) -> Mapping:
 
 
 def of(given: argparse.Namespace) -> Mapping:
-    """What these options say."""
+    """Reads the options for rows."""
     made = mapping.read(given.mapping) if given.mapping else Mapping()
     for words in given.map:
         made = made.with_field(words)

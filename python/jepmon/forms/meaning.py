@@ -17,20 +17,20 @@ from .written import MISSING, element
 
 __all__ = ["ANSWERED", "MISSING", "Reader", "Told"]
 
-ROW = re.compile(r'\s*(?:\{\s*"|[\w.]+=\S+\s+[\w.]+=\S)')  # how a text begins that is a row of JSON or of logfmt
+ROW = re.compile(r'\s*(?:\{\s*"|[\w.]+=\S+\s+[\w.]+=\S)')  # the beginning of a text that is itself a row of JSON or of logfmt
 
 
 class Told(NamedTuple):
-    """What a row tells."""
+    """The content of a row."""
 
     line: int
-    kind: Optional[str]  # of an event "invoke", "ok", "fail" or "info"; None of an operation
+    kind: Optional[str]  # "invoke", "ok", "fail" or "info" for an event; None for an operation
     client: Any
-    name: Optional[str]  # of the operation; None where the row has none, as a completion may
-    key: Any  # MISSING where there is none
+    name: Optional[str]  # the operation; None if the row does not name it, as in some completions
+    key: Any  # MISSING if there is none
     value: Any
     answer: Any
-    outcome: Optional[str]  # "ok", "fail" or "info", where the row says
+    outcome: Optional[str]  # "ok", "fail" or "info", if the row says so
     call: Optional[Time]
     ends: Optional[Time]
     time: Optional[Time]
@@ -52,9 +52,9 @@ class Reader:
         self._operations = {**mapping.operations, **OF_STACKS} if has_model else mapping.operations
         self._words: Dict[Any, str] = {}  # the operations by their words
         self._key_parts: Optional[List[str]] = None  # the fields that are the key, if the user names them
-        self.last_index = -1  # that an event states
-        self._bare: Optional[Row] = None  # the first row that tells of no operation
-        self._by_duration: Optional[bool] = None  # whether returns are calls and durations
+        self.last_index = -1  # the last index that an event states
+        self._bare: Optional[Row] = None  # the first row without an operation
+        self._by_duration: Optional[bool] = None  # whether the rows have durations instead of returns
 
     def told(self, row: Row) -> Optional[Told]:
         """The content of a row. None if it names no client, operation, key or value."""
@@ -134,7 +134,7 @@ class Reader:
         return value
 
     def kind(self, word: Any) -> Optional[str]:
-        """The type that a word says."""
+        """Returns the type of event that a word means."""
         if isinstance(word, bool):  # Porcupine's events: a return is true
             return "ok" if word else "invoke"
         if not isinstance(word, str):
@@ -146,7 +146,7 @@ class Reader:
         return kind
 
     def _kind_and_name(self, line: int, word: "Tuple[Optional[Use], Any]", said: Any) -> Tuple[Optional[str], Optional[str], Optional[Said]]:
-        """The type of an event, its operation, and the outcome of an operation if the type has it."""
+        """Returns the type of an event, its operation, and the outcome of an operation if the word of the type says it."""
         kind, use = self.kind(word[1]), word[0]
         if said is MISSING or said is None:
             both = both_of(word[1]) if isinstance(word[1], str) and plain(word[1]) not in self._mapping.outcomes else None

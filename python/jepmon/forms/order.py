@@ -1,5 +1,5 @@
-"""The order of events if some clients come behind all others, as in concatenated files. With times the order is only that of the clocks,
-and without times there is no order. All times must be from one clock."""
+"""Finds out whether the order of events is known. It may not be if some clients come behind all others, as in concatenated files: with
+times the order is only that of the clocks, and without times there is no order. All times must be from one clock."""
 from __future__ import annotations
 
 import array
@@ -11,12 +11,12 @@ from .timeline import Time, are_apart
 
 TOGETHER = "the events of each client stand together, as in files put one behind the other, and {}"
 BEHIND = "the events of some clients stand behind those of all others, as in files put one behind the other, and {}"
-EITHER = "--order lines or --order times"  # which settles the order of events with one time
-BY_TIMES = "--order times"  # which settles that of events whose times go back
+EITHER = "--order lines or --order times"  # the options that settle the order of events with equal times
+BY_TIMES = "--order times"  # the option that settles the order of events whose times go back
 ONE_CLOCK = "the times of all clients are of one clock, or of clocks that agree"
 APART = "the times of all clients are of one clock, though by them some clients had long ended when others began"
-SKEW = "--skew 0ms"  # which settles both
-LEAST = 4  # events of each of two clients, of which the order is not known
+SKEW = "--skew 0ms"  # the option that settles ONE_CLOCK and APART
+LEAST = 4  # the order is not known only if two clients have at least this many events each
 
 
 class Blocks:
@@ -24,12 +24,12 @@ class Blocks:
     together, and its clients have no other events before or behind the block."""
 
     def __init__(self, is_ordered: bool = False) -> None:
-        self._is_ordered = is_ordered  # whether the lines are known to be the order
+        self._is_ordered = is_ordered  # whether the lines are known to be in the order of the events
         self._first: Dict[Any, int] = {}  # the place of each client's first event
         self._starts = array.array("Q")  # of each block: the place of its first event,
         self._lines = array.array("Q")  # its line,
-        self._times = array.array("d")  # the time of the event before it, and its own
-        self._count = self._timed = 0  # events, and those with times
+        self._times = array.array("d")  # the time of the event before it, and the time of its own first event
+        self._count = self._timed = 0  # the number of events, and of events with times
         self._latest: Time = 0
 
     def take(self, client: Any, line: int, time: Optional[Time]) -> None:
@@ -73,14 +73,14 @@ class Blocks:
         account.guess(ORDER, f"{how}: they are taken in the order of their lines", "--order lines")
 
     def _join(self, first: int) -> None:
-        """Joins the blocks from that with this place on."""
+        """Joins the last blocks, from the block with the place `first` on, to one block."""
         while self._starts[-1] > first:
             self._starts.pop()
             self._lines.pop()
             del self._times[-2:]
 
     def _sizes(self) -> Iterator[int]:
-        """How many events each block has."""
+        """Returns the number of events of each block."""
         return (end - start for start, end in zip(self._starts, [*self._starts[1:], self._count]))
 
     def _spans(self) -> Iterator[Tuple[Time, Time]]:

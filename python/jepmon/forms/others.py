@@ -32,7 +32,7 @@ def named(text: str, as_set: bool) -> Optional[str]:
     """The reason why jepmon cannot judge a text of EDN, if the first events show it."""
     try:
         return _named(edn.Reader(text).history(), as_set)
-    except edn.Unreadable:  # which is told where the whole of it is read
+    except edn.Unreadable:  # it is reported later, when the whole text is read
         return None
 
 
@@ -66,5 +66,5 @@ def _is_several(value: Optional[edn.Value]) -> bool:
     if not isinstance(value, edn.Many) or not value.members:
         return False
     if value.opened == "{":
-        return tuple_of(value) is None  # as jepsen.independent's, {:key k, :value v}
+        return tuple_of(value) is None  # jepsen.independent's {:key k, :value v} is not several registers
     return value.opened == "[" and all(isinstance(member, edn.Many) and member.opened == "[" for member in value.members)

@@ -9,10 +9,10 @@ from .account import OUTCOME, Account
 from .shapes import Fields, Shape, short, shown
 from .vocabulary import FALSE, NO_ERROR, TRUE, plain
 
-DEFINITE = ("cas", "acquire", "read", "dequeue")  # that the store refused them is an answer: they did not take place
-BY_MAPPING = 'a mapping file with "outcomes"'  # settles what statuses of HTTP say
+DEFINITE = ("cas", "acquire", "read", "dequeue")  # if the store refuses one of these, that is an answer: it did not take place
+BY_MAPPING = 'a mapping file with "outcomes"'  # the option that settles the meaning of statuses of HTTP
 HTTP = range(100, 600)
-Said = Tuple[str, Any, str]  # the name of a field, what it says, and the outcome by it
+Said = Tuple[str, Any, str]  # the name of a field, its value, and the outcome that follows
 
 
 def truth(line: int, name: str, field: Any) -> Optional[bool]:
@@ -31,7 +31,7 @@ def truth(line: int, name: str, field: Any) -> Optional[bool]:
 
 
 def error_of(shape: Shape, fields: Fields) -> Optional[Tuple[str, Any]]:
-    """The error that the fields tell; None if they tell none."""
+    """Returns the error in the fields. None if there is none."""
     for use in shape.uses.get("error", ()):
         error = fields[use.name]
         if error is None or error is False or error != error or isinstance(error, (str, int)) and str(error).strip().lower() in NO_ERROR:
@@ -70,7 +70,7 @@ class Outcomes:
         return None
 
     def word(self, field: Any) -> Optional[str]:
-        """The outcome that a word or a status of HTTP says."""
+        """Returns the outcome that a word or a status of HTTP means."""
         if isinstance(field, bool):
             return "ok" if field else None
         if isinstance(field, (str, int)):
@@ -79,8 +79,8 @@ class Outcomes:
                 return outcome
             number = int(field) if str(field).isdigit() and len(str(field)) == 3 else 0
             if number in HTTP:
-                self._account.guess(OUTCOME, "statuses from 100 to 599 are those of HTTP: 2xx is ok, and what has another one may have taken place",
-                                    BY_MAPPING)
+                self._account.guess(OUTCOME, "statuses from 100 to 599 are those of HTTP: 2xx is ok, and an operation with another status may "
+                                    "have taken place", BY_MAPPING)
                 return "ok" if number // 100 == 2 else "info"
         return None
 

@@ -29,12 +29,12 @@ GAP, OF_COMMANDS, TAKEN_BACK = "blank or comment", "commands", "events that were
 TIME = re.compile(r",? :time (?:([0-9]{1,19})(?![0-9]))?")
 FAULTS = frozenset({"partition", "heal", "pause", "resume", "crash", "restart", "lose-replies"})  # jepmon's own
 
-NIL, NUMBER, PAIR, SET = "n", "0", "[", "#"  # the parts of events, by how they begin
+NIL, NUMBER, PAIR, SET = "n", "0", "[", "#"  # the kinds of operands, by their first character
 TOLD = {"read": NIL, "dequeue": NIL, "acquire": NIL, "release": NIL, "write": NUMBER, "enqueue": NUMBER, "add": NUMBER, "cas": PAIR}
 SETS_VALUES = ("write", "cas")
 ANSWERS = {"read": (NIL, NUMBER, SET), "dequeue": (NUMBER,)}
 
-Opened = Dict[str, Tuple[str, str, str]]  # the operation of each process that is open: its name, key and part
+Opened = Dict[str, Tuple[str, str, str]]  # the open operation of each process: its name, key and operand
 
 
 class KeyFacts:
@@ -43,11 +43,11 @@ class KeyFacts:
     def __init__(self) -> None:
         self.names: Set[str] = set()
         self.events = 0
-        self.reads = 0  # that were answered
+        self.reads = 0  # reads with an answer
         self.reads_of_nil = 0
         self.reads_of_sets = 0
         self.has_value = False  # whether a write, a cas or a read has shown a value of a register
-        self.nils_after_values = 0  # reads that were answered by nil, and began after that
+        self.nils_after_values = 0  # reads that answered nil, and began after the first such value
 
 
 def possible(facts: KeyFacts) -> List[str]:
@@ -66,10 +66,10 @@ class Facts:
 
     def __init__(self) -> None:
         self.keys: Dict[int, KeyFacts] = {}
-        self.outcomes: Counter[str] = collections.Counter()  # of operations, as "read ok"
-        self.processes = array.array("q")  # of each event; -1 of the nemesis
-        self.infos: Set[int] = set()  # the indices of the events of clients that are :info
-        self.lines = array.array("I")  # of each event in its file
+        self.outcomes: Counter[str] = collections.Counter()  # the number of operations with each outcome, such as "read ok"
+        self.processes = array.array("q")  # the process of each event; -1 for the nemesis
+        self.infos: Set[int] = set()  # the indices of the :info events of clients
+        self.lines = array.array("I")  # the line of each event in its file
 
     @property
     def events(self) -> int:
@@ -81,14 +81,14 @@ class Own(NamedTuple):
 
     text: str
     facts: Facts
-    models: Dict[int, str]  # of keys that the history itself gives a model
+    models: Dict[int, str]  # the models of the keys for which the history itself names one
     budgets: Dict[int, int]
     has_commands: bool
     account: Account
 
 
 def read(text: str) -> Optional[Own]:
-    """The history, if the text is one in this form, an event a line."""
+    """Reads the history, if the text is in this form, with an event on each line."""
     scan = _Scan()
     lines = text.split("\n")
     if not lines[-1]:
@@ -100,7 +100,7 @@ def read(text: str) -> Optional[Own]:
 
 
 class _Scan:
-    """Goes through the lines."""
+    """A reading of the lines, one after another."""
 
     def __init__(self) -> None:
         self._events: List[str] = []
@@ -147,10 +147,10 @@ class _Scan:
 
 
 def facts_of(events: List[str], numbers: List[int]) -> Optional[Facts]:
-    """The events in these lines, if the program accepts each of them after those before it."""
+    """Reads the events in these lines, if the program accepts each event after the earlier ones."""
     facts, opened = Facts(), {}  # type: Facts, Opened
     keys, infos, count = facts.keys, facts.infos, facts.outcomes
-    had_value: Dict[str, bool] = {}  # whether the key of each process's operation had a value as that began
+    had_value: Dict[str, bool] = {}  # for the operation of each process: whether its key had a value when the operation began
     latest = 0
     for index, (line, number) in enumerate(zip(events, numbers)):
         found = EVENT.fullmatch(line)
@@ -164,7 +164,7 @@ def facts_of(events: List[str], numbers: List[int]) -> Optional[Facts]:
             time = TIME.search(further)
             if time is not None:
                 if time.group(1) is None or int(time.group(1)) < latest:
-                    return None  # its lines may not be in the order of its events
+                    return None  # the lines may not be in the order of the events
                 latest = int(time.group(1))
         facts.lines.append(number)
         if process == ":nemesis":
@@ -225,7 +225,7 @@ def _may_come(opened: Opened, kind: str, process: str, name: str, key: str, part
 
 
 def _is_value(begins: str, part: str) -> bool:
-    """Whether the integers in a part have 64 bits, and those of a set are different."""
+    """Returns whether the integers in an operand have at most 64 bits, and those of a set are different."""
     if begins == SET:
         members = part[2:-1].split()
         return len({int(member) for member in members}) == len(members) and all(len(member) < 19 for member in members)

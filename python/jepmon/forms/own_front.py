@@ -1,4 +1,4 @@
-"""Whether a text is in jepmon's own form, by its first event, and whether its lines are in the order of its events."""
+"""Tests whether a text is in jepmon's own form (by its first event), and whether its lines are in the order of its events."""
 from __future__ import annotations
 
 import itertools
@@ -31,7 +31,7 @@ def is_in_order(front: str, texts: Iterable[str]) -> bool:
 
 def is_own(front: str) -> bool:
     """Whether the first event of a text is in jepmon's own form. Also true if there is no event."""
-    from ..shards.doubt import Doubt  # here, since it takes time to load
+    from ..shards.doubt import Doubt  # imported here, since loading takes time
     from ..shards.lines import HEAD, rows_of
 
     for line in front.split("\n"):

@@ -1,8 +1,7 @@
-"""Rows that are events but are not in the order of their times, such as the files of several clients, one behind another.
-
-The events of each client are in their order. They are paired by client into operations with a call and a return. Like any other operations
-(intervals.py), these are ordered by their times. If one operation returns at the time at which another one is called, they count as open at
-once.
+"""Rows that are events but are not in the order of their times, such as the files of several clients, one after another. The events of each
+client are in order. The reader pairs the events of each client into operations with a call and a return, and orders these operations by
+their times, like any other operations (intervals.py). If one operation returns at the time at which another one is called, they count as
+open at once.
 """
 from __future__ import annotations
 
@@ -44,7 +43,7 @@ class Pairs:
         self._unfinished.close()
 
     def _taken(self, told: Told) -> Optional[intervals.Interval]:
-        """The operation that an event ends."""
+        """Returns the operation that an event ends."""
         client, kind = told.client, kind_of(told, self._reader)
         begun = self._opened.pop(client, None)
         if kind == "invoke":
@@ -64,11 +63,12 @@ class Pairs:
             self.faults.append(intervals.Fault(told.time, told.line, word(told.line, told.name or "fault"), told.value))
 
     def _timed(self, told: Told) -> Told:
-        """The event, which has a time and a client."""
+        """Returns the event. Refuses an event without a time or a client."""
         if is_nemesis(told):
             return told
         if told.client is MISSING or not isinstance(told.client, (int, str)):
-            raise Refused(f"line {told.line}: this event has no client, which pairs events whose times go back; say --map FIELD=client")
+            raise Refused(f"line {told.line}: this event has no client, and events whose times go back are paired by their clients; say "
+                          "--map FIELD=client")
         if told.time is None:
             where = f"times go back in line {self._first_back}" if self._first_back else "events are ordered by their times"
             raise Refused(f"line {told.line}: this event has no time, and {where}: which came first?")
@@ -77,8 +77,8 @@ class Pairs:
     def _test_order(self, told: Told) -> None:
         assert told.time is not None
         if told.time < self._latest.get(told.client, told.time):
-            raise Refused(f"line {told.line}: the times of {_client(told.client)} go back: say --order times if its events do not stand in their "
-                          "order, or --order lines if they do, and its clock went back")
+            raise Refused(f"line {told.line}: the times of {_client(told.client)} go back: say --order times if its events are not in their "
+                          "order, or --order lines if they are in order and its clock went back")
         self._latest[told.client] = told.time
 
     def _of_both(self, begun: Told, end: Optional[Told], kind: str) -> intervals.Interval:

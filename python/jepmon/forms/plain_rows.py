@@ -13,19 +13,19 @@ from .written import TEXT
 
 NEEDED = ("client", "type", "f")
 MAY_BE = ("key", "value", "time")
-VALUES = range(1 - 10**17, 10**18)  # integers that are values of jepmon, and none of the least and of the greatest
-Flat = Any  # a part as collect.py has it in rows: an atom, or the two of a cas
+VALUES = range(1 - 10**17, 10**18)  # integers that certainly have 64 bits; the least and the greatest values of jepmon are left out
+Flat = Any  # an operand as in the rows of collect.py: an atom, or the two atoms of a cas
 
 
 class Plan(NamedTuple):
-    """How rows with the same names are read."""
+    """The plan for reading rows with the same names."""
 
     shape: Shape
-    pick: Callable[[Fields], Tuple[Any, ...]]  # the client, the type, the operation, the key, the value, the time; the client for a missing one
+    pick: Callable[[Fields], Tuple[Any, ...]]  # the client, the type, the operation, the key, the value, the time; the client if one is missing
     has_key: bool
     has_value: bool
     has_time: bool
-    factor: int  # nanoseconds of a time
+    factor: int  # the nanoseconds in one unit of time
     numbered: Optional[str]  # the name of the field with the index
     others: List[str]  # fields that mean nothing, if they hold no object
 
@@ -35,7 +35,7 @@ class Plans:
 
     def __init__(self, reader: Reader) -> None:
         self.by_names: Dict[Tuple[str, ...], Optional[Plan]] = {}
-        self.words: Dict[Tuple[str, str], Tuple[str, str]] = {}  # the type and the operation by the words for them
+        self.words: Dict[Tuple[str, str], Tuple[str, str]] = {}  # the type and the operation, by their words in a row
         self._reader = reader
 
     def learn(self, row: Row) -> None:
@@ -90,7 +90,7 @@ def plain_key(key: Any) -> Optional[str]:
 
 
 def plain_part(name: str, value: Any) -> Flat:
-    """The part for a value that is an integer, a text, or the two integers of a cas. None for any other value."""
+    """Returns the operand for a value that is an integer, a text, or the two integers of a cas. None for any other value."""
     if value is None:
         return "nil"
     if type(value) is int:

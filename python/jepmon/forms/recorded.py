@@ -17,22 +17,22 @@ __all__ = ["Options", "Recorded", "of_own", "of_translation", "recorded"]
 class Recorded(NamedTuple):
     """A history in jepmon's own form."""
 
-    form: str  # what it was, in words
-    text: str  # events alone, and what check passes over
+    form: str  # the original form, in words
+    text: str  # only events, and lines that `jepmon check` skips
     facts: Facts
-    account: Account  # what became of each line of the input, and what was guessed
-    possible: Mapping[int, Sequence[str]] = {}  # the models that a key may have, where that is not seen in its events
+    account: Account  # the use of each line of the input, and the guesses
+    possible: Mapping[int, Sequence[str]] = {}  # the models that a key may have, if its events do not show them
     stated: Mapping[int, str] = {}  # the models of keys that the history itself states, and their budgets
     budgets: Mapping[int, int] = {}
-    key_names: Mapping[int, str] = {}  # what numbered keys and values stand for
+    key_names: Mapping[int, str] = {}  # the original keys and values of numbered ones
     value_names: Mapping[int, str] = {}
-    notes: Sequence[str] = ()  # what is to be told of how it came about
+    notes: Sequence[str] = ()  # notes for the user on the conversion
     faults: Sequence[Fault] = ()
-    translation: Optional[Translation] = None  # what it was made from
-    begun: int = 0  # events that come before the history's own
-    lines: Sequence[int] = ()  # the line of each event in the file; 0 where it has none
+    translation: Optional[Translation] = None  # the translation from which it was made
+    begun: int = 0  # the number of events that the tool has put before the history's own
+    lines: Sequence[int] = ()  # the line of each event in the file; 0 if it has none
     is_own: bool = False
-    has_commands: bool = False  # so that its text is not that of the file
+    has_commands: bool = False  # whether the file has commands; then the text differs from the file
 
     def line(self, index: int) -> int:
         """The line in the file of an event; 0 if it has none."""
@@ -40,7 +40,7 @@ class Recorded(NamedTuple):
 
 
 def recorded(source: Source, options: Options) -> Recorded:
-    """The history that was found, in jepmon's own form."""
+    """Returns the history of the source, in jepmon's own form."""
     form = door.form_of(source, options)
     found = of_own(source) if form == door.OWN else None
     if found is not None:

@@ -19,7 +19,7 @@ NEMESIS = "nemesis"
 
 
 class TimesGoBack(Exception):
-    """The events do not stand in the order of their times."""
+    """The events are not in the order of their times."""
 
     def __init__(self, line: int) -> None:
         super().__init__(line)
@@ -32,18 +32,18 @@ class Events:
     def __init__(self, writer: Writer, reader: Reader, account: Account, mapping: Mapping) -> None:
         self._writer, self._reader, self._account, self._order = writer, reader, account, mapping.order
         self._unfinished = Unfinished(account, mapping.unfinished)
-        self._are_numbers: Optional[bool] = None  # whether clients are numbers, as the first one says
+        self._are_numbers: Optional[bool] = None  # whether clients are numbers; the first client decides
         self._clients: Dict[Any, int] = {}
-        self._opened: Dict[int, Union[Told, Row]] = {}  # the invocation of each process; the row of one that was read by its plan
+        self._opened: Dict[int, Union[Told, Row]] = {}  # the open invocation of each process; its row, if a plan has read it
         self._plans = Plans(reader)
         self._latest: Optional[Time] = None
         self._latest_client: Any = None
-        self._ties = 0  # events with the time of the one before, of another client
+        self._ties = 0  # events that have the time of the event before, which is of another client
         self._first_tie = 0
         self._blocks = Blocks()
 
     def take(self, told: Told) -> None:
-        """Writes the event that a row tells."""
+        """Writes the event of a row."""
         self._test_time(told)
         if is_nemesis(told):
             self._writer.fault(told.line, told.name or "", told.value, told.time)
@@ -67,7 +67,7 @@ class Events:
         self._writer.event(told.line, kind, process, word(told.line, name), value_of(key, value), told.time, error)
 
     def learn(self, row: Row) -> None:
-        """Learns how rows as this one are read, which was taken."""
+        """Learns a plan for rows like this one, whose event was written."""
         if self._writer.collector.meant.says_nothing:
             self._plans.learn(row)
 
@@ -154,7 +154,7 @@ class Events:
         client = told.client
         is_number = isinstance(client, int) and not isinstance(client, bool)
         if client is MISSING and told.id is not MISSING:
-            raise Refused(f"line {told.line}: this event has no client, and its id tells of one operation: say --map "
+            raise Refused(f"line {told.line}: this event has no client, and its id names a single operation: say --map "
                           "FIELD=client for the field that names the client")
         if not is_number and not isinstance(client, str):
             raise Refused(f"line {told.line}: its process is {element(_known(client))[:60]}, and neither a number nor a name; say --map "
@@ -164,7 +164,7 @@ class Events:
         if not self._are_numbers:
             return self._clients.setdefault(client, len(self._clients))
         if not is_number or client < 0:
-            raise Refused(f"line {told.line}: its process is {element(client)[:60]}, and those before it are numbers from 0 on")
+            raise Refused(f"line {told.line}: its process is {element(client)[:60]}, and the processes before it are numbers from 0 on")
         return int(client)
 
     def notes(self) -> List[str]:
@@ -191,7 +191,7 @@ def kind_of(told: Told, reader: Reader) -> str:
 
 
 def parts(told: Told, kind: str, invoked: Optional[Told]) -> Tuple[str, Any, Any]:
-    """The operation, the key and the part of an event. A completion without them has those of its invocation."""
+    """Returns the operation, the key and the operand of an event. A completion without them has those of its invocation."""
     name, key, value = told.name, told.key, told.value
     if kind != "invoke" and invoked is not None:
         name = name or invoked.name
@@ -200,7 +200,7 @@ def parts(told: Told, kind: str, invoked: Optional[Told]) -> Tuple[str, Any, Any
             value = told.answer
         elif name not in ANSWERED and value in (MISSING, None):
             value = invoked.value
-    elif name in ANSWERED and value == "":  # Go prints an empty text where there is none
+    elif name in ANSWERED and value == "":  # Go prints an empty text if there is no value
         value = MISSING
     if name is None:
         raise Refused(f"line {told.line}: this event has no operation, such as read or write; say --map FIELD=op for the field that names it")

@@ -1,7 +1,7 @@
 """Rows of JSON and CSV: objects with fields, each with its line in the file.
 
-JSON: one object a line, objects over several lines, one array of objects, one object whose only list of objects is the history, or spans
-as OTLP has them. CSV: a line of column names, then a row a line; without names the columns are 1, 2, 3, ... cells.py has what a cell says.
+JSON: one object a line, objects over several lines, one array of objects, one object whose only list of objects is the history, or spans as
+OTLP has them. CSV: a line of column names, then a row a line; without names the columns are 1, 2, 3, ... cells.py reads the cells.
 """
 from __future__ import annotations
 
@@ -16,12 +16,12 @@ from .cells import DECODER, Twice, cell_value, spelled
 from .mapping import Mapping
 from .vocabulary import plain
 
-SPACE = re.compile(r"(?:[\s,]+|(?:#|//)[^\n]*)*")  # also comments
+SPACE = re.compile(r"(?:[\s,]+|(?:#|//)[^\n]*)*")  # white space, commas and comments
 COMMENT = re.compile(r"\n[ \t]*(?:#|//)")
-DATA = re.compile(r"-?[0-9]+([.:T ,-][0-9TZ:. ,-]*)?")  # a cell that is no name of a column
-COMMENTS = re.compile(r"(?:\s*#(?:[ #!]|TYPE )[^\n]*\n)+")  # before the first row
+DATA = re.compile(r"-?[0-9]+([.:T ,-][0-9TZ:. ,-]*)?")  # a cell that is not the name of a column
+COMMENTS = re.compile(r"(?:\s*#(?:[ #!]|TYPE )[^\n]*\n)+")  # comments before the first row
 BLANK, BRACKETS, HEADING = "blank", "brackets alone", "the heading"
-OF_A_ROW = {"f", "op", "process", "client", "clientid"}  # an object with a field of these is a row
+OF_A_ROW = {"f", "op", "process", "client", "clientid"}  # an object with one of these fields is a row
 
 
 class Row(NamedTuple):
@@ -72,12 +72,12 @@ class _Pieces:
     def __init__(self, texts: Iterable[str]) -> None:
         self._texts = iter(texts)
         self.text, self.at = "", 0
-        self._line, self._counted = 1, 0  # the line of a place in the text
+        self._line, self._counted = 1, 0  # the line of the place `_counted` in the text
         self._last = ""
         self._comments = 0  # lines
 
     def rows_a_line(self, account: Account) -> Iterator[Row]:
-        """The rows that follow in the text that is held, as long as each is an object in a line of its own."""
+        """Yields the next rows of the text in memory, as long as each row is an object on a line of its own."""
         text, at, line, scan = self.text, self.at, self.line(), DECODER.scan_once  # type: ignore[attr-defined]
         while text.startswith("\n{", at):
             try:
@@ -92,7 +92,7 @@ class _Pieces:
         self.at, self._counted, self._line = at, at, line
 
     def add(self) -> bool:
-        """Adds the next piece; whether there is one."""
+        """Adds the next piece. Returns whether there is one."""
         piece = next(self._texts, None)
         if piece is None:
             return False
@@ -124,19 +124,19 @@ class _Pieces:
         return self.text.startswith(with_this, self.at)
 
     def line(self) -> int:
-        """The line here. It does not go back."""
+        """Returns the line of the present place. The place never goes back."""
         if self.at > self._counted:
             self._line += self.text.count("\n", self._counted, self.at)
             self._counted = self.at
         return self._line
 
     def lines(self) -> int:
-        """How many lines the text has, at its end."""
+        """Returns the number of lines of the text, at its end."""
         return self.line() - (self._last == "\n" or self._last == "")
 
 
 def _decoded(text: _Pieces) -> "Tuple[Any, int]":
-    """The value here, and where it begins in the text that is held."""
+    """Returns the value at the present place, and the place of its beginning in the text in memory."""
     while True:
         begin = text.at
         try:
@@ -250,7 +250,7 @@ class Lines:
 
     def __init__(self, texts: Iterable[str], but_for: str = "\r") -> None:
         self._texts, self._but_for = iter(texts), but_for
-        self._held: List[str] = []  # lines, the next one last
+        self._held: List[str] = []  # the next lines in reverse: the next line is the last member
         self._count = 0
 
     def __iter__(self) -> Iterator[str]:
@@ -263,7 +263,7 @@ class Lines:
         return self._held.pop()
 
     def front(self) -> str:
-        """The first line that is neither blank nor a comment, as far as it is held."""
+        """Returns the first line that is neither blank nor a comment, or its part in memory."""
         if not self._held:
             try:
                 self._take()
@@ -297,7 +297,7 @@ def columns_of(line: int, cells: List[str]) -> List[str]:
         return [str(number + 1) for number in range(len(cells))]
     names = [cell.strip() for cell in cells]
     if not names[0] and "index" not in map(plain, names):
-        names[0] = "index"  # the rows' numbers or names, as pandas and R write them
+        names[0] = "index"  # pandas and R write the numbers or names of rows without a name of the column
     twice = next((name for name in names if [plain(other) for other in names].count(plain(name)) > 1), None)
     if twice is not None:
         raise Refused(f"line {line}: two columns are called {twice!r}")

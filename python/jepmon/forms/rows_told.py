@@ -21,7 +21,7 @@ from .rows import Row
 from .shapes import shown
 from .written import Writer, Written
 
-Rows = Callable[[Account], Iterable[Row]]  # which may be read twice, each time with an account of its own
+Rows = Callable[[Account], Iterable[Row]]  # a function that reads the rows; it may be called twice, each time with a new account
 
 
 class Asked(NamedTuple):
@@ -29,12 +29,12 @@ class Asked(NamedTuple):
 
     mapping: Mapping = Mapping()
     has_model: bool = False
-    of_events: jepsen.Asked = jepsen.Asked()  # the same of the events that are made of them
-    source: Optional[Source] = None  # which has them
+    of_events: jepsen.Asked = jepsen.Asked()  # the user's words about the events that are made of the rows
+    source: Optional[Source] = None  # the source of the rows
 
 
 def written(rows: Rows, account: Account, asked: Asked = Asked()) -> Written:
-    """The history that the rows tell."""
+    """Returns the history of the rows."""
     part = Account()
     try:
         made = _Turning(rows, part, asked).written()
@@ -49,7 +49,7 @@ def written(rows: Rows, account: Account, asked: Asked = Asked()) -> Written:
 
 
 class _Turning:
-    """Turns the rows, once."""
+    """One conversion of the rows."""
 
     def __init__(self, rows: Rows, account: Account, asked: Asked) -> None:
         self._rows, self._account, self._mapping = rows, account, asked.mapping
@@ -103,7 +103,7 @@ class _Turning:
         error = 0 if skew is None else nanoseconds(skew)
         if skew is not None:
             notes.append(f"each clock may be wrong by {skew}: {operations.lost(error)} orders of two operations of a key are not certain, and "
-                         "what is illegal by these alone is not seen")
+                         "an error that only these orders show is not found")
         elif operations.are_of_several():
             self._account.guess(ORDER, APART if operations.are_apart() else ONE_CLOCK, SKEW)
         operations.write(faults, error, self._reader.clock.coarsest())

@@ -13,11 +13,11 @@ from .mapping import Mapping
 from .vocabulary import ARGUMENTS, CONTAINERS, HARMLESS, MEANINGS, PARTS, RUNS, Slot, plain, slot_of
 
 Fields = Dict[str, Any]
-SAYS = {"client", "f", "key", "value", "answer", "call", "return", "id"}  # a row without one of these is of no operation
-DEEPEST = 4  # objects within one another that are laid open
-ASKS = ("f", "type", "key")  # an object with one of these is no value: it has the operation
-ANSWERED = ("value", "answer", "ok", "failed", "unknown", "error", "outcome", "found")  # what the members of an answer may be
-SHOWN = 4  # fields that a refusal shows with what they say
+SAYS = {"client", "f", "key", "value", "answer", "call", "return", "id"}  # a row without a field of these meanings has no operation
+DEEPEST = 4  # objects are opened to this depth
+ASKS = ("f", "type", "key")  # an object with one of these is not a value: it has the operation
+ANSWERED = ("value", "answer", "ok", "failed", "unknown", "error", "outcome", "found")  # the meanings that the members of an answer may have
+SHOWN = 4  # a refusal shows at most this many fields with their values
 
 
 class Use(NamedTuple):
@@ -32,17 +32,17 @@ class Shape:
 
     def __init__(self, names: Sequence[str], mapping: Mapping) -> None:
         self.names = names
-        self.count = 0  # rows that have it
+        self.count = 0  # the number of rows of this shape
         self.uses: Dict[str, List[Use]] = {}
-        self.unknown: List[str] = []  # names that are not known, or of a key that is not the one that the user names
-        self.passed: List[str] = []  # known names of a meaning for which the user names other fields
+        self.unknown: List[str] = []  # names without a known meaning, and names of a key other than the key that the user names
+        self.passed: List[str] = []  # names with a known meaning for which the user names other fields
         mapped = {mapping.fields[plain(name)].meaning for name in names if plain(name) in mapping.fields}
         for name in names:
             slot = slot_in(name, mapping)
             if slot is not None and (slot.meaning not in mapped or plain(name) in mapping.fields):
                 self.uses.setdefault(slot.meaning, []).append(Use(name, slot))
             elif plain(name) not in mapping.ignored:
-                is_other_key = slot is not None and slot.meaning == "key"  # which may be a part of it
+                is_other_key = slot is not None and slot.meaning == "key"  # another key field may be a part of the key
                 (self.unknown if slot is None or is_other_key else self.passed).append(name)
         self.is_bare = not SAYS & set(self.uses)
         self.key_parts = sorted(use.name for use in self.uses.get("key", ())) if "key" in mapped else []  # if the user names them
@@ -84,8 +84,8 @@ class Shapes:
     def __init__(self, mapping: Mapping) -> None:
         self._mapping = mapping
         self._shapes: Dict[Tuple[str, ...], Shape] = {}
-        self._said: Dict[str, List[Any]] = {}  # by the name of a field that means nothing: the first two things that it says
-        self._first: Dict[str, int] = {}  # its first line
+        self._said: Dict[str, List[Any]] = {}  # for each field without a meaning: its first two values
+        self._first: Dict[str, int] = {}  # for each such field: its first line
 
     def of(self, line: int, fields: Fields) -> "Tuple[Shape, Fields]":
         """The shape of a row, and its fields. Objects are replaced by their members."""
@@ -111,7 +111,7 @@ class Shapes:
         return shape
 
     def unused(self, line: int, name: str, field: Any) -> None:
-        """Records that a field says nothing."""
+        """Records a field without a meaning."""
         said = self._said.get(name)
         if said is None:
             self._said[name], self._first[name] = [field], line

@@ -10,7 +10,7 @@ STATUSES = {0: "unset", 1: "ok", 2: "error", "STATUS_CODE_UNSET": "unset", "STAT
 
 
 def members(line: int, value: Any, path: str) -> Iterator[Any]:
-    """The objects to which a path leads: names with dots between them, and [] behind the name of a list."""
+    """Yields the objects to which a path leads. A path has names with dots between them, and [] behind the name of a list."""
     found: List[Any] = [value]
     for name in path.split("."):
         inner = [one[name.replace("[]", "")] for one in found if isinstance(one, dict) and name.replace("[]", "") in one]

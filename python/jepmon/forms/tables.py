@@ -12,7 +12,7 @@ from .mapping import Mapping
 from .rows import BLANK, HEADING, Lines, Row, columns_of
 
 RULED = " |+\u2500-\u257f-"  # characters of rulers
-FRONT = re.compile(r"[^\n|]*\|[^\n]*\n[ |+-]*--[ |+-]*\n|\+--[+-]*\+\n|[┌╔╭┏][┬╦┳─═━]+[┐╗╮┓]\n")  # with which a table begins
+FRONT = re.compile(r"[^\n|]*\|[^\n]*\n[ |+-]*--[ |+-]*\n|\+--[+-]*\+\n|[┌╔╭┏][┬╦┳─═━]+[┐╗╮┓]\n")  # the beginning of a table
 RULER = re.compile(rf"[{RULED}]*(?:--|[─═━]{{2}})[{RULED}]*")
 BOX = str.maketrans("│║┃┆", "||||")
 COUNT = re.compile(r"\([0-9]+ rows?\)|[0-9]+ rows? in set.*|Time: .*|\| *[0-9]+ rows?  +[0-9]+ columns? *\|")
@@ -24,7 +24,7 @@ RULERS, TYPES, COUNTS = "rulers of the table", "types of its columns", "counts o
 def of_table(texts: Iterable[str], mapping: Mapping, account: Account) -> Iterator[Row]:
     """The rows of a table, which comes in pieces of whole lines."""
     columns: Optional[List[str]] = None
-    is_over = is_ruled = False  # whether a ruler stands under the heading
+    is_over = is_ruled = False  # whether the table has ended; whether a ruler is under the heading
     for number, line in enumerate(Lines(texts), 1):
         text = line.rstrip().translate(BOX) if line[0] in "│║┃" else line.rstrip()
         if not text or RULER.fullmatch(text) or COUNT.fullmatch(text):
@@ -52,6 +52,6 @@ def of_table(texts: Iterable[str], mapping: Mapping, account: Account) -> Iterat
 def _cells(number: int, text: str) -> List[str]:
     """The cells of a line, with or without bars at its ends."""
     cells = (text[1:-1] if text[0] == text[-1] == "|" else text).split("|")
-    if any(cell.endswith("+") for cell in cells):  # where a space would be
+    if any(cell.endswith("+") for cell in cells):  # psql writes + instead of a space if a cell has several lines
         raise Refused(f"line {number}: a cell of this table has several lines: print CSV")
     return [cell.strip() for cell in cells]

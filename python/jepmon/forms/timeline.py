@@ -2,8 +2,8 @@
 
 If one operation returns at the time at which another one is called, both count as open at once: the invocation comes before the completion.
 So the tool does not invent an order, and a coarse clock does not make a legal history illegal. If a client invokes an operation while an
-earlier one of it is open, the new operation gets a process of its own: linearizability does not depend on the client. An operation that
-never returned stays open, or ends as an :info when its client continues.
+earlier operation of the client is open, the new operation gets a process of its own: linearizability does not depend on the client. An
+operation that never returned stays open, or ends as an :info when its client continues.
 """
 from __future__ import annotations
 
@@ -15,15 +15,15 @@ from ..history.kinds import THREADS
 from ..history.sorted_rows import SortedRows
 
 Time = Union[int, float]
-FAR, FAR_ALONE = 4, 100  # times as long as clients worked are clocks apart that may differ; if each client did one operation
+FAR, FAR_ALONE = 4, 100  # the greatest distance of agreeing clients, in times of their work; with one operation each
 
 
 class Moment(NamedTuple):
-    """An event: its type, its process, and what was given of it."""
+    """An event: its type, its process, and its data as the caller gave them."""
 
     kind: str
     process: int
-    given: Any  # None of the end of an operation that never returned
+    given: Any  # None for the end of an operation that never returned
 
 
 class Timeline:
@@ -32,9 +32,9 @@ class Timeline:
     def __init__(self) -> None:
         self._begins, self._ends = SortedRows(), SortedRows()
         self._homes: Dict[Any, int] = {}  # the seat of each client
-        self._spans: Dict[Any, List[Time]] = {}  # of each client: when its first operation was called, and its last one returned
+        self._spans: Dict[Any, List[Time]] = {}  # for each client: the call of its first operation, and the return of its last one
         self._count = 0
-        self.overlaps = 0  # operations that are invoked while another one of their client is open
+        self.overlaps = 0  # the number of operations that were invoked while another one of their client was open
 
     def operation(self, client: Any, call: Time, ends: Optional[Time], outcome: str, begun: Any, ended: Any) -> None:
         """Takes an operation: its client, which may be None; the times of its call and of its return, if it did; "ok", "fail" or "info";
@@ -57,8 +57,8 @@ class Timeline:
             yield call, given
 
     def moments(self, earlier: Time = 0, later: Time = 0) -> Iterator[Moment]:
-        """The events in the order of their times. Each call is earlier and each return later by this amount. After the :info of a process
-        its thread continues as another process, by jepmon's rule."""
+        """The events in the order of their times. Each call becomes earlier by `earlier`, and each return becomes later by `later`. After
+        the :info of a process its thread continues as another process, by jepmon's rule."""
         stay_open, seats = True, _Seats(len(self._homes))
         collections.deque(self._on_seats(seats, stay_open, earlier + later), 0)
         if seats.most > THREADS:
@@ -107,15 +107,15 @@ def are_apart(spans: Iterable[Tuple[Time, Time]], operations: int) -> bool:
 
 
 class _Seats:
-    """The seat of each open operation: that of its client, if it is free."""
+    """Gives each open operation a seat: that of its client if it is free, otherwise another free seat or a new one."""
 
     def __init__(self, homes: int) -> None:
         self.count = homes
-        self.most = 0  # operations open at once
+        self.most = 0  # the greatest number of operations that were open at once
         self.overlaps = 0
         self._homes = homes
         self._free_homes = set(range(homes))
-        self._free: List[int] = []  # those of no client
+        self._free: List[int] = []  # free seats that belong to no client
         self._seats: Dict[int, int] = {}
 
     def take(self, number: int, home: int) -> int:

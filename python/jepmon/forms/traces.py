@@ -9,7 +9,7 @@ from .account import Account
 
 EVENTS = "traceEvents"
 COMPLETE = "X"
-BEGINS = ("B", "E", "b", "e", "n", "S", "T", "F")  # of operations whose begin and end are events of their own
+BEGINS = ("B", "E", "b", "e", "n", "S", "T", "F")  # the ph of events that are only the begin or the end of an operation
 OWN = {"op": "name", "start_us": "ts", "duration_us": "dur"}
 
 
@@ -40,5 +40,5 @@ def _row(line: int, event: Dict[str, Any]) -> Dict[str, Any]:
         own["client"] = f"{event.get('pid', 0)}/{event['tid']}"
     twice = next((name for name in args if name in own), None)
     if twice is not None:
-        raise Refused(f"line {line}: the args of a traceEvent have {twice!r}, which is said outside of them too: say --mapping FILE")
+        raise Refused(f"line {line}: the args of a traceEvent have {twice!r}, and the event itself has it too: say --mapping FILE")
     return {**own, **args}

@@ -1,4 +1,4 @@
-"""The words that rows of JSON, CSV and logs are read by: names of fields, operations, outcomes, units. docs/FORMATS.md shows them.
+"""The words by which rows of JSON, CSV and logs are read: names of fields, operations, outcomes, units. docs/FORMATS.md shows them.
 
 Names of fields and words are compared without capital letters, `_`, `-`, `.`, `:` and blanks.
 """
@@ -7,9 +7,9 @@ from __future__ import annotations
 import functools
 from typing import Dict, List, NamedTuple, Optional, Sequence, Tuple
 
-PLAIN = str.maketrans("", "", "_-. :\0")  # of a member of an object, \0 stands before its name
+PLAIN = str.maketrans("", "", "_-. :\0")  # removes the characters that are not compared; \0 marks the name of a member of an object
 
-UNITS = {"s": 10**9, "ms": 10**6, "us": 10**3, "ns": 1}  # in nanoseconds
+UNITS = {"s": 10**9, "ms": 10**6, "us": 10**3, "ns": 1}  # the nanoseconds of each unit
 UNIT_WORDS = {"sec": "s", "secs": "s", "seconds": "s", "ms": "ms", "msec": "ms", "millis": "ms", "milliseconds": "ms", "us": "us",
               "usec": "us", "micros": "us", "microseconds": "us", "ns": "ns", "nsec": "ns", "nanos": "ns", "nanoseconds": "ns",
               "unixnano": "ns"}
@@ -41,7 +41,7 @@ TIMES: Dict[str, Sequence[str]] = {
 }
 BETWEEN = ("", "time", "at", "ts", "timestamp", "timeunix", "unix", "in", "epoch")
 MEANINGS = (*FIELDS, *TIMES)
-# Fields that say nothing of the history.
+# Fields without a meaning for the history.
 HARMLESS = frozenset((
     "node", "host", "hostname", "server", "address", "addr", "port", "level", "severity", "logger", "caller", "source", "file", "linenumber",
     "traceid", "spanid", "parentspanid", "parentid", "requestid", "tracestate", "flags", "attempt", "attempts", "retries", "retry", "seq",
@@ -63,7 +63,7 @@ OPERATIONS = {
     "add": "add",
     "delete": "delete", "del": "delete",
 }
-# Operations of a queue and of a stack; they are read if the model is stated.
+# Operations that a queue and a stack have; they are read only if the user states the model.
 OF_STACKS = {"push": "enqueue", "pop": "dequeue"}
 TYPES = {
     "invoke": "invoke", "invocation": "invoke", "call": "invoke", "begin": "invoke", "start": "invoke", "request": "invoke",
@@ -79,16 +79,16 @@ ABSENT = ("", "nil", "None", "NULL", "null", "<nil>")  # cells that hold no valu
 
 
 class Slot(NamedTuple):
-    """What a field is."""
+    """The meaning of a field."""
 
     meaning: str
-    unit: Optional[str]  # of a time, if its name says it
-    rank: int  # of two fields with one meaning the lower one is named first
+    unit: Optional[str]  # the unit of a time, if the name of the field says it
+    rank: int  # of two fields with one meaning, messages name the one with the lower rank first
 
 
 @functools.lru_cache(maxsize=1 << 16)
 def plain(name: str) -> str:
-    """A name or a word as it is compared."""
+    """Returns the form of a name or a word in which it is compared."""
     return name.translate(PLAIN).lower()
 
 
@@ -126,8 +126,9 @@ def tables() -> List[str]:
     """The tables of docs/FORMATS.md."""
     lines = ["| Meaning | Names of the field |", "|---|---|"]
     lines += [f"| {meaning} | {_listed(names)} |" for meaning, names in {**FIELDS, **TIMES}.items()]
-    lines += [f"| none: not looked at | {_listed(sorted(HARMLESS))} |", f"| none: of several runs, if they vary | {_listed(sorted(RUNS))} |",
-              f"| none: a part of the key, if they vary | {_listed(sorted(PARTS))} |", "", "| Operation | Words |", "|---|---|"]
+    lines += [f"| none: the tool ignores the field | {_listed(sorted(HARMLESS))} |",
+              f"| none: the file may have several runs, if the field varies | {_listed(sorted(RUNS))} |",
+              f"| none: the field may be a part of the key, if it varies | {_listed(sorted(PARTS))} |", "", "| Operation | Words |", "|---|---|"]
     lines += _by_meaning({**OPERATIONS, **{word: f"{name}, if --model is given" for word, name in OF_STACKS.items()}})
     return [*lines, "", "| Type of an event, outcome of an operation | Words |", "|---|---|", *_by_meaning(TYPES)]
 

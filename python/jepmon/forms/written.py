@@ -14,15 +14,15 @@ from . import Refused, others
 from .clock import Time
 
 TEXT: Callable[[str], str] = json.encoder.encode_basestring  # type: ignore[attr-defined]
-MISSING: Any = object()  # if a row has no such field
+MISSING: Any = object()  # the value of a field that the row does not have
 
 
 class Written(NamedTuple):
     """A history that was made of rows."""
 
     history: History
-    notes: List[str]  # what is to be told of how it came about
-    nil_is_absent: bool = False  # whether the form itself says that nil is what a missing key answers
+    notes: List[str]  # notes for the user on the conversion
+    nil_is_absent: bool = False  # whether the form itself says that a missing key answers nil
 
 
 class Writer:
@@ -30,7 +30,7 @@ class Writer:
 
     def __init__(self, collector: Collector) -> None:
         self.collector = collector
-        self.counts: Counter[str] = collections.Counter()  # of what is to be told
+        self.counts: Counter[str] = collections.Counter()  # the counts of things that the notes report
 
     def event(self, line: int, kind: str, process: int, name: str, value: Pair, time: Optional[Time] = None, error: Optional[str] = None) -> None:
         if name == "cas" and kind == "invoke" and value[0] is not None and not is_pair(value[1]):
@@ -40,7 +40,7 @@ class Writer:
         self.collector.take_told(line, f":{kind}", process, f":{name}", value, beside(time, error))
 
     def fault(self, line: int, name: str, value: Any, time: Optional[Time]) -> None:
-        """Writes what a nemesis did."""
+        """Writes a fault of a nemesis."""
         self.collector.take_fault(word(line, name or "fault"), edn_of(None if value is MISSING else value), int(time or 0))
 
     def written(self, notes: List[str], nil_is_absent: bool = False) -> Written:
@@ -65,7 +65,7 @@ def element(value: Any) -> str:
 
 
 def value_of(key: Any, part: Any) -> Pair:
-    """The value of an event: its key, if it has one, and its part."""
+    """Returns the value of an event: its key, if it has one, and its operand."""
     return (None if key is MISSING else edn_of(key)), edn_of(None if part is MISSING else part)
 
 

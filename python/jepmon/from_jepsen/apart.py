@@ -1,7 +1,7 @@
 """The fields of an event of EDN, each of which occurs once; and the fields that may distinguish runs or objects.
 
-An event in Jepsen's form has no place for a run or for a part of its key. If such a field varies, it is refused, unless the user ignores
-it.
+An event in Jepsen's form has no place for a run or for a part of its key. If a field varies that may be one of these, the tool refuses the
+history, unless the user ignores the field.
 """
 from __future__ import annotations
 
@@ -29,12 +29,12 @@ def fields_of(element: edn.Element) -> Fields:
 
 
 class Apart:
-    """Follows the fields that may tell runs or objects apart."""
+    """Follows the fields that may distinguish runs or objects."""
 
     def __init__(self, ignored: FrozenSet[str]) -> None:
         self._names = (RUNS | PARTS) - ignored
-        self._of_shapes: Dict[Tuple[str, ...], List[str]] = {}  # these fields, by the names of all fields
-        self._first: Dict[str, Value] = {}  # what each says at first
+        self._of_shapes: Dict[Tuple[str, ...], List[str]] = {}  # the fields to follow, by the names of all fields of an event
+        self._first: Dict[str, Value] = {}  # the first value of each field
 
     def take(self, line: int, fields: Fields) -> None:
         """Takes the fields of the next event."""
@@ -48,5 +48,6 @@ class Apart:
                 self._refuse(line, name, first, fields[name])
 
     def _refuse(self, line: int, name: str, first: Value, other: Value) -> None:
-        what = "if it tells runs apart, judge each by itself" if plain(name) in RUNS else "if it is a part of the key, let :value be [[it key] value]"
-        refuse(line, f"{name} is {shown(other, 24)} here and {shown(first, 24)} before: {what}; say --ignore {name[1:]} if it is nothing")
+        what = ("if it tells runs apart, judge each by itself" if plain(name) in RUNS
+                else "if it is a part of the key, let :value be [[PART KEY] VALUE]")
+        refuse(line, f"{name} is {shown(other, 24)} here and {shown(first, 24)} before: {what}; say --ignore {name[1:]} if it means nothing")

@@ -8,7 +8,7 @@ from .meant import Meant
 from .source import Texts
 
 GAP = "blank, comment or bracket"  # lines between events
-Pair = Tuple[Optional[Value], Value]  # the key, if there is one, and the part
+Pair = Tuple[Optional[Value], Value]  # the key, if there is one, and the operand
 
 
 class Counted:
@@ -36,13 +36,13 @@ class Counted:
 class Asked(NamedTuple):
     """The options about a history in addition to its text."""
 
-    key: Optional[str] = None  # of a history without keys: each value v becomes [key v]
-    nil_is_absent: bool = False  # a missing key answers nil, so nil is an answer that says something
-    order: Optional[str] = None  # of events: "lines", "index" or "times"; None: that of the lines, or by the fields
+    key: Optional[str] = None  # the key of a history without keys: each value v becomes [key v]
+    nil_is_absent: bool = False  # a missing key answers nil, so the answer nil is judged
+    order: Optional[str] = None  # the order of events: "lines", "index" or "times"; None: the order of the lines, or by the fields
     outcomes: Mapping[str, str] = {}  # the type of an :ok that contradicts itself, by "false" and "error"
-    skew: Optional[int] = None  # nanoseconds by which each clock may be wrong, if that is said
-    clients: Optional[Callable[[str, int], str]] = None  # of several files: the name of a client by the line of its event
-    parts: Sequence[Tuple[int, Texts]] = ()  # the same files, each with how many lines come before its own
-    meant: Meant = Meant()  # which values are one, and which are none
-    ignored: FrozenSet[str] = frozenset()  # fields that say nothing, by their plain names
-    is_own: bool = False  # whether it is in jepmon's own form, whose lines are in the order of the events
+    skew: Optional[int] = None  # nanoseconds by which each clock may be wrong, if the user says so
+    clients: Optional[Callable[[str, int], str]] = None  # for several files: returns the name of a client, by the line of its event
+    parts: Sequence[Tuple[int, Texts]] = ()  # the same files, each with the number of lines before its first line
+    meant: Meant = Meant()  # which values are one value, and which mean a missing key
+    ignored: FrozenSet[str] = frozenset()  # the fields that the user ignores, by their plain names
+    is_own: bool = False  # whether the history is in jepmon's own form, whose lines are in the order of the events

@@ -1,4 +1,4 @@
-"""Which processes of a Jepsen history are clients: processes that are numbers, and processes with names that invoke something.
+"""The clients of a Jepsen history: processes that are numbers, and processes with names that invoke something.
 
 Jepsen's own processes are numbers from 0 on, and its nemesis is :nemesis. A test may also name its clients :c1 or "n1-4".
 """
@@ -10,15 +10,15 @@ from ..edn import Value, integer, string
 
 NATURAL = range(0, 1 << 63)
 NEMESIS = (":nemesis", '"nemesis"')
-FIRST = 1 << 62  # number of a client with a name, if there are clients that are numbers before it
+FIRST = 1 << 62  # the first number for clients with names, if clients that are numbers come before them
 
 
 class Clients:
     """The number of each client."""
 
     def __init__(self) -> None:
-        self.names: Dict[int, str] = {}  # by number, of those that have one
-        self.are_named = False  # whether the first client has a name; then each gets a number at first sight
+        self.names: Dict[int, str] = {}  # the names by number, for clients that have a name
+        self.are_named = False  # whether the first client has a name; then each client gets a number when it first occurs
         self._numbers: Dict[Value, int] = {}
         self._has_begun = False
 
@@ -53,7 +53,7 @@ class Clients:
 
 
 def is_name(process: str) -> bool:
-    """Whether it may be the name of a client: a keyword, a string or a symbol."""
+    """Returns whether a process may be the name of a client: a keyword, a string or a symbol."""
     if process in NEMESIS or process in ("nil", "true", "false"):
         return False
     if process[0] == '"':

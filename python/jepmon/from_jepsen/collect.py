@@ -1,4 +1,4 @@
-"""Reads the elements of a Jepsen history, and keeps the events of clients, each with its key and its part."""
+"""Reads the elements of a Jepsen history, and keeps the events of clients, each with its key and its operand."""
 from __future__ import annotations
 
 import itertools
@@ -23,9 +23,9 @@ from .spool import Spool, event_of, row_of, value_of
 from .taken import ANSWERED, DRAIN, TAKEN, TYPES, WITHOUT_PART, refuse_operation, refuse_others, refuse_value_of_read
 
 NATURAL = range(0, 1 << 63)  # processes, and indices
-MOST_KNOWN = 10_000  # values of events that are remembered
+MOST_KNOWN = 10_000  # at most this many values of events are remembered
 MOST_ROWS = 1_000  # events that are held
-EMPTY = ("nil", "false")  # what a dequeue answers that found nothing; false also says a value, if it was put in
+EMPTY = ("nil", "false")  # the answers of a dequeue that found nothing; false is a value if it was put in
 OK_WITH_ERROR = re.compile(r"^(?=[^\n]*:type :ok\b)[^\n]*:error (?!nil\b|false\b)", re.M)
 
 
@@ -42,12 +42,12 @@ class Collector:
         self.open: Dict[int, Row] = {}
         self.history = History(Spool())
         self.history.meant = asked.meant
-        self.known: Dict[Tuple[str, str, Value], Tuple[Value, Value]] = {}  # the key and part of values that came, by :type and :f
+        self.known: Dict[Tuple[str, str, Value], Tuple[Value, Value]] = {}  # the key and operand of earlier values, by :type and :f
         self.nil_fault: Optional[Refusal] = None  # the first write of nil
-        self.has_false = False  # whether false was put into a queue
-        self.rows: List[Row] = []  # events that were told, and not kept yet
+        self.has_false = False  # whether false was enqueued
+        self.rows: List[Row] = []  # events that were taken, and not kept yet
         self.count = 0  # of events
-        self.beside: Any = None  # what the event said beside its value
+        self.beside: Any = None  # the time and the error of the event
 
     def collect(self, pieces: Iterable[str]) -> History:
         """The history of a text that comes in pieces."""
@@ -78,7 +78,7 @@ class Collector:
         if count == 0:
             raise Refusal("there is no event in it: the file is empty")
         if not self.history.keys and self.history.drained:
-            raise Refusal("its clients did nothing but drains by which nothing came out: there is nothing to judge")
+            raise Refusal("its clients did only drains that returned no value: there is nothing to judge")
         if not self.history.keys:
             raise Refusal(f"none of its {count} events is of a client: there is nothing to judge")
         self.outcomes.account(self.account)
@@ -198,7 +198,7 @@ class Collector:
     def take(self, element: edn.Element, count: int) -> None:
         fields = fields_of(element)
         stated, kind = integer(fields.get(":index")), fields.get(":type")
-        stated = stated if stated is not None and stated in NATURAL else None  # None would be looked for from 0 on
+        stated = stated if stated is not None and stated in NATURAL else None  # `None in NATURAL` would search all numbers from 0 on
         index = count if stated is None else stated
         process = self.clients.number_of(self.named(fields.get(":process"), element.line), kind == ":invoke")
         if process is not None and not (kind == ":info" and process in self.clients.names and process not in self.open):
@@ -263,7 +263,7 @@ class Collector:
             self.history.add(event)
 
     def key_and_part(self, line: int, kind: str, name: str, value: Value) -> Tuple[Value, Value]:
-        """The key and the part of an event's value. A value that comes again and again is read only once."""
+        """Returns the key and the operand of an event's value. Reads a value that occurs again and again only once."""
         known = self.known.get((kind, name, value))
         if known is None:
             plain = canonical(value)
@@ -298,7 +298,7 @@ class Collector:
         elif name in WITHOUT_PART and kind == ":ok" and self.part_of(value) not in ("nil", "true"):
             self.history.notes[f"{kind} of {name} with a value, which is left out"] += 1
         elif name not in WITHOUT_PART and not self.repeats(invoked, value):
-            self.history.notes[f"{kind} of {name} with another value than their invocation, whose value stands"] += 1
+            self.history.notes[f"{kind} of {name} with another value than their invocation: the value of the invocation is judged"] += 1
         self.history.add(Event(kind, process, name, invoked.key, part, index, line, self.beside))
 
     def give_up(self, process: int) -> None:
@@ -320,7 +320,7 @@ class Collector:
             return ":ok"
         if part == "false":
             return ":ok" if self.has_false else self.outcomes.of_false(line, name)
-        self.history.notes["dequeues answered by nil (written as :fail; that the queue was empty is not judged)"] += 1
+        self.history.notes["dequeues answered by nil (written as :fail; whether the queue was empty is not judged)"] += 1
         return ":fail"
 
     def drain(self, line: int, kind: str, invoked: Event, value: Value, index: int) -> None:
@@ -343,7 +343,7 @@ class Collector:
         return self.meant.part(invoked.name, self.part_of(value)) == invoked.part
 
     def part_of(self, value: Value) -> Value:
-        """The part of a completion's value, with a key or without one."""
+        """Returns the operand of a completion's value, with a key or without one."""
         plain = canonical(value)
         pair = tuple_of(plain) if self.lone_key is None else None
         return plain if pair is None else pair[1]
@@ -366,14 +366,14 @@ class Collector:
         if name not in WITHOUT_PART and "nil" in (part.members if name == ":cas" and isinstance(part, Many) else (part,)):
             is_register = name in (":write", ":cas")
             other = " or say --nil-is-absent" if is_register else ""
-            fault = Refusal(f"line {line}: {name} of nil, which jepmon has not as a value; let the test write a number for it{other}")
+            fault = Refusal(f"line {line}: {name} of nil, which is not a value for jepmon; let the test write a number for it{other}")
             if not is_register:
                 raise fault
             self.nil_fault = self.nil_fault or fault
 
 
 def flat_part(name: str, part: Value) -> Any:
-    """A part in the form of rows: an atom, or the two atoms of a cas without nil. None for any other part."""
+    """Returns an operand in the form of rows: an atom, or the two atoms of a cas without nil. None for any other operand."""
     if type(part) is str:
         return part
     members = part.members  # type: ignore[union-attr]

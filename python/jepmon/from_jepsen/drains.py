@@ -5,13 +5,14 @@ list means little: a test may have put each value at its front, or into a set. T
 completed, at the place of the :ok. For an unordered queue this is exact. The history is linearizable with these dequeues if and only if it
 is linearizable with dequeues that are open from the drain's invocation to its :ok:
 
-- Earlier invocations allow more, so a history that is linearizable with the later ones is so with the earlier ones.
-- Let there be an order that shows the history linearizable with dequeues that are open all the time. Take the drain's dequeues
-  out of it, and put them in again just after the last of them and of the operations that had completed before the :ok. Nothing
-  that was invoked after the :ok stands before that place, since each of those operations precedes it. Up to the place the queue
-  now holds all that it held before, and more, so that each dequeue there finds its value as before. At the place it holds what it
-  held there and the drain's values, so that their dequeues take place, in any order, and leave what it held before. So the order
-  shows the history linearizable with dequeues that are invoked and completed one by one at the :ok.
+- Earlier invocations allow more orders. So a history that is linearizable with the later invocations is linearizable with the earlier ones.
+- Suppose that an order shows the history linearizable with dequeues that are open all the time. Take the drain's dequeues out of this
+  order, and put them in again at one place: just after the last of these dequeues and of the operations that had completed before the
+  :ok. No operation that was invoked after the :ok is before that place, since each of those dequeues and operations precedes it. Up to
+  the place the queue now holds all that it held before, and more, so that each dequeue there finds its value as before. At the place
+  the queue holds the values that it held there before, and the drain's values. So the drain's dequeues take place there, in any order,
+  and leave the values that it held before. So the order shows the history linearizable with dequeues that are invoked and completed
+  one by one at the :ok.
 
 For a FIFO queue this is not exact: a delayed dequeue delays the dequeues behind it. So a key with a drain is judged as an unordered queue,
 like in Jepsen's checkers of such tests (total-queue and others).
@@ -30,7 +31,7 @@ LEFT_OUT = {":fail": "nothing came out", ":info": "what came out is not known, w
 
 
 def values_of(line: int, drained: Value) -> Sequence[Value]:
-    """What came out."""
+    """Returns the values that a drain returned."""
     if drained == "nil":
         return ()
     if not isinstance(drained, Many) or drained.opened not in ("[", "#{"):

@@ -8,11 +8,11 @@ from ..edn import Many, Value, fields_of, integer
 from ..history.process_lives import Lives
 from .meant import Meant
 
-PLAIN = range(-10**18 + 1, 10**18)  # integers that are values of jepmon, and none of the least
+PLAIN = range(-10**18 + 1, 10**18)  # integers that are certainly values of jepmon; the least values are left out
 
 
 class Event(NamedTuple):
-    """An event of a client, as it stood in the file. Names are spelled as there, with their colons."""
+    """An event of a client, as in the file. Names are spelled as in the file, with their colons."""
 
     kind: str
     process: int
@@ -24,7 +24,7 @@ class Event(NamedTuple):
     beside: Any = None  # the time and the error of an event that came from another form than EDN
 
 
-Row = Tuple[str, int, str, Any, Any, int, int, Any]  # an event, with its key and part as spool.py has them
+Row = Tuple[str, int, str, Any, Any, int, int, Any]  # an event, with its key and operand as spool.py has them
 
 
 class Fault(NamedTuple):
@@ -40,7 +40,7 @@ class Left(NamedTuple):
     before: int  # the number of kept events before it
     name: str
     value: Value
-    time: int  # as it states it, else 0
+    time: int  # the time that it states, otherwise 0
 
 
 class KeySeen:
@@ -49,12 +49,12 @@ class KeySeen:
     __slots__ = ("line", "names", "reads", "reads_of_nil", "has_sets", "integer")
 
     def __init__(self, line: int) -> None:
-        self.line = line  # of its first event
+        self.line = line  # the line of its first event
         self.names: Set[str] = set()
-        self.reads = 0  # that were answered
+        self.reads = 0  # reads with an answer
         self.reads_of_nil = 0
-        self.has_sets = False  # whether one was answered by a collection
-        self.integer: Optional[Tuple[int, Value]] = None  # the line and the answer of the first that was answered by an integer
+        self.has_sets = False  # whether a collection answered one of the reads
+        self.integer: Optional[Tuple[int, Value]] = None  # the line and the answer of the first read that an integer answered
 
     def answer(self, line: int, part: Value) -> None:
         self.reads += 1
@@ -65,7 +65,7 @@ class KeySeen:
 
 
 class Kept(Protocol):
-    """Where events are kept, to be given again."""
+    """A store of events, from which they can be read again."""
 
     def append(self, event: Union[Event, Fault]) -> None: ...
 
@@ -84,23 +84,23 @@ class History:
     def __init__(self, events: Kept) -> None:
         self.events = events
         self.keys: Dict[Value, KeySeen] = {}
-        self.outcomes: Counter[Tuple[str, str]] = collections.Counter()  # completions by their operation and type
+        self.outcomes: Counter[Tuple[str, str]] = collections.Counter()  # the number of completions by operation and type
         self.lives = Lives()
-        self.most_open = 0  # operations at once
+        self.most_open = 0  # the greatest number of operations that were open at once
         self.left_out: Counter[str] = collections.Counter()
         self.nemesis: List[Left] = []
         self.notes: Counter[str] = collections.Counter()
         self.drained: Set[Value] = set()  # the keys that have drains
         self.clients: Dict[int, str] = {}  # the names of clients by their numbers, if they have names
-        self.nil_fault: Optional[Exception] = None  # the first write of nil, which is refused unless nil is what a missing key answers
+        self.nil_fault: Optional[Exception] = None  # the first write of nil, which is refused unless a missing key answers nil
         self.is_of_rows = False  # whether it was made of rows, whose events have no index of their own
-        self.meant = Meant()  # which values are one
-        self.is_plain = True  # whether the part of each event is nil, or one or more plain integers
+        self.meant = Meant()  # which values are one value
+        self.is_plain = True  # whether the operand of each event is nil, or one or more plain integers
         self._begun: Set[int] = set()  # the processes that have begun, and have not crashed
         self._open = 0
 
     def add(self, event: Event) -> None:
-        """The next event of a client."""
+        """Adds the next event of a client."""
         number = integer(event.part)
         if event.part != "nil" and (number is None or number not in PLAIN):
             self.is_plain = False

@@ -1,4 +1,4 @@
-"""Which values of a history are one value of the store, and which answer means that a key is missing. The user decides both."""
+"""Decides which values of a history are one value of the store, and which answers mean that a key is missing, as the user says."""
 from __future__ import annotations
 
 import json
@@ -10,7 +10,7 @@ from .numbering import NUMBER
 
 EXACT, TEXT, NUMBERS = "exact", "text", "number"
 WAYS = (EXACT, TEXT, NUMBERS)
-WORD = re.compile(r"[\w.+-]+")  # of a list, however its text has quotes, commas and blanks
+WORD = re.compile(r"[\w.+-]+")  # a member of a list, whatever quotes, commas and blanks its text has
 TRUTH = {"true": "1", "false": "0"}
 
 
@@ -28,7 +28,7 @@ class Meant(NamedTuple):
         return self.values == EXACT and not self.absent
 
     def part(self, name: str, part: Value) -> Value:
-        """The part of an event, whose spelling is canonical. A value is the same in a cas and in a write."""
+        """Returns the operand of an event, in its canonical spelling. A value has the same spelling in a cas and in a write."""
         if isinstance(part, Many) and name == ":cas":
             return Many(part.opened, tuple(map(self.whole, part.members)))
         return self.whole(part)
@@ -70,7 +70,7 @@ def number_of(text: str) -> str:
     text = TRUTH.get(text.lower(), text)
     if re.fullmatch(NUMBER, text) is None:
         return text
-    import decimal  # which takes time to load, and seldom has to
+    import decimal  # loaded here, since loading takes time and is seldom necessary
 
     try:
         number = decimal.Decimal(text.rstrip("MN"))

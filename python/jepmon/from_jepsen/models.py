@@ -10,7 +10,7 @@ from .refusal import refuse
 
 MODELS = {model: frozenset(f":{name}" for name in operations) for model, operations in kinds.MODELS.items()}
 
-Models = Dict[Value, List[str]]  # by key, the stricter ones first
+Models = Dict[Value, List[str]]  # the models by key, the stricter ones first
 
 
 def models_of(seen: KeySeen, is_drained: bool) -> List[str]:
@@ -32,7 +32,7 @@ def models_of_keys(history: History) -> Models:
         if not possible:
             names = ", ".join(sorted(seen.names | ({":drain"} if key in history.drained else set())))
             refuse(seen.line, f"key {shown(key)} has {names}, which no object of jepmon has together")
-        if possible == ["set"] and seen.integer is not None:  # its reads are answered by a sum, and not by members
+        if possible == ["set"] and seen.integer is not None:  # the reads answer a sum instead of members
             line, answer = seen.integer
             refuse(line, f"a read of key {shown(key)} answers {shown(answer)}: reads answered by integers beside "
                    ":add are a counter, which jepmon does not judge")

@@ -10,7 +10,7 @@ from .events import History
 from .models import Models, common
 from .write import Writer
 
-MOST_CLIENTS = 40  # whose names are told
+MOST_CLIENTS = 40  # at most this many clients are named
 
 
 def notes(history: History, writer: Writer) -> Iterator[str]:
@@ -27,7 +27,7 @@ def notes(history: History, writer: Writer) -> Iterator[str]:
 
 
 def clients_of(names: Mapping[int, str]) -> Iterator[str]:
-    """Which clients have names, and their numbers."""
+    """Names the clients that have names, with their numbers."""
     if names:
         shown = ", ".join(f"{number if number < FIRST else 'another'} is {name}" for number, name in itertools.islice(names.items(), MOST_CLIENTS))
         yield f"clients are numbered: {shown}" + (f", .. ({len(names)} in all)" if len(names) > MOST_CLIENTS else "")
@@ -38,7 +38,7 @@ def advice(history: History, models: Models, writer: Writer) -> Iterator[str]:
     options = f"--concurrency {writer.processes.threads}"
     shared = common(models)
     if history.drained:
-        yield "what came out by :drain has no order: a queue with drains is judged as an unordered-queue, not as a fifo-queue"
+        yield "the values of a :drain have no order: a queue with drains is judged as an unordered-queue, not as a fifo-queue"
     if shared:
         other = f" (or {shared[1]}, where any order will do)" if shared[:1] == ["fifo-queue"] else ""
         yield f"judge it by: jepmon check FILE {options} --model {shared[0]}{other}"

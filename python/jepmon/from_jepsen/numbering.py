@@ -5,19 +5,19 @@ from typing import Callable, Dict, Iterable, Iterator, List, Optional, Set
 
 from ..edn import Value, integer, shown
 
-LOW = 1 << 20  # integers from the least on
+LOW = 1 << 20  # at most this many integers from the least one on
 NUMBER = r"[+-]?[0-9]{1,100}(\.[0-9]{0,100})?([eE][+-]?[0-9]{1,3})?[MN]?"
 
 
 class Numbering:
-    """If all things are integers within the limits, they stay as they are. Otherwise each thing gets a number when it first comes.
-    Collections with the same value of `alike` are one thing."""
+    """If all things (keys or values) are integers within the limits, they stay as they are. Otherwise each thing gets a number when it
+    first occurs. Collections with the same value of `alike` are one thing."""
 
     def __init__(self, things: Callable[[], Iterable[Value]], limits: range, alike: Optional[Callable[[Value], Value]] = None) -> None:
         self._limits, self._alike = limits, alike
-        self._low: Set[int] = set()  # the least integers that stay
+        self._low: Set[int] = set()  # the integers of the lowest range that keep their number
         self._numbers: Dict[Value, int] = {}
-        self._things: List[Value] = []  # by their numbers, as they were first spelled
+        self._things: List[Value] = []  # the things by their numbers, as they were first spelled
         self.stays = all(map(self._may_stay, things()))
         if not self.stays:
             for thing in things():
@@ -39,11 +39,11 @@ class Numbering:
         return int(integer(thing) or 0) if self.stays else self._numbers[self._one(thing)]
 
     def __call__(self, thing: Value) -> str:
-        """The number of a thing, whose spelling is canonical, as it is written."""
+        """Returns the number of a thing as a text. The spelling of the thing is canonical."""
         return thing if self.stays and isinstance(thing, str) else str(self.number(thing))
 
     def another(self) -> int:
-        """A number that nothing has."""
+        """Returns a number that no thing has."""
         return next(number for number in self._limits if number not in self._low) if self.stays else len(self._numbers)
 
     def names(self) -> Dict[int, str]:

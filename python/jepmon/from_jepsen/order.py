@@ -1,8 +1,8 @@
-"""Whether the events of a file are in the order in which they took place, by their :index and their :time.
+"""Tests whether the events of a file are in the order in which they took place, by their :index and their :time.
 
 An :index that rises is the recorder's own order, also if the times differ: Jepsen reads the clock a moment before it writes an event.
-Without such an :index, a time that goes back says that the lines are in another order. A history with neither, in which the events of each
-client are together, has no known order.
+Without such an :index, a time that goes back says that the lines are in another order. If a history has neither, and the events of each
+client are together, the order is not known.
 """
 from __future__ import annotations
 
@@ -38,7 +38,7 @@ class Times:
         self._are_numbers = False
 
     def of(self, line: int, value: Optional[Value]) -> Optional[Time]:
-        """The time that a field says; None if there is none."""
+        """Returns the time in a field. None if there is none."""
         if value is None or value == "nil":
             return None
         number = number_of(value)
@@ -60,14 +60,14 @@ class Order:
         self.times = Times()
         self._blocks = blocks
         self.back = 0  # how often the time went back while the :index rose
-        self.most: Time = 0  # by how much at most
-        self.first = 0  # the line of the first one
+        self.most: Time = 0  # the most by which the time went back
+        self.first = 0  # the line at which it first went back
         self._is_indexed = True  # whether each event has an :index
         self._index = -1
-        self._time: Optional[Time] = None  # the latest
+        self._time: Optional[Time] = None  # the latest time
 
     def take(self, line: int, process: int, index: Optional[int], time: Optional[Time]) -> None:
-        """Takes the next event. OutOfOrder if it does not come after those before it."""
+        """Takes the next event. Raises OutOfOrder if it is not later than the events before it."""
         self._blocks.take(process, line, time)
         if index is None:
             self._is_indexed = False

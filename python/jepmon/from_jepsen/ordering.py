@@ -73,7 +73,7 @@ class Facts:
         return None
 
     def twice(self) -> Optional[str]:
-        """The :index that stands twice, with its lines."""
+        """Describes an :index that two events have, with their lines."""
         first: Dict[int, int] = {}
         for line, index in zip(self.lines, self.indices):
             if index is not None and first.setdefault(index, line) != line:
@@ -81,7 +81,7 @@ class Facts:
         return None
 
     def goes_back(self) -> Optional[int]:
-        """The place of the first event whose :time goes back."""
+        """Returns the place of the first event whose :time goes back."""
         last: Optional[Time] = None
         for place, time in enumerate(self.times):
             if time is not None:
@@ -141,7 +141,7 @@ def of_files(facts: Facts, account: Account) -> str:
 
 
 def read(texts: Iterable[str], asked: Asked, account: Account) -> Facts:
-    """The order by the events' own fields; their lines are accounted for."""
+    """Reads the fields that give the order of the events. Accounts for all lines."""
     facts, parts = Facts(asked.order != INDEX), parts_of(texts, asked)
     for element, process, fields in elements(parts, asked):
         if process is None:
@@ -197,10 +197,10 @@ def found(facts: Facts, account: Account, fault: Optional[Refusal]) -> str:
                          "file? judge each by itself; --order lines takes them as one")
     if None in facts.times:
         place = facts.lines[again if again is not None else back or 0]
-        raise OutOfOrder(f"line {place}: events do not stand in their order, and the one of line {facts.lines[facts.times.index(None)]} "
+        raise OutOfOrder(f"line {place}: events are not in their order, and the event of line {facts.lines[facts.times.index(None)]} "
                          f"has no :time: which came first? {SETTLES}")
     if back is None:
-        account.guess(ORDER, f"the :index begins again in line {facts.lines[again or 0]}, of other clients, and the :time rises: events are taken "
+        account.guess(ORDER, f"the :index begins again in line {facts.lines[again or 0]}, where other clients begin, and the :time rises: events are taken "
                       "in the order of their lines", "--order lines")
         return LINES
     account.guess(ORDER, f"the :time goes back in line {facts.lines[back]}; operations are taken in the order of the :time, which has to be of "
@@ -224,7 +224,7 @@ def by_index(texts: Iterable[str], asked: Asked, facts: Facts, collector: Collec
 
 
 def by_time(texts: Iterable[str], asked: Asked, collector: Collector, account: Account) -> int:
-    """Takes the operations in the order of their times. Each is wider by a clock error."""
+    """Takes the operations in the order of their times. Each operation begins earlier and ends later by a clock error."""
     timeline, faults = timeline_of(texts, asked)
     count = 0
     if asked.skew is None and timeline.are_apart():
@@ -277,5 +277,5 @@ def timeline_of(texts: Iterable[str], asked: Asked) -> Tuple[Timeline, List[Tupl
 
 
 def again(line: int, text: str) -> edn.Element:
-    """The element of this text."""
+    """Reads again the element of this text."""
     return next(itertools.islice(edn.Reader(text, line=line).elements(), 1))

@@ -14,11 +14,11 @@ DEFINITE = (":cas", ":acquire", ":dequeue")  # false says that these did not tak
 
 
 class Outcomes:
-    """Decides, and counts."""
+    """Decides the types of contradictory completions, and counts them."""
 
     def __init__(self, said: Mapping[str, str]) -> None:
-        self._said = said  # the type by "false" and "error", as --outcome says
-        self._counts: Dict[Tuple[str, str, str], Tuple[int, int]] = {}  # by what it is, the operation and the type: how many, the first line
+        self._said = said  # the types that --outcome gives to "false" and "error"
+        self._counts: Dict[Tuple[str, str, str], Tuple[int, int]] = {}  # for each contradiction, operation and type: their number, and the first line
 
     def of_false(self, line: int, name: str) -> str:
         """The type of an :ok that is answered by false."""

@@ -12,7 +12,7 @@ from ..edn import Element, Rows, Value
 from ..forms.vocabulary import PARTS, RUNS
 from .events import Row
 
-NUMBER = "(?:0|[1-9][0-9]{0,17})"  # as it is spelled where it is written in one way only
+NUMBER = "(?:0|[1-9][0-9]{0,17})"  # a number in its only usual spelling
 INTEGER = "(?:0|-?[1-9][0-9]{0,17})"
 FIELDS: Dict[str, str] = {
     ":type": "(?P<type>:invoke|:ok|:fail|:info)", ":f": "(?P<f>:read|:write|:cas|:enqueue|:dequeue|:add|:acquire|:release)",
@@ -22,13 +22,13 @@ PART = rf"(?:(?P<part>nil|{INTEGER})|\[(?P<pair>{INTEGER} {INTEGER})\])"
 WITH_KEY = rf"\[(?P<key>{NUMBER}|:[a-z][a-z0-9]*) {PART}\]"
 NEEDED = {":type", ":f", ":process", ":value"}
 ATOM = rf'(?:{INTEGER}|nil|true|false|:[A-Za-z][A-Za-z0-9/._-]*|"[^"\\\n]*")'
-APART = "|".join(sorted(RUNS | PARTS)) + "|run-id|test-id|test-name"  # fields of which there may be more to be said
-OTHERS = rf"(?:, (?!(?:{'|'.join(FIELDS)}|:value|:(?:{APART})) ):[a-z][a-z0-9./-]* (?:{ATOM}|\[{ATOM}(?: {ATOM})*\]))*"  # fields, as :error :timeout
+APART = "|".join(sorted(RUNS | PARTS)) + "|run-id|test-id|test-name"  # fields that the general reader has to look at
+OTHERS = rf"(?:, (?!(?:{'|'.join(FIELDS)}|:value|:(?:{APART})) ):[a-z][a-z0-9./-]* (?:{ATOM}|\[{ATOM}(?: {ATOM})*\]))*"  # such as :error :timeout
 LINE = re.compile(r"[ \[(]*(\#[a-z.]+\.Op)?(\{[^\n]*\})[ \])\r]*$", re.M)  # with a map, or a record
 KEY = re.compile(r"(?:\{|, )(:[a-z]+) ")
 PROCESS = re.compile(r":process [0-9]")
-FRONT = 1 << 16  # characters in which the first event of a client is looked for
-LONGEST = 1 << 13  # characters of a run
+FRONT = 1 << 16  # the first event of a client is searched for in at most this many characters
+LONGEST = 1 << 13  # a run has at most this many characters
 
 
 class Plain(NamedTuple):

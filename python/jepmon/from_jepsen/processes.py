@@ -29,7 +29,7 @@ def processes_of(history: History, most: int) -> Processes:
 
 
 class OwnProcesses:
-    """For each event the process that it has."""
+    """Gives each event the process that it has in the file."""
 
     def process_of(self, kind: str, process: int) -> int:
         return process

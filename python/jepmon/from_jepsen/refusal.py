@@ -1,4 +1,4 @@
-"""What from-jepsen refuses."""
+"""The errors with which from-jepsen refuses a history."""
 from __future__ import annotations
 
 from typing import NoReturn

@@ -26,7 +26,7 @@ def texts_of(source: Source) -> Callable[[], Iterator[str]]:
 
 
 class OfText:
-    """A text that is held."""
+    """A text in memory."""
 
     def __init__(self, text: str) -> None:
         self._text = text
@@ -56,6 +56,6 @@ def tested(pieces: Iterator[str]) -> Iterator[str]:
     first = next(pieces, "")
     begin = detect.GAP.match(first)
     if begin is not None and detect.OBJECT.match(first, begin.end()):
-        raise Refusal("it is JSON, and Jepsen's history.edn is EDN; is this the right file?")
+        raise Refusal("it is JSON, but Jepsen's history.edn is EDN; is this the right file?")
     yield first
     yield from pieces

@@ -18,7 +18,7 @@ class Spool:
     """Takes events, and gives them again any number of times."""
 
     def __init__(self) -> None:
-        self._batch: List[Tuple[Any, ...]] = []  # what was taken last
+        self._batch: List[Tuple[Any, ...]] = []  # the last events that were taken
         self._batches: List[bytes] = []
         self._file: Optional[IO[bytes]] = None
         self._count = 0
@@ -27,7 +27,7 @@ class Spool:
         self.extend((flat(event),))
 
     def extend(self, rows: Sequence[Tuple[Any, ...]]) -> None:
-        """Takes events that are flat."""
+        """Takes events whose operands are flat (flat_part in collect.py)."""
         self._batch += rows
         self._count += len(rows)
         if len(self._batch) >= BATCH:
@@ -42,7 +42,7 @@ class Spool:
             yield from map(kept_of, batch)
 
     def batches(self) -> Iterator[List[Tuple[Any, ...]]]:
-        """The events as they are kept, many at once: each Event and each Fault as a tuple."""
+        """Yields the kept events, many at once: each Event and each Fault as a tuple."""
         yield from map(marshal.loads, self._stored())
         yield self._batch
 
@@ -66,7 +66,7 @@ class Spool:
         yield from self._batches
         at = 0
         while self._file is not None:
-            self._file.seek(at)  # others may read it in between
+            self._file.seek(at)  # other readers may have moved the place in the file
             length = int.from_bytes(self._file.read(8), "big")
             if not length:
                 return
@@ -75,7 +75,7 @@ class Spool:
 
 
 def flat(event: Kept) -> Tuple[Any, ...]:
-    """The event in what marshal takes."""
+    """Returns the event in types that marshal accepts."""
     return tuple(event) if isinstance(event, Fault) else row_of(event)
 
 

@@ -31,7 +31,7 @@ def refuse_value_of_read(line: int, name: Value, value: Value) -> None:
         return
     pair = tuple_of(value)
     if pair is None or pair[1] != "nil":
-        refuse(line, f"this :read is invoked with {shown(value)}, in place of nil or [key nil]: is it of several registers at once? "
+        refuse(line, f"this :read is invoked with {shown(value)} instead of nil or [key nil]: is it of several registers at once? "
                "jepmon judges reads of one key each")
 
 
@@ -47,5 +47,5 @@ def refuse_others(elements: Iterator[edn.Element]) -> None:
                 refuse_operation(element.line, name)
             if fields.get(":type") == ":invoke":
                 refuse_value_of_read(element.line, name or "nil", fields.get(":value", "nil"))
-    except edn.Unreadable:  # that is to be said once there is a key
+    except edn.Unreadable:  # it is reported later, once there is a key
         return

@@ -5,18 +5,18 @@
 
 Run it once, read on standard error the options that it names, and run the check with them.
 
-It reads what Jepsen 0.1 to 0.3 writes into history.edn: maps or records (#jepsen.history.Op{{..}}), one a line or over several
-lines, or one vector of them, also compressed by gzip. From each event of a client it keeps :type, :process, :f and :value; what
-else stands there (times, errors, exceptions) is dropped, whatever it is. A :drain of a queue is taken apart into dequeues.
+It reads what Jepsen 0.1 to 0.3 writes into history.edn: maps or records (#jepsen.history.Op{{..}}), one a line or over several lines, or
+one vector of them, also compressed by gzip. From each event of a client it keeps :type, :process, :f and :value; it drops all other fields
+(times, errors, exceptions). It replaces a :drain of a queue by dequeues.
 
   --key K           for a history without independent keys: every value v becomes [K v]
   --nil-is-absent   a missing key answers nil, so nil is an answer that says something: it becomes a number of its own, and a
                     write of it comes first for each key that is a register, by process 0, before the history's own events
   --shards          for jepmon-judge --jobs and jepmon-shards: any number of keys, and of operations that are open at once
 
-Standard error says what was left out, how the operations ended, and the least --concurrency and the --model by which jepmon can judge the
-rest. Standard error, and comments at the end of the output, list the numbers of keys and values that are not integers within jepmon's
-limits. Each line of the output keeps Jepsen's own index as :jepsen-index, which jepmon drops: event I of a verdict is line I + 1.
+Standard error says which parts were left out, how the operations ended, and the least --concurrency and the --model by which jepmon can
+judge the rest. Standard error, and comments at the end of the output, list the numbers of keys and values that are not integers within
+jepmon's limits. Each line of the output keeps Jepsen's own index as :jepsen-index, which jepmon drops: event I of a verdict is line I + 1.
 
 The tool refuses by name, with status 3, a history that jepmon can't judge: transactions, unknown operations, or a file that was cut off.
 Then the output is one line that is not an event, so a check refuses it too, also behind a pipe.
@@ -62,7 +62,7 @@ def words() -> argparse.Namespace:
 
 
 def turned(given: argparse.Namespace, source: files.Source) -> Turned:
-    """The history in jepmon's form. Prints how it was read."""
+    """Returns the history in jepmon's form. Prints notes on how it was read."""
     options = door.Options(given.key, given.nil_is_absent, None, mapping_words.of_order(given), False, given.values,
                            tuple(given.absent), given.initial)
     form = door.form_of(source, options)
@@ -90,7 +90,7 @@ def work() -> int:
         command.say(NAME, f"refused: {path}{refusal}")
     except KeyboardInterrupt:
         status = command.INTERRUPTED
-    except Exception as fault:  # a fault of this program must not pass as a history either
+    except Exception as fault:  # also after a fault of this program the output must not look like a history
         command.say(NAME, f"refused: {path}a fault of from-jepsen itself: {fault!r}")
     try:
         command.write_output(output)

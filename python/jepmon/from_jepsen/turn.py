@@ -24,13 +24,13 @@ class Turned:
 
     def __init__(self, writer: Writer, models: Dict[int, List[str]], shared: List[str], told: List[str], advised: List[str]) -> None:
         self._writer = writer
-        self.history = writer.history  # what was read, event by event as it is written, and what was left out
-        self.notes = told  # what is to be told of it, a line each
-        self.advice = advised  # how to have it judged, a line each
-        self.concurrency: int = writer.processes.threads  # the least that it needs
+        self.history = writer.history  # the events that are written, and the events that were left out
+        self.notes = told  # the notes on the history, a line each
+        self.advice = advised  # the advice how to judge the history, a line each
+        self.concurrency: int = writer.processes.threads  # the least concurrency that the history needs
         self.models = models  # the models that each key may have, by its number, the stricter ones first
         self.model: Optional[str] = shared[0] if shared else None  # a model that all keys may have, if there is one
-        self.names: Names = writer.names()  # what numbered keys and values were
+        self.names: Names = writer.names()  # the original keys and values of numbered ones
 
     @property
     def begun(self) -> int:
@@ -52,10 +52,10 @@ def turn(source: Source, key: Optional[str] = None, nil_is_absent: bool = False,
     key            for a history without independent keys: every value v becomes [key v]
     nil_is_absent  nil is the answer of a missing key, and such reads are judged
     limits         the limits of one check, or none for shards (OF_SHARDS)
-    account        where lines and guesses are recorded
-    order          the order of events: "lines", "index" or "times"; None: that of the lines, or by their fields if that is impossible
+    account        the account that records lines and guesses
+    order          the order of events: "lines", "index" or "times"; None: the order of the lines, or by the fields if that is impossible
     outcomes       the type of an :ok that is answered by false ("false"), and of one with an :error ("error")
-    skew           by how much each clock may be wrong, in the unit of the times, if that is said
+    skew           the possible error of each clock, in the unit of the times, if it is stated
     """
     asked = Asked(key, nil_is_absent, order, outcomes, skew)
     return written(collected(source, asked, Account() if account is None else account), nil_is_absent, limits)
@@ -83,7 +83,7 @@ def written(history: History, nil_is_absent: bool, limits: Limits, initial: Opti
     if history.nil_fault is not None and not nil_is_absent:
         raise history.nil_fault
     models = models_of_keys(history)
-    if nil_is_absent or initial is not None:  # what begins with a write is no set
+    if nil_is_absent or initial is not None:  # a key that begins with a write is not a set
         models = {key: [model for model in possible if model in REGISTERS] or possible for key, possible in models.items()}
     writer = Writer(history, models, nil_is_absent, limits, initial)
     by_number = {writer.keys.number(key): possible for key, possible in models.items()}

@@ -26,7 +26,7 @@ class Limits(NamedTuple):
 
 OF_SHARDS = Limits(range(1 << 63), 1 << 20)
 
-MOST_KNOWN = 10_000  # operations whose texts are remembered
+MOST_KNOWN = 10_000  # the texts of at most this many operations are remembered
 
 
 class Writer:
@@ -42,7 +42,7 @@ class Writer:
         self.values = Numbering(self._values, VALUES, None if history.meant.values == EXACT else history.meant.alike)
         self.absent = str(self.values.another()) if nil_is_absent else "nil"
         self.processes = processes_of(history, limits.threads)
-        self.known: Dict[Tuple[str, str, Value, Value], Tuple[str, str]] = {}  # the texts of keys and parts that come again and again
+        self.known: Dict[Tuple[str, str, Value, Value], Tuple[str, str]] = {}  # the texts of keys and operands that occur again and again
         if len(history.keys) > limits.keys.stop:
             raise TooMany(f"it has {len(history.keys)} keys, and jepmon takes {limits.keys.stop}")
 
@@ -59,7 +59,7 @@ class Writer:
             else:
                 event = event_of(row)
                 values = values_of(event, event.key in self.sets)
-                if event.name == ":read" and event.key in self.sets:  # in which nil is a member as any other
+                if event.name == ":read" and event.key in self.sets:  # in a set, nil is a member like any other
                     yield from values
                     continue
             yield from (value for value in values if value != "nil")
@@ -84,7 +84,7 @@ class Writer:
         yield from self.names().comments()
 
     def lines_that_stay(self, batch: Sequence[Tuple[Any, ...]]) -> Iterator[str]:
-        """The lines of events where keys, values and processes are as they were."""
+        """Writes the lines of events whose keys, values and processes do not change."""
         for row in batch:
             if len(row) == 2:
                 yield fault_line(row)
@@ -131,7 +131,7 @@ def fault_line(fault: Tuple[Any, ...]) -> str:
 
 
 def values_of(event: Event, of_set: bool) -> Sequence[Value]:
-    """The values in the part of an event. Nil is a value if it is written, or is the answer of a read."""
+    """Returns the values in the operand of an event. Nil is a value if it is written, or is the answer of a read."""
     if event.part == "nil" and not has_value(event):
         return ()
     if isinstance(event.part, Many) and (event.name == ":cas" or of_set and event.name == ":read"):

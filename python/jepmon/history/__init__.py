@@ -20,24 +20,24 @@ class HistoryError(Exception):
 
 
 class Event(NamedTuple):
-    """An event, as the file has it."""
+    """An event, as in the file."""
 
-    index: int  # type: ignore[assignment]  # (also a method of tuple) its place in the history, from 0
+    index: int  # type: ignore[assignment]  # its place in the history, from 0 (tuple has a method of this name)
     kind: str  # "invoke", "ok", "fail" or "info"
     process: int
-    name: str  # of the operation: "read", "write", ..
+    name: str  # the name of the operation: "read", "write", ..
     key: int
-    value: Value  # the part: nil, an integer, the two of a cas, the set that a read answers
-    line: int  # of the file, from 1
-    text: str  # as it stands in the file, white space folded
-    fields: Mapping[str, Any]  # further fields by name, as "time", "index", "jepsen-index", "error"
+    value: Value  # the operand: nil, an integer, the two integers of a cas, or the set that a read answers
+    line: int  # the line in the file, from 1
+    text: str  # the text in the file, with white space folded
+    fields: Mapping[str, Any]  # further fields by name, such as "time", "index", "jepsen-index", "error"
 
 
 class Operation(NamedTuple):
     """An invocation, and its completion if there is one."""
 
     invocation: Event
-    completion: Optional[Event]  # None: open at the end
+    completion: Optional[Event]  # None if the operation is open at the end
     thread: int  # the client: its process modulo the concurrency
 
     @property
@@ -57,7 +57,7 @@ def read_history(text: str, before: int = 0) -> List[Event]:
 def operations(events: Iterable[Event], concurrency: int) -> List[Operation]:
     """The operations of the events, in the order of their invocations."""
     made: List[Operation] = []
-    opened: Dict[int, int] = {}  # by process, the place in what was made
+    opened: Dict[int, int] = {}  # for each process: the place of its operation in `made`
     for event in events:
         if event.process == NEMESIS:
             continue
@@ -95,7 +95,7 @@ def event_of(index: int, element: edn.Element) -> Event:
 
 
 def client_event(index: int, element: edn.Element, fields: Dict[str, edn.Value]) -> Optional[Event]:
-    """An event of a client; None if it is none."""
+    """Returns an event of a client. None if the element is not such an event."""
     kind, name = edn.keyword(fields.get(":type")), edn.keyword(fields.get(":f"))
     process, value = edn.integer(fields.get(":process")), fields.get(":value")
     if kind not in kinds.EVENT_TYPES or name not in kinds.OPERATIONS or process is None or process not in kinds.PROCESSES:
@@ -113,7 +113,7 @@ def client_event(index: int, element: edn.Element, fields: Dict[str, edn.Value])
 
 
 def part_of(kind: str, name: str, part: edn.Value) -> Value:
-    """The part of an event, if the tables of docs/FORMATS.md have it; else a ValueError."""
+    """Returns the operand of an event, if the tables of docs/FORMATS.md allow it. Otherwise raises a ValueError."""
     answers = kind == "ok" and name in kinds.ANSWERED
     if part == "nil" and name in kinds.WITHOUT_PART and (name != "dequeue" or not answers):
         return None

@@ -1,4 +1,4 @@
-"""Why jepmon refuses an element with 5, BadValue, in words."""
+"""Explains in words why jepmon refuses an element with 5, BadValue."""
 from __future__ import annotations
 
 from typing import Dict, Optional
@@ -13,7 +13,7 @@ PARTS = {"cas": "two integers, as [1 2]", "read": "nil, an integer or a set of i
 
 
 def fault_of(value: Value) -> str:
-    """Which part of an invalid event is outside the tables of docs/FORMATS.md."""
+    """Says which part of an invalid event is outside the tables of docs/FORMATS.md."""
     fields = fields_of(value)
     if fields is None:
         return of_no_map(value)

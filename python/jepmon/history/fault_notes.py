@@ -5,7 +5,7 @@ A note has a line of its own between the events, as a discarded element, so that
 
     #_{:type :info, :process :nemesis, :f :note, :value "kill n1", :time 8123456}            a moment
     #_{:type :info, :process :nemesis, :f :begin-fault, :value "cut n1 off", :time 8123456}  a fault begins
-    #_{:type :info, :process :nemesis, :f :end-fault, :value "cut n1 off", :time 9123456}    the one of this text that began last ends
+    #_{:type :info, :process :nemesis, :f :end-fault, :value "cut n1 off", :time 9123456}    the last begun fault with this text ends
 
 The time is in nanoseconds since the beginning of the run, like the times of the events around it.
 """
@@ -15,8 +15,8 @@ import re
 from typing import Dict, Iterable, List, NamedTuple, Optional
 
 NOTE, BEGIN, END = "note", "begin-fault", "end-fault"
-LONGEST = 1000  # characters of a note
-OVER = "the faults are over"  # what jepmon-test notes once it has ended them all
+LONGEST = 1000  # a note has at most this many characters
+OVER = "the faults are over"  # jepmon-test notes this once it has ended all faults
 LINE = re.compile(
     r'#_\{:type :info, :process :nemesis, :f :(note|begin-fault|end-fault), :value "((?:[^"\\]|\\.)*)", :time ([0-9]+)\}'
 )
@@ -26,9 +26,9 @@ class Fault(NamedTuple):
     """A fault in the notes of a history, between its events. A fault of one moment has its end at its beginning."""
 
     text: str
-    begin: int  # how many events stand before its beginning
+    begin: int  # the number of events before its beginning
     begin_time: int  # nanoseconds from the beginning of the run
-    end: Optional[int]  # how many events are before its end; None if the history has no end of it
+    end: Optional[int]  # the number of events before its end; None if the history has no end of it
     end_time: Optional[int]
 
 
@@ -55,7 +55,7 @@ def note_line(kind: str, text: str, time: int) -> str:
 
 
 def note_of(line: str) -> Optional[Note]:
-    """The note that a line of a history is, if it is one."""
+    """Returns the note in a line of a history. None if the line is not a note."""
     found = LINE.fullmatch(line.strip()) if line.startswith("#_") else None
     if found is None:
         return None

@@ -2,7 +2,7 @@
 
     n1 is down, by kill -9 [kill n1, process; while slow n2]
 
-and a test of the user's own uses any text. Then the kind is the text without the names of nodes."""
+A test of the user's own uses any text. For such a text the kind is the text without the names of nodes."""
 from __future__ import annotations
 
 import re
@@ -25,6 +25,6 @@ def kind_of(text: str) -> str:
 
 
 def nodes_of(text: str) -> List[str]:
-    """The nodes that it names, each once."""
+    """Returns the nodes that the text names, each once."""
     found = STRIKE.fullmatch(text)
     return [found["node"]] if found is not None else list(dict.fromkeys(NODE.findall(text)))

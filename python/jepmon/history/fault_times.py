@@ -1,4 +1,4 @@
-"""The faults around a moment of a history, in words: which one began last before it, and which one began next after it."""
+"""Names in words the faults around a moment of a history: the fault that began last before it, and the fault that began next after it."""
 from __future__ import annotations
 
 import re
@@ -8,8 +8,8 @@ from .fault_notes import OVER, Fault
 from .fault_texts import kind_of, plain
 
 SECOND = 1_000_000_000
-HARD = re.compile(r"kill|power|crash|down\b|restart|torn", re.I)  # in the text of a fault that ends a process
-LISTED = 3  # faults that are named as holding
+HARD = re.compile(r"kill|power|crash|down\b|restart|torn", re.I)  # words in the text of a fault that ends a process
+LISTED = 3  # at most this many active faults are named
 
 
 def before(faults: Sequence[Fault], moment: int) -> Optional[Fault]:
@@ -25,8 +25,8 @@ def after(faults: Sequence[Fault], moment: int) -> Optional[Fault]:
 
 
 def since(faults: Sequence[Fault], moment: int) -> str:
-    """How long after which fault the moment comes, and which other faults are active then: `0.07 s after "n1 is down, by kill -9" began`.
-    The text is empty if no fault began before the moment."""
+    """Says how long after the last fault the moment comes, and which other faults are active then: `0.07 s after "n1 is down, by kill -9"
+    began`. The text is empty if no fault began before the moment."""
     last = before(faults, moment)
     if last is None:
         return ""
@@ -36,7 +36,7 @@ def since(faults: Sequence[Fault], moment: int) -> str:
 
 def after_fault(fault: Fault, moment: int) -> str:
     began = f"{seconds(moment - fault.begin_time)} after {quoted(fault)}"
-    if fault.end_time == fault.begin_time:  # one of a moment
+    if fault.end_time == fault.begin_time:  # a fault of one moment
         return began
     if fault.end_time is None or fault.end_time > moment:
         return f"{began} began"
@@ -44,8 +44,8 @@ def after_fault(fault: Fault, moment: int) -> str:
 
 
 def until(faults: Sequence[Fault], moment: int) -> str:
-    """How long before which fault the moment comes: `0.07 s before "n1 is down, by kill -9" began`. If the next fault that ended a process
-    is another one, the text has it too. It is empty if no fault began after the moment."""
+    """Says how long before the next fault the moment comes: `0.07 s before "n1 is down, by kill -9" began`. If the next fault that ended a
+    process is another one, the text has it too. The text is empty if no fault began after the moment."""
     following = after(faults, moment)
     hard = after(list(filter(ends_a_process, faults)), moment)
     named = [fault for fault in (following, hard if hard is not following else None) if fault is not None]

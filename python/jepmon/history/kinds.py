@@ -12,7 +12,8 @@ MODELS: Dict[str, FrozenSet[str]] = {
     "unordered-queue": frozenset({"enqueue", "dequeue"}),
     "set": frozenset({"add", "read"}),
 }
-# Models of which a program may have a second kind, and its name: the same object with another count, so that fewer keys are over budget.
+# Models for which a program may have a second kind, and the name of this kind: the same object with another count, so that fewer keys are
+# over budget.
 WIDE: Dict[str, str] = {
     "register": "wide-register",
     "cas-register": "wide-cas-register",
@@ -20,18 +21,18 @@ WIDE: Dict[str, str] = {
     "unordered-queue": "wide-unordered-queue",
     "set": "wide-set",
 }
-DIFFERING = "wide-fifo-queue"  # judges a key as long as the values of its enqueues differ; a failed enqueue does not count
-NAMES: Tuple[str, ...] = (*MODELS, *WIDE.values())  # by which a model may be named
+DIFFERING = "wide-fifo-queue"  # this kind judges a key as long as the values of its enqueues differ; a failed enqueue does not count
+NAMES: Tuple[str, ...] = (*MODELS, *WIDE.values())  # the names by which a user may name a model
 OPERATIONS: FrozenSet[str] = frozenset().union(*MODELS.values())
 REGISTERS: Tuple[str, ...] = ("register", "cas-register")
 QUEUES: Tuple[str, ...] = ("fifo-queue", "unordered-queue")
 
-ANSWERED = frozenset({"read", "dequeue"})  # operations whose ok tells an answer
+ANSWERED = frozenset({"read", "dequeue"})  # operations whose ok has an answer
 WITHOUT_PART = frozenset({"read", "dequeue", "acquire", "release"})  # operations that are invoked with nil
-BROUGHT = {"write": "written", "cas": "set", "add": "added", "enqueue": "enqueued"}  # operations that bring a value in, and the verb of it
+BROUGHT = {"write": "written", "cas": "set", "add": "added", "enqueue": "enqueued"}  # operations that bring a value in, and the verb for it
 EVENT_TYPES: Tuple[str, ...] = ("invoke", "ok", "fail", "info")
 
-NOT_JUDGED = {  # other operations that tests have, and what they are
+NOT_JUDGED = {  # other operations that tests have, and their descriptions
     "txn": "is a transaction over several keys, which jepmon does not judge (Elle does)",
     "transfer": "moves an amount between the accounts of a bank, which jepmon does not judge: such a test adds up all "
                 "accounts in each read (Jepsen's own jepsen.tests.bank does)",
@@ -42,11 +43,11 @@ VALUES = range(-(1 << 63), 1 << 63)
 PROCESSES = range(0, 1 << 32)
 INDICES = range(0, 1 << 32)
 THREADS = 64  # the greatest concurrency
-EVENTS = 1 << 20  # of a history at most
+EVENTS = 1 << 20  # a history has at most this many events
 BUDGETS = range(1, (1 << 16) + 1)
-BUDGET = 4096  # if none is given
+BUDGET = 4096  # the budget if none is given
 
-ABSENT = -(1 << 63)  # the value by which a Monitor tells that a register's key is missing
+ABSENT = -(1 << 63)  # the value by which a Monitor records that a register's key is missing
 
 
 def model_of(name: str) -> str:

@@ -7,7 +7,7 @@ from typing import Any
 LINE = re.compile(r"\{:type :(invoke|ok|fail|info), :process ([0-9]+), :f :([a-z]+), "
                   r":value \[([0-9]+) (nil|[+-]?[0-9]+|\[[^\]]*\]|#\{[^}]*\})\](, [^\n]*)?\}")  # the last group has the further fields
 TIME = re.compile(r", :time (-?[0-9]+)")
-FRONT = b"{:type :%b, :process %d, :f :%b, :value ["  # the begin of the same line in bytes, up to the key
+FRONT = b"{:type :%b, :process %d, :f :%b, :value ["  # the beginning of the same line in bytes, up to the key
 
 
 def event_line(kind: str, process: int, name: str, key: object, part: str, further: str = "") -> str:
@@ -21,7 +21,7 @@ def line_of_words(kind: str, process: int, name: str, key: object, part: str, fu
 
 
 def part_text(value: Any) -> str:
-    """Gives the text of a part: None, an integer, the two integers of a cas, or the set that a read answers."""
+    """Returns the text of an operand: None, an integer, the two integers of a cas, or the set that a read answers."""
     if value is None:
         return "nil"
     if isinstance(value, frozenset):
@@ -30,7 +30,7 @@ def part_text(value: Any) -> str:
 
 
 def part_of_text(text: str) -> Any:
-    """Gives the part for a text of `part_text`."""
+    """Returns the operand for a text of `part_text`."""
     if text.startswith("#{"):
         return frozenset(map(int, text[2:-1].split()))
     if text.startswith("["):

@@ -14,8 +14,8 @@ from . import kinds
 COMMENT = r"^; (key|value) ([+-]?[0-9]{1,20}) is ([^\n\r]*)"
 IN_EVENT = r"(:value \[)([+-]?[0-9]+)(\s[^\]]*)"
 NUMBER = r"(?<![\w.+-])[+-]?[0-9]+(?![\w.])"
-MOST = 400  # characters of a name that are written
-ABSENT = "ABSENT"  # a missing key
+MOST = 400  # at most this many characters of a name are written
+ABSENT = "ABSENT"  # the name of a missing key
 
 
 class Names:
@@ -27,14 +27,14 @@ class Names:
 
     @classmethod
     def read(cls, text: str) -> Names:
-        """The names that the comments of a history tell."""
+        """Reads the names in the comments of a history."""
         names = cls()
         for what, number, name in re.findall(COMMENT, text, re.M):
             (names.keys if what == "key" else names.values)[int(number)] = name
         return names
 
     def comments(self) -> Iterator[str]:
-        """The lines that tell them."""
+        """Returns the comment lines that have the names."""
         for what, names in (("key", self.keys), ("value", self.values)):
             for number, name in names.items():
                 if (number, name) != (kinds.ABSENT, ABSENT):
@@ -47,9 +47,9 @@ class Names:
         return self.values.get(number, str(number))
 
     def event(self, text: str) -> str:
-        """The text of an event with the key and the values by their names."""
+        """Replaces the key and the values in the text of an event by their names."""
         return re.sub(IN_EVENT, lambda found: found[1] + self.key(int(found[2])) + self.part(found[3]), text)
 
     def part(self, text: str) -> str:
-        """A text with the integers in it as values."""
+        """Replaces the integers in a text by the names of these values."""
         return re.sub(NUMBER, lambda found: self.value(int(found[0])), text)

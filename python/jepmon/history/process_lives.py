@@ -16,11 +16,11 @@ class Lives:
     def __init__(self) -> None:
         self._begun: Dict[int, int] = {}
         self._crashed: Dict[int, int] = {}
-        self._is_broken = False  # whether a process goes on after it has crashed, which no number of threads allows
+        self._is_broken = False  # whether a process has an event after its crash, which no number of threads allows
         self._count = 0
 
     def tell(self, process: int, crashes: bool) -> None:
-        """The next event of a client."""
+        """Takes the next event of a client."""
         self._count += 1
         if process not in self._begun:
             self._begun[process] = self._count

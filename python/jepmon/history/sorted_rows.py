@@ -5,10 +5,10 @@ import heapq
 import marshal
 from typing import IO, Any, Iterator, List, Optional, Tuple
 
-Row = Tuple[Any, ...]  # what marshal takes; the fields before a field that can't be compared decide the order of two rows
+Row = Tuple[Any, ...]  # types that marshal accepts; fields before a field that can't be compared decide the order of two rows
 
 HELD = 20_000  # rows
-BATCH = 250  # of a run that are read at once
+BATCH = 250  # rows of a run that are read at once
 
 
 class SortedRows:
@@ -17,7 +17,7 @@ class SortedRows:
     def __init__(self, held: int = HELD) -> None:
         self._held = held
         self._rows: List[Row] = []
-        self._runs: List[List[Tuple[int, int]]] = []  # of each run the batches: where they begin in the file, and their bytes
+        self._runs: List[List[Tuple[int, int]]] = []  # for each run its batches: the place of each in the file, and its bytes
         self._file: Optional[IO[bytes]] = None
         self._is_sorted = True
         self._count = 0
@@ -46,7 +46,7 @@ class SortedRows:
 
     def _write(self) -> None:
         if self._file is None:
-            import tempfile  # which takes a while, and is seldom needed
+            import tempfile  # loaded here, since loading takes time and is seldom necessary
 
             self._file = tempfile.TemporaryFile()
         self._rows.sort()

@@ -16,18 +16,18 @@ from .causes import Shown, proviso
 from .results import Results
 from .words import Given
 
-VERSION = 1  # of the object's fields: a greater one where one of them says something else, or is gone
+VERSION = 1  # the version of the object's fields: it grows if a field changes its meaning or is removed
 Object = Dict[str, Any]
 
 
 class Counted(NamedTuple):
-    """What a history has."""
+    """The numbers of events, keys and so on in a history."""
 
     events: int
     keys: int
-    clients: Optional[int]  # None where they were not counted
+    clients: Optional[int]  # None if they were not counted
     form: str
-    outcomes: Mapping[str, int]  # of operations, as "read ok"
+    outcomes: Mapping[str, int]  # the number of operations with each outcome, such as "read ok"
     of_report: bad_keys.Found
 
 
@@ -40,12 +40,12 @@ def front(verdict: str, line: str) -> Object:
 
 
 def write_refusal(reason: str) -> None:
-    """The object of a history that was not judged."""
+    """Writes the object for a history that was not judged."""
     write({**front("refused", reason if reason.startswith("refused ") else ""), "reason": reason})
 
 
 def of_results(done: Results, source: Source, counted: Counted, notes: Sequence[str], given: Given) -> Object:
-    """The whole."""
+    """Returns the whole object."""
     report, task, account = done.report, done.task, done.found.account
     line = report.verdict
     found: Object = front(report.word, line)
@@ -67,13 +67,13 @@ def of_results(done: Results, source: Source, counted: Counted, notes: Sequence[
 
 
 def outcomes_of(outcomes: Mapping[str, int]) -> Dict[str, Dict[str, int]]:
-    """How the operations ended, by name."""
+    """Returns the number of operations by name and outcome."""
     names = sorted({outcome.split(" ")[0] for outcome in outcomes})
     return {name: {kind: outcomes.get(f"{name} {kind}", 0) for kind in ("ok", "fail", "info")} for name in names}
 
 
 def of_key(done: Results, key: Shown, source: Source) -> Object:
-    """A key that is not legal."""
+    """Returns the object for a key that is not legal."""
     names = Names(done.found.value_names, done.found.key_names)
     event = next((event for event in key.events if event.index == key.line.index), None)
     part = key.cause.part if key.cause is not None else None

@@ -14,8 +14,8 @@ from .causes import Shown, explained
 from .judging import Task
 
 EventsOf = Callable[[List[int]], Mapping[int, List[Event]]]
-IN_PART = ("full", "wide")  # judged to some event, since one check takes no more
-FEW_EVENTS = 200_000  # of the keys that are explained beside the first one, together
+IN_PART = ("full", "wide")  # statuses of keys that are judged only up to some event, since one check can't judge more
+FEW_EVENTS = 200_000  # the events of all keys, without the first one, that are explained
 OTHERS, SHARE, LEAST = 10_000_000.0, 500_000.0, 20_000.0  # the effort for all these keys, the most for one key, and the least that is enough for one
 OTHERS_WORK = WORK // 20
 SHOWN = 20  # keys that are shown on a terminal
@@ -24,9 +24,9 @@ SHOWN = 20  # keys that are shown on a terminal
 class Found(NamedTuple):
     """The facts about keys in the lines of a report."""
 
-    bad: List[KeyLine]  # first the key that the verdict names, then the other illegal keys, then the rest
+    bad: List[KeyLine]  # in this order: the key that the verdict names, the other illegal keys, the other bad keys
     counts: Dict[str, int]  # "legal", "illegal" and "unknown"
-    models: Dict[str, int]  # how many keys have which
+    models: Dict[str, int]  # the number of keys of each model
 
 
 def word_of(line: KeyLine) -> str:
@@ -45,7 +45,7 @@ def found(lines: Iterable[KeyLine]) -> Found:
 
 
 def of_key(report: Report, line: KeyLine) -> Report:
-    """The report's lines about one key."""
+    """Returns the part of the report about one key."""
     if line.status in GOOD:
         return report
     return report_on([line], Verdict(word_of(line), (line.index or 0, line.key)))
@@ -73,7 +73,7 @@ def options_of(task: Task, line: KeyLine, decided: Optional[Decided]) -> Options
 
 
 def those_looked_at(keys: Sequence[Shown]) -> Iterator[Shown]:
-    """The first key, and as many other keys as may be held at once."""
+    """Returns the first key, and as many other keys as may be in memory at once."""
     events = 0
     for place, key in enumerate(keys):
         if key.line.status in IN_PART:
@@ -118,9 +118,9 @@ def others_told(recorded: Recorded, keys: Sequence[Shown]) -> Iterator[str]:
 
 
 def said(key: Shown) -> str:
-    """The cause in a sentence."""
+    """Returns the cause of a key in a sentence."""
     if key.cause is not None:
         return key.cause.headline
     if key.line.status in IN_PART:
-        return "judged up to there, and no further"
-    return "not linearizable from there on" if key.line.status in DEAD else "over its budget"
+        return "judged only up to this event"
+    return "not linearizable from this event on" if key.line.status in DEAD else "over its budget"

@@ -38,8 +38,8 @@ from .models import Choice, account_for, by_operations
 from .outputs import Folder, Page
 from .words import NAME, Given
 
-OF_TRANSLATIONS = Sizes(piece=4 << 20, slab=4 << 20, shard=2 << 20)  # of which most are short: they take less memory so
-CHUNK = 1 << 18  # characters of the report that are written at once
+OF_TRANSLATIONS = Sizes(piece=4 << 20, slab=4 << 20, shard=2 << 20)  # most such histories are short: smaller sizes need less memory
+CHUNK = 1 << 18  # this many characters of the report are written at once
 CUT = {"full": f"key {{}} has more than {kinds.EVENTS:,} events, and is judged up to event {{}}, no further",
        "wide": f"key {{}} has more than {kinds.THREADS} operations open at once, and is judged up to event {{}}, no further"}
 
@@ -52,7 +52,7 @@ class Asked(NamedTuple):
     """A history for shards: in jepmon's own form, and its source if this has another form."""
 
     history: History
-    concurrency: Optional[int]  # None: it is found
+    concurrency: Optional[int]  # None if the tool finds it
     made: Optional[Turned]
     account: Account
 
@@ -82,7 +82,7 @@ def opened(given: Given, found: Large, history: Asked) -> Iterator[shards.Sessio
 
 
 def judge_own(given: Given, found: Large, page: Optional[Page], folder: Optional[Folder]) -> Optional[int]:
-    """Judges a history in jepmon's own form. None if it is not in this form after all, so that it has to be read as a history of Jepsen."""
+    """Judges a history in jepmon's own form. None if it is not in this form after all, and has to be read as a history of Jepsen."""
     try:
         return _judge_asked(given, found, page, folder)
     except shards.Refused as refused:
@@ -184,7 +184,7 @@ def _test_readings(given: Given, found: Large, history: Asked, session: shards.S
 
 
 def _word_of(found: Large, options: Options, given: Given) -> str:
-    """The verdict on the history, read with these options."""
+    """Returns the verdict on the history if it is read with these options."""
     form = door.JEPSEN if found.made is None else found.made.form
     made = door.translated(found.source, form, given.said).turned(in_shards=True)
     options = options._replace(concurrency=made.concurrency, model=given.model or options.model)
@@ -201,7 +201,8 @@ def _recorded(found: Large, history: Asked, with_faults: bool) -> Recorded:
 
 
 def anew(given: Given, session: shards.Session, path: str, verdict: Verdict) -> Tuple[str, Verdict, wide.Decisions]:
-    """The report in which the lines of the decided keys are replaced, its verdict, and the results for these keys."""
+    """Decides keys that are over their budget. Returns the report with new lines for the decided keys, its verdict, and the results for
+    these keys."""
     if verdict.word not in ("illegal", "unknown") or given.wide_seconds == 0:
         return path, verdict, {}
     keys = list(wide.over(lines_of(path), session.options))
@@ -266,7 +267,7 @@ def texts_of(path: str) -> Iterator[str]:
 
 
 def report_of(path: str, verdict: Verdict) -> Report:
-    """The report with the line of the bad key alone."""
+    """Returns the report of the bad key alone."""
     begin = f"key {verdict.found[1]} " if verdict.found else "no key"
     lines = filter(None, (key_line(line) for line in lines_of(path) if line.startswith(begin)))
     return report_on(list(lines), verdict)
@@ -292,7 +293,7 @@ def chosen(tally: Tally, model: Optional[str], made: Optional[Turned] = None) ->
     found = "set" if names == ["read"] and tally.sets else models[0] if models else ""
     if not found or found in kinds.REGISTERS and tally.sets or found == "set" and answers > 0:
         if made is not None and made.history.drained:
-            raise Refused("its keys are of several kinds, and of some all was drained, which has no order; say --model NAME")
+            raise Refused("its keys are of several kinds, and some keys have only drained values, which have no order; say --model NAME")
         return Choice({}, None, f"its keys are of several kinds, each judged by its own operations: {', '.join(names)}", is_guess=True)
     return Choice({}, found, by_operations(found, names), is_guess=True)
 

@@ -18,26 +18,26 @@ from ..wide import Decided
 from .judging import Task
 from .words import NAME
 
-BY_PART = ("The answers of jepmon are proved. This is proved of each sort of removal: if the rest of a key is illegal, the key is illegal. Tests show, "
-           "and no proof, that the tool makes only such removals.")
-BY_ORDER = ("The verdict is jepmon's, and proved, and so is the order: jepmon confirm says that it is one of the operations of this key. The "
+BY_PART = ("The answers of jepmon are proved. It is proved for each sort of removal that a key is illegal if its rest is illegal. Only tests show "
+           "that the tool makes no other removals.")
+BY_ORDER = ("The verdict is jepmon's, and is proved. So is the order: jepmon confirm says that it is a legal order of operations of this key. The "
             "other sentences are not proved.")
-WIDTH = 130  # columns, where standard error is no terminal
+WIDTH = 130  # columns, if standard error is not a terminal
 
 
 class Shown(NamedTuple):
     """A bad key, and the facts to show about it."""
 
-    line: KeyLine  # of the report
-    report: Report  # of this key alone
-    options: Options  # by which this key was judged
-    events: Sequence[Event] = ()  # empty if it was judged in part, or not read since there are so many
+    line: KeyLine  # its line of the report
+    report: Report  # the report of this key alone
+    options: Options  # the options by which this key was judged
+    events: Sequence[Event] = ()  # empty if the key was judged only in part, or if its events were too many to read
     cause: Optional[causes.Cause] = None
-    decided: Optional[Decided] = None  # where it was over its budget, and was decided afterwards
+    decided: Optional[Decided] = None  # the later decision, if the key was over its budget and was decided afterwards
 
 
 def explained(found: Recorded, key: Shown, effort: Effort) -> Shown:
-    """The key with its cause."""
+    """Returns the key with its cause."""
     try:
         cause = causes.explain(key.events, key.report, key.options, Names(found.value_names, found.key_names), effort=effort,
                                known=key.decided.part if key.decided is not None else None, faults=found.faults)
@@ -45,9 +45,9 @@ def explained(found: Recorded, key: Shown, effort: Effort) -> Shown:
             cause = cause._replace(proviso=proviso(key))
         return key._replace(cause=cause)
     except ProgramError as fault:
-        command.say(NAME, f"no more can be said of key {key.line.key}: {fault}")
-    except Exception as fault:  # the verdict stands, whatever comes of this
-        command.say(NAME, f"no more can be said of key {key.line.key}, by a fault of judge itself: {fault!r}")
+        command.say(NAME, f"there is no cause for key {key.line.key}: {fault}")
+    except Exception as fault:  # a failure here must not change the verdict
+        command.say(NAME, f"there is no cause for key {key.line.key}, because of a fault of judge itself: {fault!r}")
     return key
 
 
@@ -87,7 +87,7 @@ def sentences(key: Shown) -> List[str]:
 
 
 def proviso(key: Shown) -> str:
-    """Which part of a later decision is proved. Empty for any other key."""
+    """Says which part of a later decision is proved. The text is empty for any other key."""
     if key.decided is None or key.decided.index is None and not key.decided.is_proved:
         return ""
     return BY_ORDER if key.decided.index is None else BY_PART

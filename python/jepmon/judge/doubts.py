@@ -11,7 +11,7 @@ from ..program import KeyLine
 from ..shrinking.registers import brought, wanted
 from .words import Given
 
-NIL = "--nil-is-absent or --nil-is-unknown"  # which settles what nil says
+NIL = "--nil-is-absent or --nil-is-unknown"  # the options that settle the meaning of nil
 
 
 def account_for_nils(count: int, given: Given, account: Account) -> None:
@@ -38,7 +38,7 @@ def strange_answer(line: KeyLine, events: Sequence[Event], concurrency: int) -> 
 
 
 def fatal_of(line: KeyLine, made: Sequence[Operation]) -> Optional[Operation]:
-    """The operation whose completion makes the key illegal."""
+    """Returns the operation whose completion makes the key illegal."""
     return next((each for each in made if each.completion is not None and each.completion.index == line.index), None)
 
 
@@ -50,7 +50,7 @@ def read_without_answer(line: KeyLine, events: Sequence[Event], concurrency: int
 
 
 def asked(events: Sequence[Event]) -> Iterator[int]:
-    """The values that operations of a key bring in or compare."""
+    """Returns the values that operations of a key bring in or compare."""
     for event in events:
         if event.kind == "invoke":
             yield from event.value if isinstance(event.value, tuple) else [event.value] if isinstance(event.value, int) else ()

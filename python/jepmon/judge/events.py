@@ -12,7 +12,7 @@ KEY = re.compile(":value \\[([0-9]+) ")
 
 
 def of_key(found: Recorded, key: int) -> List[Event]:
-    """The events of a key, as of with_fields."""
+    """Returns the events of one key, as with_fields() returns them."""
     return with_fields(found, [key])[key]
 
 

@@ -18,7 +18,7 @@ from .judging import Task
 from .models import ALIKE
 from .words import Given
 
-MOST_EVENTS = 100_000  # of a history that is judged once more for a hint
+MOST_EVENTS = 100_000  # a history of at most this many events is judged once more for a hint
 
 
 def counted(number: int, what: str) -> str:
@@ -64,7 +64,7 @@ def after(history: Recorded, task: Task, report: Report, given: Given) -> Iterat
         yield from _of_refusal(history, task, report, report.index)
     if given.cause and report.word == "illegal" and report.key is not None:
         yield from _of_order(history, task, report.key)
-    if not given.cause:  # which says it too
+    if not given.cause:  # the cause says this too
         yield from of_unknown([line for line in report.keys if line.key == report.key], task.options)
     yield from _of_nil(history, task, given)
 

@@ -12,19 +12,19 @@ from ..history.kinds import DIFFERING
 from ..program import KeyLine, Options, Report, keys_by_ends
 from .models import Choice
 
-ERROR_SHOWN = 300  # characters of what the program wrote on standard error
+ERROR_SHOWN = 300  # at most this many characters of the program's standard error are shown
 
 
 class Task(NamedTuple):
     """The history to be judged, and the options."""
 
-    text: str  # events, and no commands
+    text: str  # only events, without commands
     choice: Choice
-    budgets: Dict[int, int]  # of keys that have one of their own
-    options: Options  # its model is the common one, where there is one
+    budgets: Dict[int, int]  # the budgets of keys that have a budget of their own
+    options: Options  # with the common model, if there is one
     in_shards: bool = False
-    wide_seconds: Optional[int] = None  # in which keys over their budget were decided afterwards, if some were
-    least: int = 1  # operations whose answers say something, for a verdict
+    wide_seconds: Optional[int] = None  # the seconds in which keys over their budget were decided afterwards, if there were any
+    least: int = 1  # a verdict needs at least this many operations whose answers say something
     by_ends: Sequence[int] = ()  # keys that are judged by ends, since their values are equal
 
     @property
@@ -62,7 +62,7 @@ class Task(NamedTuple):
         return self.in_shards or self.wide_seconds is not None
 
     def again(self, file: str) -> str:
-        """The command that judges the history again from this file, which also has the commands."""
+        """Returns the command that judges the history again from this file, which also has the commands for models and budgets."""
         if self.by_judge:
             words = [f"--concurrency {self.options.concurrency}", f"--budget {self.options.budget}"]
             words += [f"--model {self.choice.common}"] if self.choice.common else []

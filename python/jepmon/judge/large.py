@@ -12,10 +12,10 @@ from ..history import kinds
 from ..shards.source import History
 from .words import Given
 
-SHORTEST = 40  # bytes that an event takes at least
-PACKED = 100  # times as short an event may become by gzip
+SHORTEST = 40  # an event has at least this many bytes
+PACKED = 100  # gzip makes an event at most this many times shorter
 WIDE_KEY = re.compile(r":value \[([0-9]{5,18}) ")
-TOO_MANY = f"more than {kinds.EVENTS:,} events, which one check does not take"
+TOO_MANY = f"more than {kinds.EVENTS:,} events, which are too many for one check"
 
 
 class Large(NamedTuple):
@@ -23,7 +23,7 @@ class Large(NamedTuple):
 
     source: Source
     made: Optional[Translation]  # the converted history; None if it is in jepmon's own form
-    reason: str  # why it is, if nobody asked for it
+    reason: str  # the reason for shards, if the user did not ask for them
 
     @property
     def name(self) -> str:
@@ -40,7 +40,7 @@ class Large(NamedTuple):
         return self.path if self.path is not None else self.source.texts()
 
     def texts(self) -> Iterator[str]:
-        """The texts of its file, up to bytes that are not UTF-8, which may be in comments."""
+        """Yields the texts of the file, up to the first bytes that are not UTF-8. Such bytes may be in comments."""
         try:
             yield from self.source.texts()
         except Refused:
@@ -53,23 +53,23 @@ def is_asked(given: Given) -> bool:
 
 
 def asked(source: Source, given: Given) -> Large:
-    """The history, which is to be judged by shards."""
+    """Returns the history, for shards."""
     form = door.form_of(source, given.said)
     return Large(source, None if form == door.OWN else door.translated(source, form, given.said), "")
 
 
 def of_jepsen(source: Source, given: Given) -> Large:
-    """A history that is not in jepmon's own form after all."""
+    """Returns the history for shards if it is not in jepmon's own form after all."""
     return Large(source, door.translated(source, door.JEPSEN, given.said), "")
 
 
 def reason_of_own(source: Source) -> Optional[str]:
-    """Why one check does not take a history in jepmon's own form. None if it may take the history."""
+    """Says why one check can't judge a history in jepmon's own form. None if it may be able to."""
     return TOO_MANY if has_too_many(source) else None
 
 
 def has_too_many(source: Source) -> bool:
-    """Whether a text has more lines that begin like an event than one check takes."""
+    """Returns whether a text has too many lines that begin like an event for one check."""
     if source.path is not None and os.path.getsize(source.path) < kinds.EVENTS * SHORTEST // (1 if source.is_plain else PACKED):
         return False
     count = 0
@@ -85,9 +85,9 @@ def refuse_commands(text: str) -> None:
     found = own.COMMAND_LINE.search(text)
     if found is not None:
         line = text.count("\n", 0, found.start()) + 1
-        raise Refused(f"line {line}: {found.group().strip()} is a command of jepmon script, which shards do not take: leave --jobs out")
+        raise Refused(f"line {line}: {found.group().strip()} is a command of jepmon script, and shards accept only events: leave --jobs out")
 
 
 def has_wide_key(text: str) -> bool:
-    """Whether a text in jepmon's own form has a key that shards take and one check does not."""
+    """Returns whether a text in jepmon's own form has a key that only shards accept."""
     return any(int(key) not in kinds.KEYS for key in WIDE_KEY.findall(text))

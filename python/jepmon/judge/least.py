@@ -1,12 +1,12 @@
-"""Whether a history has enough answers for a verdict. A history in which nothing worked is legal, and so is a history of writes alone:
-neither says anything about the store."""
+"""Tests whether a history has enough answers for a verdict. A history in which nothing worked is legal, and a history of only writes is
+legal too: neither says anything about the store."""
 from __future__ import annotations
 
 from typing import Mapping
 
 from .words import Given
 
-TELLING = ("cas", "acquire", "release", "dequeue")  # an ok of these is an answer; of a read it is where it has one
+TELLING = ("cas", "acquire", "release", "dequeue")  # an ok of one of these is an answer; the ok of a read is an answer if it has a value
 
 
 def telling(outcomes: Mapping[str, int], reads: int) -> int:

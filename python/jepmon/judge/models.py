@@ -9,16 +9,16 @@ from ..forms.own import Facts, KeyFacts, concurrency_of, possible
 from ..history import kinds
 
 __all__ = ["ALIKE", "Choice", "account_for", "answered", "by_operations", "chosen", "clients_of", "concurrency_of", "possible"]
-ALIKE = {"fifo-queue": "unordered-queue"}  # a stricter model, and the one with the same operations
+ALIKE = {"fifo-queue": "unordered-queue"}  # a stricter model, and the laxer model with the same operations
 
 
 class Choice(NamedTuple):
     """The model of each key."""
 
     models: Dict[int, str]
-    common: Optional[str]  # that all keys have; None where they are of several kinds
+    common: Optional[str]  # the model of all keys; None if the keys have several models
     reason: str
-    is_guess: bool = False  # made by the operations that were seen
+    is_guess: bool = False  # whether the model was guessed by the operations
 
     def of(self, key: int) -> str:
         return self.common or self.models[key]
@@ -57,7 +57,7 @@ def _test_counter(key: int, facts: KeyFacts, models: Sequence[str]) -> None:
 
 
 def _reason(facts: Facts, common: str, given: Optional[str], stated: Mapping[int, str]) -> str:
-    """Why this model."""
+    """Says why this model was chosen."""
     if not facts.keys:
         return ""
     if given and not stated:
@@ -68,7 +68,7 @@ def _reason(facts: Facts, common: str, given: Optional[str], stated: Mapping[int
 
 
 def by_operations(model: str, names: Sequence[str]) -> str:
-    """Why it is this model."""
+    """Says by which operations the model was found."""
     other = ALIKE.get(model)
     more = f"; the stricter of two: if no order was promised, pass --model {other}" if other else ""
     return f"by its operations: {', '.join(names)}{more}"
@@ -85,5 +85,5 @@ def answered(facts: Facts) -> int:
 
 
 def clients_of(facts: Facts, threads: int) -> int:
-    """How many threads have events."""
+    """Returns the number of threads that have events."""
     return len({process % threads for process in facts.processes if process >= 0})

@@ -19,7 +19,7 @@ class Page:
     """A file of its own, as --html names it."""
 
     def __init__(self, path: str) -> None:
-        self.name = path  # as the user named it
+        self.name = path  # the path as the user gave it
         self.path = pathlib.Path(os.path.realpath(path))
         _test_file(self.path, path)
         if self.path.is_file() and not _is_page(self.path):
@@ -31,7 +31,7 @@ class Page:
 
     @property
     def folder(self) -> str:
-        """The folder beside it for the pages of other keys, as links name it."""
+        """Names the folder beside the page that has the pages of other keys, as links name it."""
         return f"{self.path.stem}-keys"
 
     @property
@@ -96,7 +96,7 @@ class Folder:
         put_keys(self.path / name, pages)
 
     def give_up(self) -> None:
-        """Takes away the folders that were made, if nothing came into them."""
+        """Removes the folders that were made, if nothing was written into them."""
         for folder in self._made:
             try:
                 folder.rmdir()
@@ -123,7 +123,7 @@ def put_keys(folder: pathlib.Path, pages: Mapping[str, str]) -> None:
 
 
 def _test_file(path: pathlib.Path, name: str) -> None:
-    """Tests that a file can be written at this place, as far as this can be known before. A refusal uses this name of the file."""
+    """Tests that a file can be written at this place, as far as this can be known before. A refusal calls the file by `name`."""
     try:
         if path.is_dir():
             raise Refused(f"{name}: this is a folder; name a file")
@@ -143,7 +143,7 @@ def _beside(path: pathlib.Path) -> pathlib.Path:
 
 
 def _is_special(path: pathlib.Path) -> bool:
-    """Whether it is a device or a pipe, to which the tool writes directly."""
+    """Returns whether the path is a device or a pipe, to which the tool writes directly."""
     return path.exists() and not stat.S_ISREG(path.stat().st_mode)
 
 

@@ -18,10 +18,10 @@ from .words import Given as Words
 from .words import NAME
 
 RATES = "rates.html"
-SHORT = 1_000_000  # nanoseconds: a whole history takes longer than this
+SHORT = 1_000_000  # nanoseconds; a history certainly takes longer than this, if the unit of its times is right
 
 
-Told = Tuple[str, str, str, int, str, Optional[int]]  # an event: its type, process, operation, key, part and time
+Told = Tuple[str, str, str, int, str, Optional[int]]  # an event: its type, process, operation, key, operand and time
 
 
 class Timed(NamedTuple):
@@ -110,7 +110,7 @@ def notes(timed: Timed) -> Iterator[str]:
         yield ("The whole history takes less than a millisecond: its times are taken as nanoseconds. If their unit is another one, its name has "
                "to say so (--time-unit).")
     if timed.reader.found.untimed:
-        yield f"{timed.reader.found.untimed:,} events have no time: nothing of them is shown."
+        yield f"{timed.reader.found.untimed:,} events have no time: the page does not show them."
 
 
 def read(given: Given) -> Optional[Timed]:
@@ -139,7 +139,7 @@ def events_of(lines: Iterable[str], times: Optional[Iterable[Optional[int]]]) ->
             continue
         time = next(now, None)
         told = LINE.match(line)
-        if told is None:  # of the nemesis
+        if told is None:  # an event of the nemesis
             continue
         if times is None:
             own = TIME.search(told[6] or "")

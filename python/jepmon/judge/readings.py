@@ -23,7 +23,7 @@ from .models import ALIKE, Choice
 from .words import Given
 
 VERDICTS = ("legal", "illegal")
-OF_EMPTY_QUEUES = ("", "0", "-1", "None", "null", "NULL", "false", "False", "empty")  # answers that may say that there was nothing
+OF_EMPTY_QUEUES = ("", "0", "-1", "None", "null", "NULL", "false", "False", "empty")  # answers that may mean that the queue was empty
 MOST_KEYS = 64  # illegal keys that are searched for an answer that nobody has written
 
 
@@ -31,9 +31,9 @@ class Way(NamedTuple):
     """Another way to read the input."""
 
     change: Callable[[Given], Given]
-    assumed: str  # how it was read
-    otherwise: str  # how it is read so
-    option: str  # what settles it
+    assumed: str  # the assumption by which the input was read
+    otherwise: str  # the other assumption
+    option: str  # the option that settles it
 
 
 class Judged(NamedTuple):
@@ -114,7 +114,7 @@ def _of_both(guess: Guess, given: Given) -> Iterator[Way]:
 
 
 def _refusals_of_http(given: Given) -> Given:
-    """The reading in which the HTTP statuses of a refused request are failures."""
+    """Returns the reading in which HTTP statuses of refused requests are failures."""
     failures = {str(status): "fail" for status in range(400, 500)}
     return given._replace(mapping=given.mapping._replace(outcomes={**failures, **given.mapping.outcomes}))
 
@@ -158,7 +158,7 @@ def _of_answers(given: Given, judged: Judged) -> Iterator[Way]:
         if value is None:
             continue
         names = {each: text_of(judged.found.value_names.get(each, str(each))) for each in {value, *doubts.asked(events)}}
-        is_one = list(names.values()).count(names[value]) == 1  # and no value that is written looks like it
+        is_one = list(names.values()).count(names[value]) == 1  # whether no written value looks like it
         if is_one and (dead[key].model in REGISTERS or names[value] in OF_EMPTY_QUEUES):
             found[names[value]] = None
     if found:

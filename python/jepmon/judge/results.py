@@ -24,20 +24,20 @@ class Results(NamedTuple):
     task: Task
     report: Report
     keys: Sequence[causes.Shown]  # the keys that are not legal; otherwise the first key that was decided afterwards
-    lines: Sequence[str] = ()  # that tell the cause, for a terminal
-    copies: Mapping[str, str] = {}  # files that are whole already: their names in the folder, and where they are
+    lines: Sequence[str] = ()  # the lines of the cause for a terminal
+    copies: Mapping[str, str] = {}  # complete files elsewhere: for each name in the folder, the path of the file
 
 
 def write(to: Optional[Page], folder: Optional[Folder], results: Results) -> None:
-    """Writes what was asked for."""
+    """Writes the files that the user asked for."""
     if to is not None:
         pages = pages_of(results, to.name_in_links, to.folder)
         if pages:
             to.put(pages.pop(to.name_in_links), pages)
-            command.say(NAME, f"the page is {to.name}" + (f"; those of {len(pages)} other keys are in {to.keys}" if pages else ""))
+            command.say(NAME, f"the page is {to.name}" + (f"; the pages of {len(pages)} other keys are in {to.keys}" if pages else ""))
         else:
             removed = ", and that of an earlier run was removed" if results.report.word != "refused" and to.remove() else ""
-            command.say(NAME, f"no page was written{removed}: it would show why a key is illegal or unknown, and the verdict is "
+            command.say(NAME, f"no page was written{removed}: a page shows why a key is illegal or unknown, but the verdict is "
                         f"{results.report.word}")
     if folder is not None:
         pages = pages_of(results, PAGE, KEYS)

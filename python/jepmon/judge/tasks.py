@@ -12,11 +12,11 @@ from .words import Given
 
 
 def of(found: Recorded, given: Given) -> Task:
-    """How the history is to be judged."""
+    """Returns the task: the history, and the way in which it is judged."""
     choice = models.chosen(found.facts, given.model, found.stated, found.possible)
     models.account_for(choice, found.account)
     account_for_types(found.key_names, found.value_names, given.values, found.account)
-    if not found.has_commands:  # what was told to jepmon script is in its own form, in which nil says nothing
+    if not found.has_commands:  # a log of jepmon script is in jepmon's own form, where nil says nothing
         doubts.account_for_nils(sum(facts.nils_after_values for facts in found.facts.keys.values()), given, found.account)
     concurrency = given.concurrency or models.concurrency_of(found.facts)
     if concurrency is None:
@@ -26,5 +26,5 @@ def of(found: Recorded, given: Given) -> Task:
 
 
 def word_of(source: Source, given: Given) -> str:
-    """The verdict on a history, read with these options."""
+    """Returns the verdict on a history if it is read with these options."""
     return judged(of(recorded(source, given.said), given))[1].word

@@ -1,4 +1,4 @@
-"""The cause on standard error: that of the first bad key in full, and that of each other bad key in a line."""
+"""Prints causes on standard error: the whole cause of the first bad key, and a line for each other bad key."""
 from __future__ import annotations
 
 from typing import List, Sequence
@@ -9,7 +9,7 @@ from . import bad_keys, causes
 
 
 def told(found: Recorded, keys: Sequence[causes.Shown]) -> List[str]:
-    """Tells it, and gives the lines."""
+    """Prints the causes, and returns the printed lines."""
     lines: List[str] = []
     if keys:
         lines += causes.lines(found, keys[0])

@@ -23,7 +23,7 @@ from .judging import judged
 from .outputs import Folder, Page
 from .words import NAME, Given
 
-LARGE = 10_000_000  # characters of a history from which the tool says that reading takes some time
+LARGE = 10_000_000  # from this many characters on, the tool says that reading takes some time
 
 
 def say(line: str) -> None:
@@ -63,7 +63,7 @@ def _terminated(number: int, _frame: Optional[FrameType]) -> None:
 
 
 def _judge(given: Given) -> int:
-    name = find_program()  # what may be missing is seen before the long work
+    name = find_program()  # a missing program is reported before the long work
     if shutil.which(name) is None:
         raise ProgramError(f"{name} can't be run: it is not a program; {CURE}")
     if given.temporary is not None and not os.path.isdir(given.temporary):
@@ -113,7 +113,7 @@ def named(source: files.Source) -> Iterator[None]:
 
 
 def _whole(made: Translation) -> Tuple[Optional[str], Optional[Recorded]]:
-    """The history for one check, or the reason why one check does not take it."""
+    """Returns the history for one check, or the reason why one check can't judge it."""
     reason = made.reason_for_shards()
     try:
         return reason, of_translation(made) if reason is None else None
@@ -129,7 +129,7 @@ def _judge_own(source: files.Source, given: Given, page: Optional[Page], folder:
         if reason == "":
             large.refuse_commands(source.front)
         if reason is None and found is None and large.has_wide_key(source.text):
-            reason = f"a key above {kinds.KEYS[-1]}, which one check does not take"
+            reason = f"a key above {kinds.KEYS[-1]}, the greatest key of one check"
     if found is not None:
         return _judge_whole(source, found, given, page, folder)
     return None if reason is None else by_shards.judge_own(given, large.Large(source, None, reason), page, folder)
@@ -144,7 +144,7 @@ def _judge_whole(source: files.Source, found: Recorded, given: Given, page: Opti
         say(line)
     if given.strict_input:
         found.account.test_strict()
-    is_known = not task.may_be_by_ends  # how it is judged
+    is_known = not task.may_be_by_ends  # whether the kinds of all keys are known before the history is judged
     if is_known:
         say(hints.judged_by(source, found, task))
     task, report = judged(task)

@@ -11,7 +11,7 @@ from ..wide import Clock, Decided, decide
 from .hints import counted
 from .words import NAME
 
-TOGETHER = 200_000  # events of keys that are held at once
+TOGETHER = 200_000  # the events of keys that are in memory at once
 SHARES = 4  # one key may take this many times the remaining time divided by the remaining keys
 EventsOf = Callable[[List[int]], Dict[int, List[Event]]]
 
@@ -83,7 +83,7 @@ def grouped(keys: Iterable[Over]) -> Iterator[List[Over]]:
 
 
 def said(found: Decisions, total: int, seconds: int) -> Iterator[str]:
-    """The notes on it."""
+    """Returns the notes on these decisions."""
     if total == 0:
         return
     alive = sum(decided.index is None for decided in found.values())
@@ -93,9 +93,9 @@ def said(found: Decisions, total: int, seconds: int) -> Iterator[str]:
         yield f"they had {seconds} s together: --decide-seconds N gives more"
     by_test = [decided for decided in found.values() if not decided.is_proved]
     if any(decided.index is None for decided in by_test):
-        yield "the orders were tested by a program that is not proved: a key with the status `ordered` makes no history legal"
+        yield "only a test in Python accepts the orders, and it is not proved: a history with a key of the status `ordered` is not called legal"
     if any(decided.index is not None for decided in by_test):
-        yield "that no earlier event is fatal was tested by a program that is not proved: the status is `dead-by`, and the key is illegal"
+        yield "only a test in Python, which is not proved, says that no earlier event is fatal: the status is `dead-by`, and the key is illegal"
 
 
 # --- The report ---
@@ -110,7 +110,7 @@ class Marking:
         self._open: Optional[Place] = None
 
     def mark(self, text: str) -> str:
-        """The line of a key, as it is now."""
+        """Returns the present line of a key."""
         line = key_line(text)
         if line is None:
             return text

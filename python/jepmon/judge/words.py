@@ -43,14 +43,14 @@ class Given(NamedTuple):
     jobs: Optional[int]
     dask: Optional[str]
     temporary: Optional[str]
-    wide_seconds: int = 0  # for keys that are over their budget
+    wide_seconds: int = 0  # the time for deciding keys over their budget
     strict_input: bool = False
     json: bool = False
     least: int = 1
     values: Optional[str] = None
     absent: Sequence[str] = ()
     initial: Optional[str] = None
-    mapping: Mapping = Mapping()  # what is said of the fields of rows
+    mapping: Mapping = Mapping()  # the stated meaning of the fields of rows
     nil_is_unknown: bool = False
     by_ends: bool = False
 

@@ -21,7 +21,7 @@ class Bad(NamedTuple):
     at: int  # the event
     model: str
     budget: int
-    kind: str  # of the program, by which the key was judged
+    kind: str  # the kind of the program by which the key was judged
 
     @property
     def is_wide(self) -> bool:
@@ -42,12 +42,12 @@ def told(folder: RunFolder, bad: Bad) -> Told:
     except (ProgramError, OSError) as fault:
         say(f"{folder.name} has no cause and no page: {fault}")
     except Exception as fault:
-        say(f"{folder.name} has no cause and no page, by a fault of jepmon itself: {fault!r}")
+        say(f"{folder.name} has no cause and no page, because of a fault of jepmon itself: {fault!r}")
     return Told([], "")
 
 
 def _told(folder: RunFolder, bad: Bad) -> Told:
-    from .. import page  # here, since no test that is legal needs them
+    from .. import page  # imported here, since a legal test does not need them
     from ..causes import cause
     from ..objects import configurations as walk
 
@@ -56,7 +56,7 @@ def _told(folder: RunFolder, bad: Bad) -> Told:
     own = folder.options.of_line(report.keys[0], folder.program)
     found = cause.explain(events, report, folder.options, program=folder.program, faults=faults)
     found = found._replace(sentences=[*read_again(folder), *found.sentences]) if found is not None else None
-    is_uncounted = report.word == "unknown" and bad.is_wide  # by a walk
+    is_uncounted = report.word == "unknown" and bad.is_wide  # whether a walk can't count the possible outcomes
     walked = None if is_uncounted else page.walked(walk.follow(events, own, folder.program), {})
     drawn = page.render(page.PageInput(
         verdict=bad.reply, key=bad.key, events=events, model=bad.model, concurrency=folder.options.concurrency, budget=bad.budget,
@@ -67,7 +67,7 @@ def _told(folder: RunFolder, bad: Bad) -> Told:
 
 
 def read_again(folder: RunFolder) -> List[str]:
-    """The answers of the reads of the key after the finding."""
+    """Returns the answers of the reads of the key after the finding."""
     try:
         return (folder.path / AFTER).read_text("utf-8").splitlines()
     except OSError:

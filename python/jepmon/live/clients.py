@@ -9,7 +9,7 @@ from typing import Callable, Deque, List, Optional, Protocol
 
 from .verdicts import NotLegal, Refused
 
-GLANCE = 0.05  # seconds between two looks at running clients: a Ctrl-C just before a wait takes effect at its end
+GLANCE = 0.05  # seconds between two looks at running clients: a Ctrl-C just before a wait takes effect at the end of the wait
 
 
 class Test(Protocol):
@@ -23,7 +23,7 @@ class Test(Protocol):
 
 
 def run_clients(test: Test, work: Callable[[int], object], threads: int) -> None:
-    """What Monitor.run does."""
+    """Does the work of Monitor.run."""
     faults: Deque[BaseException] = collections.deque()
 
     def client(number: int) -> None:
@@ -31,11 +31,11 @@ def run_clients(test: Test, work: Callable[[int], object], threads: int) -> None
         try:
             test.settle(number)
             work(number)
-        except BaseException as fault:  # whatever it is, it is raised below
+        except BaseException as fault:  # any exception; it is raised below
             faults.append(fault)
 
     started: List[threading.Thread] = []
-    # Ctrl-C waits while threads start: it could leave a lock taken for ever, for which a thread waits.
+    # Ctrl-C waits while threads start: otherwise a thread could wait for ever for a lock that the interrupted thread holds.
     mask = signal.pthread_sigmask(signal.SIG_BLOCK, [signal.SIGINT])
     try:
         try:
@@ -61,8 +61,8 @@ def run_clients(test: Test, work: Callable[[int], object], threads: int) -> None
 
 
 def raise_first(test: Test, faults: Deque[BaseException]) -> None:
-    """Raises the verdict that is not legal, otherwise the first exception of a client. Keeps no exception, since an exception holds
-    everything in its frames."""
+    """Raises the verdict that is not legal, otherwise the first exception of a client. Keeps no reference to an exception, since an
+    exception keeps everything in its frames alive."""
     first = faults[0] if faults else None
     faults.clear()
     try:

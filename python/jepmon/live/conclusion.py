@@ -12,16 +12,16 @@ from .verdicts import NotLegal, Unknown
 class Conclusion(NamedTuple):
     """The result of a run."""
 
-    failure: Optional[NotLegal]  # None: legal
+    failure: Optional[NotLegal]  # None if the verdict is legal
     length: int
-    counts: Dict[str, Counter[str]]  # of outcomes, by operation
+    counts: Dict[str, Counter[str]]  # the number of operations by name and outcome
     dropped: Dict[int, Unknown]
-    ended_by: Optional[BaseException]  # the exception of the test, if it did not come to its end
-    model: str  # of the key that is not legal
+    ended_by: Optional[BaseException]  # the exception that ended the test early, if there was one
+    model: str  # the model of the key that is not legal
     budget: int
-    names: Mapping[int, object]  # what numbers stand for
+    names: Mapping[int, object]  # the original values of numbers
     by_ends: Sequence[int]  # keys of queues that are judged by their ends, since their values are equal
-    kind: str  # by which the key that is not legal was judged
+    kind: str  # the kind by which the key that is not legal was judged
 
 
 def leave_verdict(folder: RunFolder, conclusion: Conclusion) -> None:
@@ -32,8 +32,8 @@ def leave_verdict(folder: RunFolder, conclusion: Conclusion) -> None:
 
 
 def leave_cause(folder: RunFolder, conclusion: Conclusion) -> None:
-    """Writes the cause of an illegal or unknown verdict, in words and as a page. Nothing if the history does not have it, which another
-    line then says."""
+    """Writes the cause of an illegal or unknown verdict, in words and as a page. Writes nothing if the history does not have the verdict's
+    event; then another line says so."""
     failure = conclusion.failure
     if failure is None or failure.key is None or failure.index is None or folder.lost is not None:
         return
@@ -45,7 +45,7 @@ def leave_cause(folder: RunFolder, conclusion: Conclusion) -> None:
 
 
 def leave_page(folder: RunFolder) -> None:
-    """Writes the page of the whole run, legal or not. For a part, the page is that of the run."""
+    """Writes the page of the whole run, legal or not. For a part (a segment) of a long test, it is the page of the whole test."""
     if not folder.is_part:
         from ..rates.run import leave  # here, since a test without a folder needs no page
 

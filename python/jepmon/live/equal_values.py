@@ -19,7 +19,7 @@ class ByEnds:
     def __init__(self, has_said: Optional[Set[str]] = None) -> None:
         self.keys: Set[int] = set()
         self._left: Set[int] = set()  # keys that exceeded their budget by their ends too
-        self._has_said = set() if has_said is None else has_said  # what the whole test has reported
+        self._has_said = set() if has_said is None else has_said  # the notes that the whole test has printed
 
     def kind(self, key: int, kind: str) -> str:
         """The kind of a key, if this is the kind of its model."""
@@ -36,11 +36,11 @@ class ByEnds:
             say(f"{equal_values.note([key])}; so is each later key with equal values")
 
     def leave(self, key: int) -> None:
-        """Its ends do not judge it further."""
+        """Notes that the key is over its budget by its ends too."""
         self._left.add(key)
 
     def forget(self, key: int) -> None:
-        """Its model was named again."""
+        """Forgets the key, since the test has named its model again."""
         self.keys.discard(key)
         self._left.discard(key)
 

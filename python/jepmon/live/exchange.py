@@ -9,7 +9,7 @@ from ..program import Options, ProgramError, Script, by_ends_note, find_program
 from .hints import hint_of_refusal
 from .verdicts import Refused
 
-PATIENCE = 10.0  # seconds for a question that is not worth more, such as a try of another model
+PATIENCE = 10.0  # the longest time for an optional question, such as a try of another model
 
 
 class Exchange:

@@ -1,15 +1,15 @@
-"""Advice about a reply that is not `legal`: for people, and not proved."""
+"""Advice for people about a reply that is not `legal`. It is not proved."""
 from __future__ import annotations
 
 from typing import AbstractSet, Callable
 
 from ..history.kinds import BUDGETS, DIFFERING, EVENTS, MODELS, THREADS
 
-HINTS = {  # beside a refusal, by its name
-    "HistoryFull": f"a history has {EVENTS} events at most; a LongMonitor goes on with one after another",
+HINTS = {  # the hint beside a refusal, by the refusal's name
+    "HistoryFull": f"a history has {EVENTS} events at most; a LongMonitor judges one history after another",
     "BadBudget": f"a budget is a number from {BUDGETS.start} to {BUDGETS.stop - 1}",
     "BadConcurrency": f"the concurrency is a number from 1 to {THREADS}",
-    "NoMemory": "the memory did not suffice: take a smaller budget, or a LongMonitor with fewer events of a part",
+    "NoMemory": "the memory did not suffice: use a smaller budget, or a LongMonitor with fewer events per part",
     "TooLong": "a line has 65536 bytes at most: let the sets that are read be smaller",
 }
 UNKNOWN = (

@@ -15,9 +15,9 @@ class Told:
 
     def __init__(self) -> None:
         self.sources = Sources()
-        self._events: Dict[int, Deque[Tuple[int, int, str]]] = {}  # the last ones of each key: index, process and text
-        self._names: Dict[int, Set[str]] = {}  # of the operations of each key, except for the write that begins it
-        self._outcomes: Counter[Tuple[int, str, str]] = collections.Counter()  # of a key, by operation and outcome
+        self._events: Dict[int, Deque[Tuple[int, int, str]]] = {}  # the last events of each key: index, process and text
+        self._names: Dict[int, Set[str]] = {}  # the names of the operations of each key, without the write that begins the key
+        self._outcomes: Counter[Tuple[int, str, str]] = collections.Counter()  # the number of operations, by key, operation and outcome
         self._pending: Counter[int] = collections.Counter()  # operations of each key that are open
         self._timeouts: Counter[int] = collections.Counter()  # operations of each key that timed out; reads do not count
 
@@ -72,11 +72,11 @@ class Told:
         return self._timeouts[key]
 
     def pending(self, key: int) -> int:
-        """How many operations of the key are open now."""
+        """Returns the number of open operations of the key."""
         return self._pending[key]
 
     def counts(self) -> Dict[str, Counter[str]]:
-        """How the operations ended, by name."""
+        """Returns the number of operations by name and outcome."""
         counts: Dict[str, Counter[str]] = {}
         for (_, name, outcome), count in self._outcomes.items():
             counts.setdefault(name, collections.Counter())[outcome] += count

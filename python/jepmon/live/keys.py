@@ -12,27 +12,26 @@ from .values import key_of
 if TYPE_CHECKING:
     from .monitor import Monitor
 
-TRIES = 8  # to draw a key that has room
+TRIES = 8  # at most this many keys are drawn to find one that has room
 
 
 class Keys:
     """The keys that a test writes to, and those that it reads; Monitor.keys makes it. Any number of threads may use it.
 
-    A write that timed out may take place at any later moment, so each one adds possible outcomes to the key, until they exceed its
-    budget. So writes leave a key after `limit` of them, and a new key replaces it. **Reads must stay.** A fault that loses data, such
-    as the kill of a server that keeps nothing, makes requests to each key time out. A test that leaves these keys never reads
-    the lost values again, and passes. So read at read_key, which also gives keys that writes have left, and read all of `used`
-    at the end.
+    A write that timed out may take place at any later moment, so each one adds possible outcomes to the key, until they exceed its budget.
+    So writes leave a key after `limit` timed-out operations, and a new key replaces it. **Reads must stay.** A fault that loses data, such
+    as the kill of a server that keeps nothing, makes requests to each key time out. A test that leaves these keys never reads the lost
+    values again, and passes. So read at read_key, which also gives keys that writes have left, and read all of `used` at the end.
 
     A key has room for another operation if fewer than `most` of its operations are open, or if none is open. A key without room is returned
     only if there is no other.
 
-    The room has both numbers, by the kind of the keys: 8 and 10 for registers; 8 and 8 with compare and set; no limit and 64 for sets; 8
-    and 64 for queues. If these are judged by ends, the numbers are 3 and 6. They are 8 and 12 for locks. In locks, and by ends, operations that
-    have timed out count as open.
+    The numbers `limit` and `most` depend on the kind of the keys: 8 and 10 for registers; 8 and 8 with compare and set; no limit and 64 for
+    sets; 8 and 64 for queues. For keys that are judged by ends the numbers are 3 and 6, and for locks 8 and 12. In locks, and by ends,
+    operations that have timed out count as open.
 
-    Use queues in the same way: enqueue at write_key, and dequeue at read_key. Each operation of a lock is a change: acquire at write_key, so
-    that clients try again a lock that was held while its server died.
+    Use queues in the same way: enqueue at write_key, and dequeue at read_key. Each operation of a lock is a change: acquire at write_key,
+    so that clients again try to acquire a lock that was held when its server died.
     """
 
     def __init__(self, monitor: Monitor, count: int = 1, limit: Optional[int] = None, first: int = 0, most: Optional[int] = None,
@@ -45,8 +44,8 @@ class Keys:
                                           for each in (room, BY_ENDS))
         self._monitor, self._first = monitor, first
         self._lock = threading.Lock()
-        self._draws = random.Random(first)  # where the caller brings none
-        self._open = list(range(first, first + count))  # to writes
+        self._draws = random.Random(first)  # used if the caller has no random numbers of its own
+        self._open = list(range(first, first + count))  # the keys that are open to writes
         self._left: List[int] = []
         self._next = first + count
 
@@ -89,7 +88,7 @@ class Keys:
 
     def _leave(self, place: int) -> None:
         if self._next not in KEYS:
-            raise ValueError(f"each key from {self._first} to {KEYS.stop - 1} has had {self._room.timeouts} timeouts: no new one is left")
+            raise ValueError(f"each key from {self._first} to {KEYS.stop - 1} has had {self._room.timeouts} timeouts: there is no new key left")
         self._left.append(self._open[place])
         self._open[place] = self._next
         self._next += 1

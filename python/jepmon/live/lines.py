@@ -9,15 +9,15 @@ from .owner import OwnedLock
 
 
 class End:
-    """What a completion ends."""
+    """The completion of an operation, and the operation that it ends."""
 
     __slots__ = ("kind", "thread", "process", "name", "invoked", "counts", "is_lost")
 
     def __init__(self, kind: str, thread: int, process: int, name: str, invoked: str, counts: bool) -> None:
-        self.kind = kind  # "ok", "fail" or "info", as it is told
+        self.kind = kind  # "ok", "fail" or "info", as it is recorded
         self.thread, self.process, self.name = thread, process, name
-        self.invoked = invoked  # the part of its invocation
-        self.counts = counts  # not the write by which a key begins
+        self.invoked = invoked  # the operand of its invocation
+        self.counts = counts  # whether it counts as an operation of the test; the write by which a key begins does not
         self.is_lost = False  # whether it is an ok that is sent as an info
 
 
@@ -29,7 +29,7 @@ class Line:
     def __init__(self, text: str, key: Optional[int] = None, index: int = -1, end: Optional[End] = None) -> None:
         self.text, self.key, self.index, self.end = text, key, index, end
         self.is_answered = False
-        self._ready: Optional[_thread.LockType] = None  # is free once it is answered, or its thread leads
+        self._ready: Optional[_thread.LockType] = None  # free once the line has a reply, or its thread leads
         self._leads = False
 
 
@@ -40,7 +40,7 @@ class LineQueue:
     """A queue of lines. The caller of each method has the lock, and has it again when the call returns."""
 
     def __init__(self, lock: OwnedLock) -> None:
-        self.lines: List[Line] = []  # those that nobody has sent yet
+        self.lines: List[Line] = []  # lines that nobody has sent yet
         self._lock = lock
         self._is_led = False
 
@@ -58,7 +58,7 @@ class LineQueue:
             if not line.is_answered:
                 self._is_led = line._leads = True
                 self._lead(answer)
-        except BaseException:  # such as Ctrl-C: the line is sent all the same, and the others must not wait for this thread
+        except BaseException:  # such as Ctrl-C: the line is sent in any case, and the other threads must not wait for this one
             self._leave(line)
             raise
 

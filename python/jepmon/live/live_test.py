@@ -55,7 +55,7 @@ class LiveTest:
     @contextlib.contextmanager
     def fault(self, text: str) -> Iterator[None]:
         """Notes a fault that lasts as long as this block, such as "cut n1 off". If the test has ended, the fault does not begin, and the
-        exception of an operation is raised. So a thread that injects faults ends with the clients."""
+        exception of an operation is raised. So a thread that injects faults ends when the clients end."""
         text = folded(text)
         self._judge.note(BEGIN, text)
         try:
@@ -77,7 +77,7 @@ class LiveTest:
         self, kind: Optional[Type[BaseException]], error: Optional[BaseException], trace: Optional[TracebackType]
     ) -> None:
         if error is not None and not self._judge.lock.is_here:
-            return  # a forked process ends, and the test continues elsewhere
+            return  # this is a forked process that ends; the test continues in its own process
         verdict = self._close(error)
         if error is None and self.failure is not None:
             raise copy.copy(self.failure)

@@ -10,12 +10,11 @@
                 op.value = store.get(key)            # the answer; None if the key is missing
         monitor.run(client, 5)                       # client(0) to client(4), in threads; your own threads will do as well
 
-A block that ends is an :ok. An exception in it is an :info: the operation may have taken place, or may yet. `raise Failed` in
-it, or op.fail(), is a :fail: it certainly did not take place. The first event after which the history is not linearizable
-raises Illegal, in the thread that recorded the event, and in each operation of the others that ends or begins later. A key over
-its budget raises Unknown (not with unknown="drop"), and a refusal of jepmon raises Refused. The text of the exception has the last
-events of the key, without operations that failed, and a hint. The end of `with Monitor()` raises the exception again, unless its
-block raised another one.
+A block that ends is an :ok. An exception in it is an :info: the operation may have taken place, or may still take place. `raise Failed` in
+it, or op.fail(), is a :fail: it certainly did not take place. The first event after which the history is not linearizable raises Illegal,
+in the thread that recorded the event, and in each operation of other threads that ends or begins later. A key over its budget raises
+Unknown (not with unknown="drop"), and a refusal of jepmon raises Refused. The text of the exception has the last events of the key, without
+operations that failed, and a hint. The end of `with Monitor()` raises the exception again, unless its block raised another one.
 
 An answer of nil says nothing to jepmon, so a store that loses every write would pass. Here a missing key is a value, ABSENT: each
 key of a register begins with it, and a read that answers None records it. monitor.write(key, ABSENT) is a deletion. A value from
@@ -53,26 +52,28 @@ class Monitor(LiveTest):
     """A running `jepmon script`. Any number of threads of this process may use it, and coroutines, whose blocks then contain an
     await. At most `concurrency` operations are open at once. The program starts here, and Refused rejects a wrong option.
 
-    program      the program's path; else the environment's JEPMON, the one built or released in this repository, or jepmon on the PATH
+    program      the program's path; otherwise the program that JEPMON names, the program that was built or released in this
+                 repository, or jepmon on the PATH
     model        the object that each key is: register, cas-register, mutex, fifo-queue, unordered-queue or set (see set_model)
     concurrency  1 to 64
     budget       the greatest number of possible outcomes of a key, 1 to 65536; with more it is Unknown
     expected     exceptions that end an operation as :info and are not raised again, such as (TimeoutError, ConnectionError)
     failed       exceptions that end an operation as :fail and are not raised again, such as (ConnectionRefusedError,): it certainly did
                  not take place, since nothing was sent. Do not use it if the store's client retries by itself: its first try may
-                 have been sent. If both have a class of the exception, the more special class decides, and else it is an :info
+                 have been sent. If both have a class of the exception, the more special class decides; otherwise it is an :info
     out          a folder, such as "runs/". The run gets a folder of its own there, named by the time; runs/latest links to the newest.
                  It has the history with times and faults, written as it happens, a script that judges it again, and the verdict.
                  If that is illegal or unknown, the end of the monitor's block, or close, adds the cause in words and a page. The
                  first line of the exception names the folder. If a file cannot be written during the test, standard error says so
                  once, and the test goes on
-    unknown      "raise": a key over its budget ends the test with Unknown. "drop": the monitor judges the key up to there and does not
-                 record its later operations; the other keys go on, and nothing is raised. See dropped. The log takes the event back
-    initial      the value of each register before its first operation; else it is missing. begin names the value of one key
+    unknown      "raise": a key over its budget ends the test with Unknown. "drop": the monitor judges the key up to this event, and
+                 does not record its later operations; the other keys stay in the test, and nothing is raised. See set_aside. The log
+                 takes the event back
+    initial      the value of each register before its first operation; without it the key is missing. begin() names the value of one key
     absent       the store's answer for a missing key instead of None, such as "" or 0; writing it deletes the key
-    by_ends      judges keys by all their possible outcomes (ends), as `jepmon check --model register` does. Else it judges them as wide
-                 kinds, such as wide-register: far fewer keys are Unknown, and the other verdicts are the same. A FIFO queue in which
-                 two enqueues of one value have not failed is judged by its ends from there on (see equal_values)
+    by_ends      judges keys by all their possible outcomes (ends), as `jepmon check --model register` does. By default it judges them as
+                 wide kinds, such as wide-register: far fewer keys are Unknown, and the other verdicts are the same. A FIFO queue in which
+                 two enqueues of one value have not failed is judged by its ends (see equal_values)
     log          gets each recorded line, with its :time in nanoseconds since the monitor began, and the notes. `jepmon script` with
                  the same options judges it again. Open a file by lines, with open(path, "w", buffering=1): then it is complete
                  even if the test is killed
@@ -106,7 +107,7 @@ class Monitor(LiveTest):
             exchange.end()
             raise
         self.concurrency = concurrency
-        self.folder: Optional[pathlib.Path] = folder.path if folder is not None else None  # of this run
+        self.folder: Optional[pathlib.Path] = folder.path if folder is not None else None  # the folder of this run
         self._judge = self._telling = Telling(exchange, Record(log, folder, clock), options, unknown, ends, missing=of_missing)
         self._numbers = Numbers(self._telling.names)
 
@@ -120,7 +121,7 @@ class Monitor(LiveTest):
         return Operation(self._telling, "write", key, self._brought(key, value))
 
     def cas(self, key: int, old: Optional[int], new: Optional[int]) -> Operation:
-        """Sets the key to new if it is old. If the store says that it was not: op.fail()."""
+        """Sets the key to `new` if its value is `old`. Call op.fail() if the store says that the value was another one."""
         return Operation(self._telling, "cas", key, f"[{integer(told(self._telling.missing.seen(old)))} {self._brought(key, new)}]")
 
     def add(self, key: int, value: int) -> Operation:
@@ -134,7 +135,7 @@ class Monitor(LiveTest):
         return Operation(self._telling, "dequeue", key)
 
     def acquire(self, key: int = 0) -> Operation:
-        """Takes a lock. If somebody else holds it: op.fail()."""
+        """Acquires a lock. Call op.fail() if somebody else holds it."""
         return Operation(self._telling, "acquire", key)
 
     def release(self, key: int = 0) -> Operation:
@@ -152,11 +153,11 @@ class Monitor(LiveTest):
 
     def keys(self, count: int = 1, limit: Optional[int] = None, first: int = 0, most: Optional[int] = None, model: Optional[str] = None) -> Keys:
         """Gives the keys of a test with timeouts, from `first` on. `count` of them are open to writes at a time. Writes leave a key after
-        `limit` of its operations have timed out, and reads stay on all keys. If possible, at most `most` operations of a key are
-        open at once. Keys has the defaults, by the model of these keys, which is that of the monitor if none is named."""
+        `limit` of its operations have timed out, and reads stay on all keys. If possible, at most `most` operations of a key are open at
+        once. Keys has the defaults by the model of these keys. Without `model` it is the model of the monitor."""
         return Keys(self, count, limit, first, most, room_of(self._telling.kind(model)))
 
-    # --- What is said of a key ---
+    # --- Facts about a key ---
 
     def begin(self, key: int, value: Optional[int] = ABSENT) -> None:
         """Names the first value of a register. Without this call, the first operation on the key records the value of Monitor(initial=..),
@@ -170,11 +171,11 @@ class Monitor(LiveTest):
         self._telling.set_budget(key_of(key), budget)
 
     def number(self, thing: Hashable) -> int:
-        """Gives a number for the thing, always the same one: 0, 1, .. True, 1 and 1.0 have one each. Use such numbers for all values of a
-        key or for none: a mixture is a ValueError, since two different values could be equal."""
+        """Returns a number for the thing, always the same one: 0, 1, .. True, 1 and 1.0 have three different numbers. Use such numbers for
+        all values of a key or for none: a mixture is a ValueError, since two different values could be equal."""
         return self._numbers.number(thing)
 
-    # --- What has come of it ---
+    # --- Results ---
 
     @property
     def length(self) -> int:

@@ -15,9 +15,9 @@ class Numbers:
     """Any number of threads may use it."""
 
     def __init__(self, names: Dict[int, object]) -> None:
-        self._names = names  # what each number stands for, where it is shown
+        self._names = names  # the thing of each number, for texts
         self._numbers: Dict[Hashable, Number] = {}
-        self._sorts: Dict[int, bool] = {}  # for each key, whether the values that were brought in are numbers of other things
+        self._sorts: Dict[int, bool] = {}  # for each key, whether its written values are numbers of other things
         self._lock = threading.Lock()
 
     def number(self, thing: Hashable) -> Number:
@@ -40,12 +40,12 @@ class Numbers:
 
 
 def apart(thing: Hashable) -> Hashable:
-    """The form by which the thing is looked up."""
+    """Returns the form of the thing in which it is looked up."""
     if isinstance(thing, bool):
         return bool, thing
     if isinstance(thing, numbers.Number):
         if thing != thing:
-            raise ValueError(f"{thing!r} is unequal to itself, so that no answer would be it: number its text, as Monitor.number('nan')")
+            raise ValueError(f"{thing!r} is not equal to itself, so no answer could be equal to it: number its text, as Monitor.number('nan')")
         return int if isinstance(thing, numbers.Integral) else float if isinstance(thing, float) else type(thing), thing
     if isinstance(thing, tuple):
         return tuple, tuple(map(apart, thing))

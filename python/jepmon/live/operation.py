@@ -14,7 +14,7 @@ CALLS = "call op.fail() if it did not take place, op.info() if it may have"
 
 
 class Teller(Protocol):
-    """Whom operations tell of."""
+    """The object that records the beginning and the end of operations."""
 
     endings: Endings
     missing: Missing
@@ -23,10 +23,10 @@ class Teller(Protocol):
         """Records the invocation. Returns its thread of jepmon, or None if it was not recorded."""
 
     def complete(self, kind: str, thread: int, name: str, key: int, part: str, invoked: str) -> None:
-        """The operation on this thread ends so."""
+        """Records the end of the operation on this thread."""
 
     def is_register(self, key: int) -> bool:
-        """Whether the answers of its reads are integers."""
+        """Returns whether the key is a register, whose reads answer integers."""
 
 
 class Block:
@@ -34,7 +34,7 @@ class Block:
     anything else raises an AttributeError at once. If the client has caught this error, the end of the block raises it again. The operation
     is then an :info, since nobody knows what the client meant. The package itself writes into __dict__."""
 
-    value: Value = UNSET  # of a read or a dequeue: what it answered
+    value: Value = UNSET  # the answer of a read or a dequeue
     _name: str
     _outcome: Optional[str] = None
     _told = False
@@ -50,7 +50,7 @@ class Block:
             raise misused
 
     def _take(self, other: Block) -> None:
-        """The settings of another operation hold for this one."""
+        """Copies the settings of another operation."""
         self.__dict__.update(value=other.value, _said=other._said, _misused=other._misused)
 
     def _why_not(self, name: str) -> str:
@@ -61,7 +61,7 @@ class Block:
             return f"op.outcome says how the block ended: {CALLS}"
         if hasattr(type(self), name):
             return f"op.{name} can't be set"
-        return f"an operation has no {name}: {CALLS}; op.value is what a read or a dequeue answered"
+        return f"an operation has no {name}: {CALLS}; op.value is the answer of a read or a dequeue"
 
     @property
     def outcome(self) -> Optional[str]:
@@ -84,22 +84,22 @@ class Block:
         return self._said == "fail"
 
     def fail(self) -> None:
-        """The operation certainly did not take place."""
+        """Records that the operation certainly did not take place."""
         self.__dict__.update(_said="fail")
 
     def info(self) -> None:
-        """The operation may have taken place, or may yet, for example after a timeout that raised nothing."""
+        """Records that the operation may have taken place, or may still take place: for example after a timeout that raised nothing."""
         self.__dict__.update(_said="info")
 
 
 class Operation(Block):
-    """Each block has its own; the methods of Monitor make them."""
+    """An operation, with its block. The methods of Monitor make one for each block."""
 
     _telling: Teller
     _key: int
     _part: str
     _has_begun = False
-    _thread: Optional[int] = None  # of jepmon, once the block has begun
+    _thread: Optional[int] = None  # the thread of jepmon, once the block has begun
 
     def __init__(self, telling: Teller, name: str, key: int, part: str = "nil") -> None:
         self.__dict__.update(_telling=telling, _name=name, _key=key_of(key), _part=part)
@@ -144,7 +144,7 @@ class Operation(Block):
         return False
 
     def _said_outcome(self) -> str:
-        """That of a block without an exception."""
+        """Returns the outcome of a block without an exception."""
         found_empty = self._name == "dequeue" and self.value is None
         return self._said or ("fail" if found_empty else "ok")
 
@@ -157,7 +157,7 @@ class Operation(Block):
         self._complete(outcome, part)
 
     def _answer(self) -> str:
-        """The part of the :ok: an answer, or the part of the invocation."""
+        """Returns the operand of the :ok: an answer, or the operand of the invocation."""
         if self._name not in ANSWERED:
             return self._part
         if self.value is UNSET:

@@ -6,14 +6,14 @@ from typing import NamedTuple, Optional, Tuple, Type
 from .verdicts import Failed
 
 Exceptions = Tuple[Type[BaseException], ...]
-CUT = (ConnectionResetError, ConnectionAbortedError, BrokenPipeError)  # possibly while the client waited for the answer
+CUT = (ConnectionResetError, ConnectionAbortedError, BrokenPipeError)  # the connection may have been cut while the client waited for the answer
 
 
 class Endings(NamedTuple):
-    """Which exceptions end an operation and go no further."""
+    """The exceptions that end an operation and are not raised again."""
 
-    expected: Exceptions  # as an :info
-    failed: Exceptions  # as a :fail
+    expected: Exceptions  # these end it as an :info
+    failed: Exceptions  # these end it as a :fail
 
 
 def endings(expected: Exceptions, failed: Exceptions) -> Endings:
@@ -23,7 +23,8 @@ def endings(expected: Exceptions, failed: Exceptions) -> Endings:
             raise TypeError(f"{name} is a tuple of classes of exceptions, such as (TimeoutError,), not {classes!r}")
     both = [one.__name__ for one in failed if one in expected]
     if both:
-        raise ValueError(f"{both[0]} is in expected and in failed: perhaps the operation that it ends took place, or certainly not; name it in one of the two")
+        raise ValueError(f"{both[0]} is in expected and in failed: name it in `failed` if the operation certainly did not take place, "
+                         "otherwise in `expected`")
     return Endings(expected, failed)
 
 

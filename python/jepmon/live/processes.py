@@ -12,7 +12,7 @@ class Processes:
     def __init__(self, concurrency: int, homes: Optional[Dict[int, int]] = None) -> None:
         self.concurrency = concurrency
         self._free = set(range(concurrency))
-        self._homes = homes if homes is not None else {}  # a client has the thread of jepmon with its number, if it is free
+        self._homes = homes if homes is not None else {}  # a client prefers the thread of jepmon with its number
         self._current = list(range(concurrency))  # the process of each thread
 
     def settle(self, number: int) -> None:
@@ -20,7 +20,7 @@ class Processes:
         self._homes[threading.get_ident()] = number
 
     def take(self) -> int:
-        """A thread for an operation. The thread is not free until give_back."""
+        """Returns a thread for an operation. The thread is not free until give_back()."""
         if not self._free:
             raise ValueError(f"more than {self.concurrency} operations are open at once: raise concurrency, 64 at most, or take a "
                              "LongMonitor")
@@ -36,5 +36,5 @@ class Processes:
         self._free.add(thread)
 
     def go_on(self, thread: int) -> None:
-        """After an :info the process is gone, and its thread continues with the next process."""
+        """Ends the process of a thread after an :info. The thread continues with the next process."""
         self._current[thread] += self.concurrency

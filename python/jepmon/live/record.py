@@ -13,7 +13,7 @@ class Record:
 
     def __init__(self, log: Optional[TextIO], folder: Optional[RunFolder], begun: int) -> None:
         self.log, self.folder = log, folder
-        self._begun = begun  # by time.monotonic_ns
+        self._begun = begun  # the beginning, by time.monotonic_ns
 
     @property
     def name(self) -> str:
@@ -31,12 +31,12 @@ class Record:
             self.folder.append(timed(kept, now))
 
     def needs_script(self) -> None:
-        """Notes that a command follows, which `jepmon check` does not take."""
+        """Notes that a command follows. `jepmon check` refuses commands."""
         if self.folder is not None:
             self.folder.needs_script()
 
     def note(self, kind: str, text: str) -> None:
-        """A note of a fault, which is not sent."""
+        """Writes a note of a fault. Notes are not sent to the program."""
         line = note_line(kind, text, time.monotonic_ns() - self._begun)
         if self.log is not None:
             self.log.write(line + "\n")
@@ -45,5 +45,5 @@ class Record:
 
 
 def timed(line: str, now: int) -> str:
-    """An event has its time; a command has none."""
+    """Adds the time to the line of an event. A command gets no time."""
     return f"{line[:-1]}, :time {now}}}" if line.startswith("{") else line

@@ -3,12 +3,12 @@
     runs/20261127T193005.123/history.edn   what the clients did, an event a line, with :time; written as it happens
                              judge-again   a script with the command that judges it again
                              verdict.txt   the verdict
-                             counts.txt    how many operations ended how, which keys were dropped, what else ended the test
-                             names.txt     what the numbers of Monitor.number stand for, if there are any
+                             counts.txt    the number of operations by outcome, the dropped keys, and what ended the test
+                             names.txt     the meaning of the numbers of Monitor.number, if there are any
                              cause.txt     why it is illegal or unknown, in words
-                             page.html     and as a picture
+                             page.html     the same as a picture
                              run.html      rates, latencies and faults over time, and all keys (docs/guide/PAGE.md); made at the end
-    runs/latest                            a link to the newest
+    runs/latest                            a link to the newest folder
 
 `jepmon check` on the history, with these options, gives the verdict of the run. Notes of faults are in the history at their moments
 (history/fault_notes.py), and check skips them. If a key got another model or budget, the history has commands too. Then judge-again runs
@@ -29,10 +29,11 @@ from ..program import Options
 
 HISTORY, AGAIN, VERDICT, COUNTS, NAMES = "history.edn", "judge-again", "verdict.txt", "counts.txt", "names.txt"
 CAUSE, PAGE, LATEST = "cause.txt", "page.html", "latest"
-RUN_PAGE, RUN_FACTS = "run.html", "run.json"  # a test that knows more about a run, such as jepmon-test, has written the facts
-AFTER, LOST, CRASH = "after.txt", "lost.txt", "crash.txt"  # what jepmon-test has learned after a finding: of the bad key, of messages, of a crash
-CLIENTS_LOG = "clients.log"  # of client libraries, in a test by jepmon-test
-PART = "part-"  # how the folders of parts begin, in that of a run without an end
+RUN_PAGE, RUN_FACTS = "run.html", "run.json"  # a test that knows more about a run, such as jepmon-test, writes run.json
+# Texts of jepmon-test: about the bad key after a finding, about lost messages, about a crash.
+AFTER, LOST, CRASH = "after.txt", "lost.txt", "crash.txt"
+CLIENTS_LOG = "clients.log"  # the log of client libraries, in a test by jepmon-test
+PART = "part-"  # the beginning of the names of the folders of parts (segments) of a long test
 SCRIPT = """#!/bin/sh
 # Judges history.edn, beside this file, again by the proved program. The run began at {begun}, by {program!r}
 cd "$(dirname "$0")" || exit 3
@@ -43,17 +44,17 @@ exec "${{JEPMON:-jepmon}}" {again}
 
 
 class RunFolder:
-    """A folder that already exists and is empty. An OSError says that it can't be used. After that, lines that can't be written are lost.
-    Standard error then says so once, and the test continues without the folder."""
+    """A folder that already exists and is empty. The constructor raises an OSError if the folder can't be used. Later, if a line can't be
+    written, standard error says so once, and the test continues without the folder."""
 
     def __init__(self, path: pathlib.Path, begun: datetime.datetime, options: Options, program: str, is_part: bool = False) -> None:
         self.options, self.program, self.begun = options, program, begun
-        self.is_part = is_part  # a part of a run without an end, which has its own page
-        self.lost: Optional[str] = None  # what could not be written first, and why
-        self.is_script = False  # whether the history has lines that `jepmon check` does not take
-        self._size = 0  # of the history, in whole lines
-        self.name = str(path)  # as it is shown
-        self.path = path.absolute()  # the test may go to another folder
+        self.is_part = is_part  # whether this is a part of a long test; the page is then that of the whole test
+        self.lost: Optional[str] = None  # the first file that could not be written, and the reason
+        self.is_script = False  # whether the history has commands, which `jepmon check` refuses
+        self._size = 0  # the size of the history, in whole lines
+        self.name = str(path)  # the name in messages
+        self.path = path.absolute()  # absolute, since the test may change its working folder
         with contextlib.ExitStack() as on_fault:
             self._history = on_fault.enter_context(open(self.path / HISTORY, "xb", buffering=0))
             self._append(f"; the events of a live test, from {self.begun.isoformat()} on; :time is in nanoseconds from then")
@@ -63,7 +64,7 @@ class RunFolder:
     # --- The history ---
 
     def append(self, line: str) -> None:
-        """Writes a line of the history; it is whole in the file when this returns."""
+        """Writes a line of the history. The whole line is in the file when this returns."""
         if self._history.closed:
             return
         try:
@@ -80,17 +81,17 @@ class RunFolder:
         self._size += len(data)
 
     def _cut(self) -> None:
-        """Ends the history with a whole line, and writes nothing more, since a history with a gap would say something else."""
+        """Ends the history with a whole line, and writes nothing more: a history with a gap would have another meaning."""
         try:
             self._history.truncate(self._size)
         except OSError:
-            pass  # then the cut line stays, and the message that the history is lost comes all the same
+            pass  # the incomplete line stays; the message that the history is lost is printed in any case
         self._history.close()
 
     # --- The other files ---
 
     def needs_script(self) -> None:
-        """Says that the following lines in the history are not events."""
+        """Notes that the following lines in the history are commands."""
         if not self.is_script:
             self.is_script = True
             self.put(AGAIN, self._script(), executable=True)
@@ -151,7 +152,7 @@ def _made_folder(out: pathlib.Path, begun: datetime.datetime) -> pathlib.Path:
 
 
 def link_latest(path: pathlib.Path) -> None:
-    """Lets the link `latest` beside the folder name it."""
+    """Makes the link `latest`, beside the folder, name the folder."""
     path = path.absolute()
     made = path.parent / f".{LATEST}-{path.name}"
     made.symlink_to(path.name)

@@ -41,7 +41,7 @@ class Telling:
         self.unknown, self.endings, self.missing = unknown, endings, missing
         self.told = Told()
         self.dropped: Dict[int, Unknown] = {}  # keys over their budget, whose events are no longer sent, and their verdicts
-        self.length = 0  # events that were told
+        self.length = 0  # the number of recorded events
         self.failure: Optional[NotLegal] = None
         self.broken_off: Optional[Refused] = None  # set while the test waits for clients after one has raised an exception
         self.verdict: Optional[str] = None
@@ -49,9 +49,9 @@ class Telling:
         self._queue = LineQueue(self.lock)
         self._closing, self._is_closing = OwnedLock(), False
         self._processes = Processes(options.concurrency, homes)
-        self.names: Dict[int, object] = {}  # what numbers stand for
-        self._models: Dict[int, str] = {}  # of keys that have another one
-        self._budgets: Dict[int, int] = {}  # likewise
+        self.names: Dict[int, object] = {}  # the things of numbers
+        self._models: Dict[int, str] = {}  # the models of keys that have a model of their own
+        self._budgets: Dict[int, int] = {}  # the budgets of keys that have a budget of their own
         self._begun: Set[int] = set()
         self._by_ends = ByEnds(has_said)
         self._behind: Dict[int, int] = {}  # for each thread: by how much its process in the run's folder is behind, because of dropped keys
@@ -131,8 +131,8 @@ class Telling:
         return self._by_ends.kind(key, self._exchange.kind(self.model_of(key)))
 
     def _in_full(self, lines: List[Line], replies: List[str]) -> List[str]:
-        """The replies to lines that were sent together, after keys that exceed their budget by equal values are judged by their ends. If
-        the ends do not judge a key further, it stays as it is."""
+        """Returns the replies to lines that were sent together. Keys that are `unknown` because of equal values are judged by their ends
+        first. If a key is not judged further by its ends, it stays `unknown`."""
         while True:
             reply = next((reply for reply in replies if reply != "legal"), "legal")
             found = verdict_in(reply)
@@ -159,8 +159,8 @@ class Telling:
         return self.unknown == "drop" and (at_key, index) == (line.key, line.index)
 
     def _drop(self, unknown: Unknown, lines: List[Line]) -> List[Line]:
-        """Takes back the ok that met too many outcomes (the first of the lines) and the events behind it. Returns the lines to send
-        instead. So the key is legal up to this ok, with its operation open, and the verdict is again that of the other keys."""
+        """Rewinds the ok that met too many outcomes (the first of the lines) and the events behind it. Returns the lines to send instead.
+        So the key is legal up to this ok, with its operation open, and the verdict is again that of the other keys."""
         assert unknown.key is not None
         self.dropped[unknown.key] = unknown
         for line in [*lines, *self._queue.lines]:
@@ -180,10 +180,10 @@ class Telling:
         self.told.replace(line.key, line.index, line.text)
 
     def _kept(self, process: int) -> int:
-        """The process as the run's folder has it."""
+        """Returns the number that the process has in the run's folder."""
         return process - self._behind.get(process % self._processes.concurrency, 0)
 
-    # --- What is said of a key, and of faults ---
+    # --- Facts about keys, and notes of faults ---
 
     def set_model(self, key: int, model: str) -> None:
         with self.lock:
@@ -207,7 +207,7 @@ class Telling:
     # --- The exchange with the program: the caller has the lock ---
 
     def _test_running(self) -> None:
-        """Raises why no operation may begin, if so."""
+        """Raises the reason if no operation may begin."""
         self._test_not_ended()
         if self.broken_off is not None:
             raise copy.copy(self.broken_off)
@@ -265,7 +265,7 @@ class Telling:
         try:
             return self._exchange.replies([line.text for line in lines], timeout)
         except Refused as refused:
-            failure = copy.copy(refused)  # without the frames that it was raised in
+            failure = copy.copy(refused)  # a copy without the frames of the exception
             return []
         except BaseException:  # such as Ctrl-C: later replies can't be distinguished from those that may still come
             failure = Refused(BROKEN_OFF)
@@ -276,7 +276,7 @@ class Telling:
                 self._fail(failure)
 
     def _end(self, line: Line) -> None:
-        """A completion was judged: its thread is free again."""
+        """Notes that a completion was judged: its thread is free again."""
         end = line.end
         if end is None or line.key is None:
             return
@@ -290,7 +290,7 @@ class Telling:
         if end.counts:
             self.told.end(line.key, end.name, end.kind)
 
-    # --- What is not legal ---
+    # --- Replies that are not legal ---
 
     def _not_legal(self, lines: List[Line], replies: List[str]) -> List[Line]:
         """Treats a first reply that is not legal. If it is for a key that is dropped, returns the lines to send now. Otherwise the test
@@ -310,7 +310,7 @@ class Telling:
         unknown = Unknown(reply, key, index, events, self._hint_of_unknown(key), self._record.name)
         if self._is_dropped(key, index, line):
             return self._drop(unknown, lines)
-        self.failure = unknown  # so nothing is told any more
+        self.failure = unknown  # from now on nothing is recorded
         lines, replies = self._illegal_behind(lines, replies)
         if lines:
             return self._not_legal(lines, replies)

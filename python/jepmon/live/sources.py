@@ -15,10 +15,10 @@ class Sources:
     """Learns each recorded event, and describes the strange part of an illegal answer."""
 
     def __init__(self) -> None:
-        self.are_new = False  # whether the store cannot have held anything under these keys before
-        self._brought: Counter[Tuple[int, str]] = collections.Counter()  # how often, by what did not fail
-        self._failed: Dict[Tuple[int, str], str] = {}  # the last operation that failed, in words
-        self._began: Dict[int, int] = {}  # the index at which a process has invoked
+        self.are_new = False  # whether the keys are new to the store, so that it can't have held anything under them
+        self._brought: Counter[Tuple[int, str]] = collections.Counter()  # for each key and value: how many operations wrote it without failing
+        self._failed: Dict[Tuple[int, str], str] = {}  # for each key and value: the last failed operation that would have written it, in words
+        self._began: Dict[int, int] = {}  # the index at which each process has invoked its operation
 
     def tell(self, kind: str, process: int, name: str, key: int, part: str, index: int) -> None:
         began = self._began.pop(process, index)
@@ -32,12 +32,12 @@ class Sources:
             self._failed[brought] = f"{BROUGHT[name]} by process {process} in events {began}-{index}, recorded as a fail"
 
     def hint(self, line: str) -> str:
-        """The strange part of the answer in this line, if any."""
+        """Describes the strange part of the answer in this line, if there is one."""
         event = LINE.fullmatch(line)
         if event is None or event[1] != "ok" or event[3] not in ANSWERED:
             return ""
         name, key, values = event[3], int(event[4]), re.findall("-?[0-9]+", event[5])
-        if event[5].startswith("#"):  # only those of the members that no other operation brought in
+        if event[5].startswith("#"):  # only the members that no other operation brought in
             values = [value for value in values if self._brought[key, value] == 0]
         hints = (self._hint_of_value(name, key, value) for value in values)
         return "\n".join([hint for hint in hints if hint][:MOST_HINTS])

@@ -9,14 +9,14 @@ Value = Union[None, int, Iterable[int]]
 
 
 def key_of(key: Any) -> int:
-    """The key, if it is one."""
+    """Returns the key. Raises a ValueError if it is not a key."""
     if isinstance(key, bool) or not isinstance(key, int) or not KEYS.start <= key < KEYS.stop:
         raise ValueError(f"a key is an integer from 0 to {KEYS.stop - 1}, not {key!r}; Monitor.number gives one")
     return key
 
 
 def told(value: Any) -> Any:
-    """None stands for a missing key."""
+    """Returns the recorded value: ABSENT if the key is missing (None)."""
     return ABSENT if value is None else value
 
 
@@ -24,10 +24,10 @@ class Missing(NamedTuple):
     """The value of a register before its first operation, and the answer that, in addition to None, means a missing key."""
 
     initial: int = ABSENT
-    answers: Tuple[Any, ...] = ()  # none or one, which may be of any type
+    answers: Tuple[Any, ...] = ()  # empty, or one answer of any type
 
     def seen(self, value: Any) -> Any:
-        """The answer, or None if it means a missing key. False and 0 are two answers, and so are 1 and 1.0."""
+        """Returns the answer, or None if it means a missing key. False and 0 are different answers; 1 and 1.0 are different too."""
         return None if any(type(value) is type(answer) and value == answer for answer in self.answers) else value
 
 
@@ -46,11 +46,11 @@ def members(value: Any) -> str:
 
 
 def readable(line: str) -> str:
-    """A line of a history, for people."""
+    """Returns a line of a history in a form for people."""
     return line.replace(str(ABSENT), "ABSENT")
 
 
-NONE: Any = object()  # no answer but None means a missing key
+NONE: Any = object()  # only the answer None means a missing key
 
 
 def missing(initial: Any, absent: Any) -> Missing:

@@ -36,7 +36,7 @@ class JepmonError(Exception):
         return "\n".join((named, *others, *self.events) + ((self.hint,) if self.hint else ()))
 
 
-NotLegal = JepmonError  # its former name
+NotLegal = JepmonError  # the former name of JepmonError
 
 
 class Illegal(JepmonError, AssertionError):
@@ -47,7 +47,7 @@ class Illegal(JepmonError, AssertionError):
 
 
 class Unknown(JepmonError):
-    """A key has had too many operations open or timed out at once: jepmon does not judge it from here on."""
+    """A key has had too many operations open or timed out at once. jepmon does not judge the key from this event on."""
 
     __module__ = "jepmon"
     status = 2

@@ -1,13 +1,13 @@
 """The folder of a run of a test without an end: a folder for each part, and files about all parts.
 
-    runs/20261127T193005.123/part-0001/   as the folder of a run of Monitor: its history, judge-again, the verdict, its objects' names
+    runs/20261127T193005.123/part-0001/   like the folder of a run of Monitor: its history, judge-again, the verdict, its objects' names
                              part-0002/   (names.txt), and the cause and the page if it is illegal or unknown
                              parts.txt    a line for each part that is closed
                              judge-again  a script that judges each part again, and joins the verdicts
-                             verdict.txt  the verdict of all, and what was not judged
-                             counts.txt   how many operations ended how
+                             verdict.txt  the verdict on all parts, and the operations that were not judged
+                             counts.txt   the number of operations by outcome
                              run.html     rates, latencies and faults over time, and all keys
-    runs/latest                           a link to the newest
+    runs/latest                           a link to the newest folder
 """
 from __future__ import annotations
 
@@ -65,15 +65,15 @@ exit "$status"
 
 
 class LongFolder:
-    """The folder is made with the first part. An OSError says that it can't be made. Later, lines that can't be written are lost. Standard
-    error then says so once, and the test continues without the folder."""
+    """The folder is made with the first part. It raises an OSError if it can't be made. Later, if a file can't be written, standard error
+    says so once, and the test continues without the folder."""
 
     def __init__(self, out: Union[str, "os.PathLike[str]"], begun: datetime.datetime, keep: Optional[int], page: bool = True) -> None:
         self.path: Optional[pathlib.Path] = None
-        self.lost: Optional[str] = None  # what could not be written first, and why
+        self.lost: Optional[str] = None  # the first file that could not be written, and the reason
         self._out, self._begun, self._keep, self._page = out, begun, keep, page
-        self._shown = pathlib.Path()  # as it is shown
-        self._open: List[RunFolder] = []  # of parts
+        self._shown = pathlib.Path()  # the path in messages
+        self._open: List[RunFolder] = []  # the folders of parts that are not closed
         self._legal: Deque[pathlib.Path] = collections.deque()  # parts that are kept so far
 
     def part(self, name: str, options: Options, program: str) -> Optional[RunFolder]:
@@ -95,7 +95,7 @@ class LongFolder:
             return None
 
     def _here(self, name: str) -> pathlib.Path:
-        """The shown path, if it is still right: the test may have changed its working folder."""
+        """Returns the path for messages. It is absolute if the test has changed its working folder."""
         assert self.path is not None
         return self._shown / name if self._shown.absolute() == self.path else self.path / name
 
@@ -135,7 +135,7 @@ class LongFolder:
         self._put(VERDICT, verdict + "\n")
 
     def conclude(self, verdict: str, tally: Tally, ended_by: Optional[BaseException]) -> None:
-        """Leaves what has come of all."""
+        """Writes the results of all parts."""
         lines = [f"events: {tally.events} in {tally.parts} parts, on {tally.objects} objects", *count_lines(tally.counts)]
         lines += verdict.split("\n")[1:] + [f"dropped: {said}" for said in tally.first_dropped]
         if ended_by is not None and not isinstance(ended_by, NotLegal):

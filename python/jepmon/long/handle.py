@@ -20,7 +20,7 @@ class Handle(Operations):
         self.model = model
         self._parts, self._changes = parts, changes
         self._current: List[LongObject] = []
-        self._replaced: List[LongObject] = []  # that are read once more
+        self._replaced: List[LongObject] = []  # replaced objects that are still read
 
     def _operation(self, name: str, part: str = "nil") -> LongOperation:
         from .operation import LongOperation
@@ -28,7 +28,7 @@ class Handle(Operations):
         return LongOperation(self._parts, self, name, part)
 
     def release(self) -> LongOperation:
-        """Which of its locks would be given back?"""
+        """Refuses the release: a handle does not know which of its locks is meant."""
         raise ValueError("a lock is released with the object of its acquire: op.object.release(), where op was the acquire")
 
     @property

@@ -5,19 +5,19 @@ from typing import NamedTuple, Optional
 
 from ..history import kinds
 
-MOST_EVENTS = kinds.EVENTS // 4 * 3  # so that a quarter more remains for later reads, and for operations that are open then
+MOST_EVENTS = kinds.EVENTS // 4 * 3  # the remaining quarter is for later reads, and for operations that are open when the objects are replaced
 
 
 class Limits(NamedTuple):
     """The limits of one part of a test, which is one program."""
 
-    events: int  # after so many its objects are replaced
+    events: int  # after this many events the objects of the part are replaced
     keys: int
-    threads: int  # operations that are open at once
+    threads: int  # the greatest number of operations that are open at once
 
     @property
     def last_events(self) -> int:
-        """After this number of events no operation begins on a replaced object."""
+        """Returns the number of events after which no operation begins on a replaced object."""
         return self.events + self.events // 4
 
     @property

@@ -105,7 +105,7 @@ class LongMonitor(LiveTest):
             raise ValueError(f"a model is one of {', '.join(MODELS)}, not {model!r}")
         return Handle(self._parts, model, changes_of(changes))
 
-    # --- What has come of it ---
+    # --- Results ---
 
     @property
     def folder(self) -> Optional[pathlib.Path]:
@@ -140,7 +140,7 @@ class LongMonitor(LiveTest):
 
     @property
     def set_aside(self) -> int:
-        """The number of objects over their budget, which were judged up to there."""
+        """The number of objects over their budget. Each was judged up to the event that exceeded the budget."""
         with self._parts.lock:
             return self._parts.tally.dropped + sum(len(part.dropped) for part in self._parts.untallied)
 
@@ -161,8 +161,8 @@ class LongMonitor(LiveTest):
     # --- The end ---
 
     def close(self) -> str:
-        """Ends the programs. Gives the final verdict: `legal` if every operation was judged and legal; else the first reply that was not
-        legal, with its segment. The counts of operations and objects that were not judged follow, each on a line."""
+        """Ends the programs. Gives the final verdict: `legal` if every operation was judged and legal; otherwise the first reply that was
+        not legal, with its segment. The counts of operations and objects that were not judged follow, each on a line."""
         return self._close(None)
 
     def __enter__(self) -> LongMonitor:

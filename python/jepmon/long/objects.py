@@ -12,8 +12,8 @@ if TYPE_CHECKING:
     from .part import Part
     from .parts import Parts
 
-ANSWERS = 8  # so often an object that was replaced is read once more
-EMPTY = 2  # so often a queue that was replaced is found empty
+ANSWERS = 8  # a replaced object is read until it has answered this many reads
+EMPTY = 2  # a replaced queue is used until it was found empty this many times
 CHANGES = ("write", "cas", "add", "enqueue", "acquire")
 
 
@@ -36,7 +36,7 @@ class Operations:
         return self._operation("write", self._part(value))
 
     def cas(self, old: Optional[int], new: Optional[int]) -> LongOperation:
-        """Sets it to new if it is old. If the store says that it was not: op.fail()."""
+        """Sets the object to `new` if its value is `old`. Call op.fail() if the store says that the value was another one."""
         return self._operation("cas", f"[{self._part(old)} {self._part(new)}]")
 
     def add(self, value: int) -> LongOperation:
@@ -50,7 +50,7 @@ class Operations:
         return self._operation("dequeue")
 
     def acquire(self) -> LongOperation:
-        """Takes a lock. If somebody else holds it: op.fail(). Release it by op.object.release()."""
+        """Acquires a lock. Call op.fail() if somebody else holds it. Release the lock by op.object.release()."""
         return self._operation("acquire")
 
 
@@ -61,14 +61,14 @@ class LongObject(Operations):
     def __init__(self, parts: Parts, part: Part, key: int, name: str, model: str, changes: Optional[int]) -> None:
         self.part, self.key, self.name, self.model = part, key, name, model
         self.open = 0  # operations
-        self.timeouts = 0  # operations that may yet take place
+        self.timeouts = 0  # timed-out operations that may still take place
         self._parts, self._room_of_kind, self._most_changes = parts, room_of(part.kind(model)), changes
-        self._answers = 0  # since it was replaced
+        self._answers = 0  # the answered reads since it was replaced
         self._changes = 0
-        self._held = 0  # how often a lock was taken, and not given back yet
+        self._held = 0  # the number of acquires whose release has not come yet
 
     def release(self) -> LongOperation:
-        """Gives back a lock that was taken of this object."""
+        """Releases a lock that was acquired on this object."""
         return self._operation("release")
 
     def _operation(self, name: str, part: str = "nil") -> LongOperation:
@@ -83,25 +83,25 @@ class LongObject(Operations):
 
     @property
     def is_over(self) -> bool:
-        """Whether it is judged no more."""
+        """Whether the object is no longer judged."""
         return self.part.is_shut or self.key in self.part.dropped
 
     @property
     def is_replaced(self) -> bool:
-        """Whether it is written to no more."""
+        """Whether changes no longer use the object."""
         has_enough = self._most_changes is not None and self._changes >= self._most_changes
         return has_enough or self.part.is_retired or self._room.is_left(self.timeouts) or self.is_over
 
     @property
     def is_read_enough(self) -> bool:
-        """Whether it was read often enough since it was replaced. A lock has nothing to read, and its release has to be judged."""
+        """Whether the object was read often enough since it was replaced. A lock has nothing to read, but its release has to be judged."""
         if self.model == "mutex":
             return self._held <= 0
         return self._answers >= (EMPTY if self.model in QUEUES else ANSWERS)
 
     @property
     def is_undrained(self) -> bool:
-        """Whether it is a queue that may hold something yet."""
+        """Whether it is a queue that may still hold messages."""
         return self.model in QUEUES and not self.is_read_enough and self.key not in self.part.dropped
 
     @property
@@ -110,7 +110,7 @@ class LongObject(Operations):
 
     @property
     def has_room(self) -> bool:
-        """For an operation of a handle."""
+        """Returns whether the object has room for one more operation of a handle."""
         return self.part.has_room and self._room.holds(self.open, self.timeouts)
 
     def ended(self, name: str, outcome: Optional[str], is_answered: bool) -> None:
@@ -119,5 +119,5 @@ class LongObject(Operations):
         self._held += ((name, outcome) == ("acquire", "ok")) - (name == "release" and outcome != "fail")
         if outcome == "info" and name != "read":
             self.timeouts += 1
-        if is_answered and (name, outcome) in (("read", "ok"), ("dequeue", "fail")) and self.is_replaced:  # a queue is read to its end
+        if is_answered and (name, outcome) in (("read", "ok"), ("dequeue", "fail")) and self.is_replaced:  # a queue is read until it is empty
             self._answers += 1

@@ -15,8 +15,8 @@ if TYPE_CHECKING:
 
 
 class LongOperation(Block):
-    """An Operation on an object that is chosen when its block begins. It ends on the same object, even if another object has replaced that
-    one."""
+    """An Operation on an object that is chosen when its block begins. It ends on the same object, even if another object has replaced this
+    object."""
 
     _parts: Parts
     _chooser: Union[Handle, LongObject]
@@ -31,7 +31,7 @@ class LongOperation(Block):
     def object(self) -> LongObject:
         """The object of the operation, once the block has begun."""
         if self._object is None:
-            raise ValueError("an operation has its object in its block alone")
+            raise ValueError("an operation has an object only in its block")
         return self._object
 
     @property
@@ -74,7 +74,7 @@ class LongOperation(Block):
 
     def _end(self, is_answered: bool) -> None:
         inner = self._inner
-        self.__dict__.update(_inner=None)  # so that a client that keeps an operation does not keep its program's events
+        self.__dict__.update(_inner=None)  # a client that keeps the operation then does not keep the events of its program
         if inner is not None and not isinstance(inner._telling, Nobody):
             self._parts.end(self.object, self._name, self.outcome, self.recorded, is_answered)
 

@@ -33,12 +33,12 @@ class Part:
             raise
         record = Record(None, self.folder, settings.clock)
         self.telling: Optional[Telling] = Telling(exchange, record, options, "drop", settings.endings, settings.homes,
-                                                     settings.missing, settings.has_said)  # until it is closed
+                                                     settings.missing, settings.has_said)  # it is None once the part is closed
         self.telling.told.sources.are_new = True
         self.objects: List[LongObject] = []
-        self.makers: List[Handle] = []  # of each object
+        self.makers: List[Handle] = []  # the handle of each object
         self.open = 0  # operations
-        self.waiting = 0  # objects that are not replaced, or not read enough since
+        self.waiting = 0  # objects that are not replaced yet, or were not read often enough since
         self.is_retired = False
         self.is_shut = False
 
@@ -58,17 +58,17 @@ class Part:
     def failure(self) -> Optional[NotLegal]:
         if self.telling is None or self.telling.failure is None:
             return None
-        with self.telling.lock:  # then it is whole, with what may have been meant
+        with self.telling.lock:  # with the lock, the failure is complete: it has the hint too
             return self.telling.failure
 
     @property
     def has_room(self) -> bool:
-        """For an operation of a handle."""
+        """Returns whether the part has room for one more operation of a handle."""
         return self.open < self.limits.share
 
     @property
     def is_full(self) -> bool:
-        """Whether its objects are to be replaced."""
+        """Whether the objects of the part have to be replaced."""
         return self.length >= self.limits.events or len(self.objects) >= self.limits.keys
 
     @property
@@ -87,7 +87,7 @@ class Part:
         return self.telling.equal_values if self.telling is not None else frozenset()
 
     def counts(self) -> Dict[str, Counter[str]]:
-        """How its operations ended, by name."""
+        """The number of its operations by name and outcome."""
         if self.telling is None:
             return {}
         with self.telling.lock:
@@ -98,7 +98,7 @@ class Part:
         if one.model != self.model:
             self.telling.set_model(one.key, one.model)
         with self.telling.lock:
-            self.telling.names[one.key] = one.name  # for the part's folder
+            self.telling.names[one.key] = one.name  # the name of the object, for the part's folder
         self.objects.append(one)
         self.makers.append(maker)
         self.waiting += 1

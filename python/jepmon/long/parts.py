@@ -36,14 +36,14 @@ class Parts:
         self.is_closed = False
         self._settings, self._limits, self._folder, self._forget = settings, limits, folder, forget
         self._freed = threading.Condition(self.lock)  # type: ignore[arg-type]
-        self.begun = 0  # parts
-        self._made = 0  # objects
-        self._faults: List[str] = []  # that hold
+        self.begun = 0  # the number of parts
+        self._made = 0  # the number of objects
+        self._faults: List[str] = []  # the faults that last
         self._current: List[Part] = []
         self._retired: List[Part] = []
-        self._shut: List[Part] = []  # in which something is open still
+        self._shut: List[Part] = []  # parts in which operations are still open
         self._closing: List[Part] = []
-        self._part()  # an option that is refused is said at once
+        self._part()  # so a wrong option is reported at once
 
     @property
     def endings(self) -> Endings:
@@ -60,7 +60,7 @@ class Parts:
     # --- Operations ---
 
     def begin(self, chooser: Union[Handle, LongObject], name: str) -> Tuple[LongObject, Optional[Telling]]:
-        """The object on which an operation begins, and the receiver of its events. Nobody receives them if the part is shut."""
+        """Returns the object on which an operation begins, and the receiver of its events. The receiver is None if the part is shut."""
         with self.lock:
             self._test_running()
             one = chooser.choose(name)
@@ -101,7 +101,7 @@ class Parts:
             self._test_running()
 
     def _test_running(self) -> None:
-        """Raises why no operation may begin, if so."""
+        """Raises the reason if no operation may begin."""
         if self.is_closed:
             raise ValueError("the monitor is closed")
         if self.failure is not None:
@@ -171,7 +171,7 @@ class Parts:
         return [*self._closing, *self.running]
 
     def _part(self) -> Part:
-        """A new one."""
+        """Makes a new part."""
         number = self.begun + 1
         try:
             part = Part(number, self._settings, self._limits, self._folder)
@@ -207,7 +207,7 @@ class Parts:
     def _close(self, parts: List[Part], ended_by: Optional[BaseException]) -> None:
         """Ends the programs of these parts. The caller has no lock, since this takes as long as jepmon needs for its last replies."""
         over: List[str] = []
-        with contextlib.ExitStack() as closing:  # each of them, also if Ctrl-C comes meanwhile
+        with contextlib.ExitStack() as closing:  # closes each of them, also if Ctrl-C comes meanwhile
             for part in reversed(parts):
                 closing.callback(lambda part=part: over.extend(self._close_one(part, ended_by)))
         if self._forget is not None:
@@ -215,7 +215,7 @@ class Parts:
                 self._forget(name)
 
     def _close_one(self, part: Part, ended_by: Optional[BaseException]) -> List[str]:
-        """Gives the names of its objects, once you need not look at them any more."""
+        """Closes one part. Returns the names of its objects, once they are no longer needed."""
         telling, names = part.telling, [one.name for one in part.objects]
         assert telling is not None
         try:

@@ -18,9 +18,9 @@ class Settings(NamedTuple):
     timeout: float
     endings: Endings
     begun: datetime.datetime
-    clock: int  # by time.monotonic_ns, at which the run began
-    names: str  # what the names of objects begin with
-    homes: Dict[int, int]  # the number of the client of each thread of Python
+    clock: int  # the beginning of the run, by time.monotonic_ns
+    names: str  # the beginning of the names of objects
+    homes: Dict[int, int]  # the client's number for each thread of Python
     missing: Missing
-    has_said: Set[str]  # what was reported once
+    has_said: Set[str]  # the notes that were already printed
     by_ends: bool = False

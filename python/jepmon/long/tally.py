@@ -1,4 +1,4 @@
-"""The results of the closed parts of a test. They need no more room after a day than after a minute."""
+"""The results of the closed parts of a test. They need the same memory after a day as after a minute."""
 from __future__ import annotations
 
 import collections
@@ -12,21 +12,21 @@ FEW = 10  # objects that are named
 
 
 class Tally:
-    """The caller has the lock of the test."""
+    """The sums over all closed parts. The caller has the lock of the test."""
 
     def __init__(self) -> None:
         self.parts = 0
         self.events = 0
         self.objects = 0
-        self.counts: Dict[str, Counter[str]] = {}  # of outcomes, by operation
-        self.unjudged = 0  # operations that were not told
-        self.undrained = 0  # queues that were judged no more before they were found empty
-        self.also_illegal: Dict[str, str] = {}  # other parts that were found illegal before all had ended
-        self.dropped = 0  # objects that were over their budget
-        self.first_dropped: List[str] = []  # their names, and where
+        self.counts: Dict[str, Counter[str]] = {}  # the number of operations by name and outcome
+        self.unjudged = 0  # the number of operations that were not recorded
+        self.undrained = 0  # the number of queues whose judging ended before they were found empty
+        self.also_illegal: Dict[str, str] = {}  # other parts that were found illegal before all parts had ended
+        self.dropped = 0  # the number of objects over their budget
+        self.first_dropped: List[str] = []  # the first of these objects, with their parts
 
     def add(self, part: Part, telling: Telling) -> None:
-        """A part was closed."""
+        """Adds a part that was closed."""
         self.parts += 1
         self.events += telling.length
         self.objects += len(part.objects)

@@ -12,10 +12,10 @@ from .labels import MARKS, Labels, cut
 from .view import letters
 
 WIDTH = 100
-LINES = 20  # at most, with the line of indices and the one of the fatal event
+LINES = 20  # the greatest number of lines, with the line of indices and the line of the fatal event
 EVENTS = 60
 LABEL = 28
-FRAME = 5  # what a bar has around its label
+FRAME = 5  # the characters of a bar around its label
 TAIL = 4  # how far a bar continues behind the last event, if its operation is open
 PLAIN = str.maketrans({"\u251c": "|", "\u2524": "|", "\u2500": "-", "\u254c": ".", "\u2550": "=", "\u255e": "|", "\u2561": "|",
                        "\u2192": ">", "\u2717": "x", "\u2026": "~", "\u25b2": "^"})
@@ -47,7 +47,7 @@ def bars(given: PageInput, width: int = WIDTH, lines: int = LINES, plain: bool =
 
 
 def fitting(given: PageInput, fatal: Optional[int], labels: Labels, width: int) -> Optional[Drawn]:
-    """The events that have room in the width: as many as may be."""
+    """Returns as many events as have room in the width."""
     smallest = smallest_of(given)
     if smallest:
         whole = drawn_of(operations(smallest, given.concurrency), smallest, labels)
@@ -66,8 +66,7 @@ def fitting(given: PageInput, fatal: Optional[int], labels: Labels, width: int) 
 
 
 def tells(operation: Operation, fatal: Optional[int]) -> bool:
-    """Whether the operation says anything about the object's states. A failed operation does not, and neither does a read that timed
-    out."""
+    """Returns whether the operation says anything about the object's states. A failed operation and a timed-out read do not."""
     ended = operation.completion
     if ended is None or ended.index == fatal:
         return True
@@ -106,7 +105,7 @@ def rows(drawn: Drawn, labels: Labels, fatal: Optional[int], lines: int, word: s
     scale.write(0, "event")
     for event, column in zip(drawn.events, drawn.columns):
         scale.write(drawn.names + column, str(event.index))
-    every: List[Tuple[bool, int, str]] = []  # of each row: whether the fatal bar is in it, the place of its last event, its text
+    every: List[Tuple[bool, int, str]] = []  # for each row: whether it has the fatal bar, the place of its last event, its text
     for lane in drawn.lanes:
         for row in range(lane.rows):
             line = Line(room)

@@ -8,14 +8,14 @@ from .data import Page
 from .given import PageInput, Walked
 from .labels import printable
 
-PROVED = ("The verdict is jepmon's, and proved, and so is what is said to have been asked of jepmon. The other sentences, the "
+PROVED = ("The verdict is jepmon's, and is proved. So are the answers in sentences that begin with \"jepmon says\". The other sentences, the "
           "possible outcomes and the orders are not proved.")
 SIGNS = {"legal": "\u2713", "illegal": "\u2717", "unknown": "?"}
 ENDED = {"dead": "illegal at event {}", "over": "unknown at event {}", "alive": "legal"}
 
 
 def fatal_of(verdict: str) -> Optional[int]:
-    """The index that a verdict names: of an `illegal` or an `unknown`."""
+    """Returns the index that an `illegal` or an `unknown` names."""
     words = verdict.split()
     named = len(words) == 5 and words[0] in ("illegal", "unknown") and words[4].isdigit()
     return int(words[4]) if named else None
@@ -31,7 +31,7 @@ def counted(value: int, of: str) -> str:
 
 
 def agreement(given: PageInput) -> Tuple[bool, str]:
-    """Whether the walk's results may be shown. If not, the reason, if there was a walk."""
+    """Returns whether the walk's results may be shown, and the reason if they may not be and there was a walk."""
     walked = given.walked
     if walked is None:
         return False, ""
@@ -79,7 +79,7 @@ def facts(page: Page) -> List[Tuple[str, str]]:
 
 
 def left_out(page: Page) -> str:
-    """Which events are not shown."""
+    """Says which events are not shown."""
     choice = page.choice
     if not choice.before and not choice.after:
         return ""

@@ -7,7 +7,7 @@ from ..history import Event, Operation, operations
 from .layout import stays
 
 MOST = 10_000  # events on a page
-AFTER = 500  # of them behind the fatal one, if not all fit
+AFTER = 500  # events after the fatal one, if not all events fit
 
 
 class Choice(NamedTuple):
@@ -19,7 +19,7 @@ class Choice(NamedTuple):
     away: List[Operation]
     before: int
     after: int
-    every: int  # how many operations there are
+    every: int  # the number of all operations
 
 
 def choose(events: Sequence[Event], concurrency: int, fatal: Optional[int], part: AbstractSet[int] = frozenset(),

@@ -1,5 +1,5 @@
 """The data that the script of a page draws: one JSON value, as short as may be. Operations, events and columns are named by their numbers
-in it; script.js says what stands where."""
+in it; script.js has the layout of the value."""
 from __future__ import annotations
 
 import json
@@ -13,12 +13,12 @@ from .given import PageInput, Walked
 from .labels import Labels, cut, printable
 from .view import View, view
 
-LABEL = 60  # characters of a label; what is longer stands in the details
+LABEL = 60  # characters of a label; the details have the whole text
 HELD = 240
-TEXT = 4000  # characters of an event's text in the details; fewer where all of them would have more than
-TEXTS = 2_000_000
-LEAST_TEXT = 300
-STEPS = 40_000  # of the orders of all ends together
+TEXT = 4000  # characters of an event's text in the details, at most
+TEXTS = 2_000_000  # characters of all these texts together; if they would have more, each text gets fewer
+LEAST_TEXT = 300  # characters that each text may have in any case
+STEPS = 40_000  # the most steps of the orders of all ends together
 OUTCOMES = ("ok", "fail", "info", "open")
 READ, CHANGE = 0, 1  # kinds of operations
 CHANGES = OPERATIONS - {"read"}
@@ -127,7 +127,7 @@ def operation_row(operation: Operation, numbers: Mapping[int, int], labels: Labe
 
 
 def other_labels(page: Page, operations: Sequence[Operation], of_invocation: Mapping[int, int]) -> List[List[Any]]:
-    """The operations of the part that have another label there: reads of a set, without what was taken out."""
+    """Returns the operations of the part that have another label in the part: reads of a set, without the removed members."""
     found: List[List[Any]] = []
     for each in page.part:
         number = of_invocation[each.invocation.index]

@@ -24,7 +24,7 @@ from .others import others_table
 HERE = pathlib.Path(__file__).resolve().parent
 STYLES = ("palette.css", "style.css")
 SCRIPTS = ("model.js", "draw.js", "order.js", "use.js")
-PART_WORK = 200_000  # outcomes that a walk through the smallest illegal part tries at most
+PART_WORK = 200_000  # a walk through the smallest illegal part tries at most this many outcomes
 EVENT = re.compile(r"(\(?)\b(events? ([0-9]{1,7})\b(?: to [0-9]{1,7}\b)?)([),.:;]*)")
 LEGEND = {"ok": "", "fail": "failed: did not take place", "info": "timed out: may take place later", "open": "open at the end"}
 
@@ -91,13 +91,14 @@ def linked(text: str, page: Page) -> str:
         if int(index) not in shown:
             return found.group()
         there = f'<button type="button" class="seek" data-event="{int(index)}">{words}</button>'
-        return f'<span class="whole">{before}{there}{behind}</span>' if before or behind else there  # a line ends at neither
+        # The span keeps signs before and behind the button on the same line.
+        return f'<span class="whole">{before}{there}{behind}</span>' if before or behind else there
 
     return EVENT.sub(button, html.escape(printable(text)))
 
 
 def switch(page: Page) -> str:
-    """The switch to the smallest illegal part, if there is one that is smaller."""
+    """Returns the switch to the smallest illegal part, if this part is smaller than the whole."""
     every = page.choice.every
     if not 0 < len(page.part) < every:
         return ""
@@ -126,7 +127,7 @@ def legend(page: Page) -> str:
 
 
 def as_text(page: Page) -> str:
-    """The page in short, for a report in text."""
+    """Returns the short form of the page, for a report in text."""
     given = page.given
     lines = [given.verdict, headline(page), *given.sentences, "", *bars(given).split("\n"), "", given.again]
     return "\n".join(map(printable, lines)).rstrip()

@@ -13,7 +13,7 @@ from .given import End, Walked
 from .labels import cut, printable
 
 HOLDS = {"mutex": "the lock is", "fifo-queue": "holds, front first"}
-OPERATIONS = 24  # columns at most
+OPERATIONS = 24  # the greatest number of columns
 WIDE = 80  # characters in a cell
 
 

@@ -9,7 +9,7 @@ from ..history import Event
 from .given import AnyFault, Fault
 from .labels import printable
 
-ROWS = 8  # of texts above the bars
+ROWS = 8  # the rows of texts above the bars
 NO_ROW = -1
 
 
@@ -29,7 +29,7 @@ def spans(faults: Sequence[AnyFault], events: Sequence[Event]) -> List[Tuple[str
     fault: a nemesis may begin a fault that is already active, and end only one."""
     indices = [event.index for event in events]
     times = [event.fields["time"] for event in events if isinstance(event.fields.get("time"), int)]
-    times = list(itertools.accumulate(times, max))  # clocks may be set back
+    times = list(itertools.accumulate(times, max))  # times never go back here, although clocks may be set back
     found: List[Tuple[str, int, int]] = []
     for fault in sorted(faults, key=lambda each: each.begin):
         of_events = times if isinstance(fault, Fault) and fault.by == "time" else indices
@@ -46,7 +46,7 @@ def spans(faults: Sequence[AnyFault], events: Sequence[Event]) -> List[Tuple[str
 def joined(found: Sequence[Tuple[str, int, int]]) -> List[Tuple[str, int, int]]:
     """The spans, ordered by their beginnings. Overlapping spans with the same text become one. Moments stay as they are."""
     made: List[Tuple[str, int, int]] = []
-    last: Dict[str, int] = {}  # the place in what was made, by text
+    last: Dict[str, int] = {}  # for each text: the place of its last span in `made`
     for text, begin, end in found:
         place = last.get(text)
         if place is not None and begin < made[place][2] and begin < end:
@@ -60,7 +60,7 @@ def joined(found: Sequence[Tuple[str, int, int]]) -> List[Tuple[str, int, int]]:
 def rows(bands: Sequence[Tuple[str, int, int]], room: Callable[[str], int]) -> List[Band]:
     """The bands, each with a row, so that no text overlaps another text in its row. A text takes this much room from the beginning of its
     band. If all ROWS are taken, a band has no row (NO_ROW), and is a shade without a text."""
-    taken: List[int] = []  # of each row: up to where it is taken
+    taken: List[int] = []  # for each row: the place up to which it is taken
     found: List[Band] = []
     for text, begin, end in bands:
         free = next((row for row, until in enumerate(taken) if until <= begin), len(taken))

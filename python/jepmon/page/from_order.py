@@ -25,7 +25,7 @@ def ordered(events: Sequence[Event], model: str, concurrency: int, order: Sequen
         is_open = completion is None or completion.kind == "info"
         answer = completion.value if completion is not None and not is_open and asked.name in ANSWERED else None
         found = replayed.take(asked.name, asked.value, None if answer is None else (answer,))
-        assert found is not None  # since it is an order
+        assert found is not None  # the order is valid
         if is_open:
             taken[index] = words_of(asked.name, found[0], labels)
     end = End(state_words(model, replayed.state(), labels), taken, list(order))

@@ -9,10 +9,10 @@ from ..objects import configurations as walk
 from .given import End, Walked
 from .labels import Labels
 
-ENDS = 48  # on a page
-STATES = 8  # of what may be held at an event
+ENDS = 48  # ends on a page
+STATES = 8  # the shown values that the object could hold at an event
 MEMBERS = 12  # of a queue
-WORK = walk.WORK  # outcomes to try once more, for what was held
+WORK = walk.WORK  # outcomes that a second walk may try, for the values that the object could hold
 
 
 def walked(given: walk.Walk, names: Mapping[int, str]) -> Walked:
@@ -21,7 +21,7 @@ def walked(given: walk.Walk, names: Mapping[int, str]) -> Walked:
     at = given.steps[-1].event.index if given.steps else None
     try:
         found = given.ends() if given.status == "dead" else []
-    except walk.GaveUp:  # they are more than those at an ok, which the budget bounds
+    except walk.GaveUp:  # there may be more ends here than at an ok, where the budget bounds them
         return Walked("gave-up", at)
     growth = [(step.event.index, step.ends) for step in given.steps if step.ends is not None]
     ended = {"gave up": "gave-up"}.get(given.status, given.status)

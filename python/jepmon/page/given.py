@@ -38,10 +38,10 @@ class Walked(NamedTuple):
 
     ended: str
     at: Optional[int]
-    growth: Sequence[Tuple[int, int]] = ()  # for each ok: its index, and how many ends there were just before it
-    held: Sequence[Tuple[int, str]] = ()  # for each ok: its index, and what the object could hold just before it, in words
-    ends: Sequence[End] = ()  # just before the event at which it ended
-    fatal_count: int = 0  # how many ends there were then; `ends` may be some of them
+    growth: Sequence[Tuple[int, int]] = ()  # for each ok: its index, and the number of ends just before it
+    held: Sequence[Tuple[int, str]] = ()  # for each ok: its index, and the values that the object could hold just before it, in words
+    ends: Sequence[End] = ()  # the ends just before the event at which the walk ended
+    fatal_count: int = 0  # the number of these ends; `ends` may have only some of them
     is_order: bool = False  # whether the only end comes from an order that was found afterwards, and not from a walk
 
 
@@ -64,7 +64,7 @@ class PageInput(NamedTuple):
 
     verdict: str
     key: int
-    events: Sequence[Event]  # the key's own, in their order
+    events: Sequence[Event]  # the key's own events, in their order
     model: str = "register"
     concurrency: int = 2
     budget: int = BUDGET

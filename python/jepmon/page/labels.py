@@ -9,7 +9,7 @@ from ..history.kinds import ABSENT, ANSWERED
 
 ARROW = "\u2192"
 CUT = "\u2026"
-# How an operation ended, in words, and the mark that its bar has beside its colour.
+# The outcome of an operation in words, and the mark that its bar has in addition to its colour.
 OUTCOMES = {
     "ok": "it took place",
     "fail": "it failed: it did not take place",
@@ -17,7 +17,7 @@ OUTCOMES = {
     "open": "it was open when the history ended",
 }
 MARKS = {"ok": "", "fail": "\u2717", "info": "?", "open": CUT}
-MEMBERS = 24  # of a set, in a label
+MEMBERS = 24  # the members of a set that a label shows
 ALSO_PRINTED = {"\u200d", "\u200c"}  # joiners within letters and signs
 
 
@@ -30,7 +30,7 @@ def printable(text: str) -> str:
 
 
 def cut(text: str, most: int) -> str:
-    """The text. If it is longer than `most` characters, as much of it as fits, with an ellipsis."""
+    """Returns the text. If it has more than `most` characters, cuts it and adds an ellipsis."""
     return text if len(text) <= most else text[: max(0, most - 1)] + CUT
 
 

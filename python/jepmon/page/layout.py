@@ -9,7 +9,7 @@ from typing import Dict, Iterable, List, NamedTuple, Sequence, Tuple
 
 from ..history import Operation
 
-LATE_ROWS = 6  # below a client's own row, for timed-out operations; if more are needed, the newest bar cuts the oldest
+LATE_ROWS = 6  # rows below a client's own row, for timed-out operations; if more are needed, the newest bar cuts the oldest
 
 
 class Bar(NamedTuple):
@@ -25,7 +25,7 @@ class Bar(NamedTuple):
 
 
 class Lane(NamedTuple):
-    """The bars of a client, and how many rows they take."""
+    """The bars of a client, and the number of their rows."""
 
     thread: int
     rows: int
@@ -50,7 +50,7 @@ def lanes(operations: Sequence[Operation], places: Dict[int, int], last: int) ->
 def lane(thread: int, operations: Sequence[Operation], places: Dict[int, int], last: int) -> Lane:
     edge = len(places)
     bars: List[Bar] = []
-    late: List[int] = []  # of each row below the first: the number of the bar that reaches to the right edge there
+    late: List[int] = []  # for each row below the first: the number of its bar that reaches to the right edge
     for operation in sorted(operations, key=lambda each: each.invocation.index):
         begin = places.get(operation.invocation.index, -1)
         ended = operation.completion

@@ -1,7 +1,7 @@
 """The picture of a bad key as one SVG file, for a document: the bars, the fatal event, and the values that the object could hold. It has a
 light and a dark look, and its own background, so that it can be read on any page.
 
-    python3 -m jepmon.page.picture examples/stale-replica.edn 3 > docs/stale-replica.svg  # the file, and how many clients
+    python3 -m jepmon.page.picture examples/stale-replica.edn 3 > docs/stale-replica.svg  # the file, and its number of clients
 """
 from __future__ import annotations
 
@@ -61,7 +61,7 @@ def svg(events: Sequence[Event], concurrency: int, found: Walked, name: str) -> 
 
 
 def rules() -> str:
-    """The style in its two looks, with the colours themselves: not everything that draws SVG knows variables."""
+    """Returns the style in its two looks, with plain colours: some programs that draw SVG don't know variables."""
     light, dark = palette()
     return filled(RULES, light) + "@media (prefers-color-scheme: dark) {\n" + filled(RULES, dark) + "}\n"
 
@@ -155,7 +155,7 @@ class Drawing:
 
 def main(words: Sequence[str]) -> int:
     if len(words) != 2 or not words[1].isdigit() or int(words[1]) < 1:
-        print("picture: takes a history and how many clients it has", file=sys.stderr)
+        print("picture: needs a history and its number of clients", file=sys.stderr)
         return 3
     sys.stdout.write(picture(pathlib.Path(words[0]).read_text("utf-8"), int(words[1])))
     return 0

@@ -10,16 +10,16 @@ from . import faults, layout
 from .given import AnyFault, Walked
 from .labels import MARKS, Labels
 
-LETTER = 7.3  # a character of a label, in pixels; no usual fixed-width font of that size is wider
-SMALL_LETTER = 6.7  # a character of an event's index, and of a number of ends
-PADDING = 20  # of a label within its bar
-MARK = 14  # beside a label
-LABEL = 190  # more than this a label is not given room for
-HELD = 60  # to what the object could hold no more than this is given
-BESIDE = 10  # between two indices
+LETTER = 7.3  # the width of a character of a label, in pixels; no usual fixed-width font of that size is wider
+SMALL_LETTER = 6.7  # the width of a character of an event's index, or of a number of ends
+PADDING = 20  # the space around a label within its bar
+MARK = 14  # the space for a mark beside a label
+LABEL = 190  # the greatest room for a label
+HELD = 60  # the greatest room for the values that the object could hold
+BESIDE = 10  # the space between two indices
 LEAST_GAP = 34
-EDGE = 40  # before the first event, and after the last
-BAND_LABEL = 170  # a fault's text gets no more
+EDGE = 40  # the space before the first event, and after the last
+BAND_LABEL = 170  # the greatest room for a fault's text
 
 
 class View(NamedTuple):
@@ -33,7 +33,7 @@ class View(NamedTuple):
 
 
 def letters(text: str) -> int:
-    """How many columns of a terminal the text takes."""
+    """Returns the number of columns of a terminal that the text needs."""
     return len(text) if text.isascii() else sum(of_letter(c) for c in text)
 
 
@@ -57,7 +57,7 @@ def view(events: Sequence[Event], operations: Sequence[Operation], fatal: int, g
     xs = list(itertools.accumulate(wide, initial=EDGE)) if columns else []
     width = (xs[-1] if xs else 0) + EDGE
     middles = [(left + right) // 2 for left, right in zip(xs, xs[1:])]
-    edges = [EDGE // 2] + middles + [width]  # of gap -1, 0, ..
+    edges = [EDGE // 2] + middles + [width]  # the edges of gap -1, 0, ..
     found = [(text, edges[begin + 1], edges[end + 1]) for text, begin, end in faults.spans(given, columns)]
     bands = faults.rows(sorted(found, key=lambda band: band[1]), room_of_band)
     return View(list(places), xs, width, lanes, bands)
@@ -85,7 +85,7 @@ def needed_by_held(walked: Optional[Walked], places: Dict[int, int], fatal: int)
 
 
 def needed(lanes: Iterable[layout.Lane], labels: Labels) -> Iterable[Tuple[int, int, int]]:
-    """The room that each bar's label needs, and the two events between which it is."""
+    """Returns the room that the label of each bar needs, and the two events between which the label is."""
     for lane in lanes:
         for bar in lane.bars:
             text = labels.operation(bar.operation)

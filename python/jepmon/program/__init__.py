@@ -29,11 +29,11 @@ class Options(NamedTuple):
     model: str = "register"
     budget: int = BUDGET
     workers: Optional[int] = None
-    by_ends: bool = False  # whether each key is judged by all its ends, and none as a wide kind
+    by_ends: bool = False  # whether all keys are judged by all their ends, and none as a wide kind
 
     def kind(self, program: Optional[str] = None, model: Optional[str] = None) -> str:
-        """The kind by which this program judges the model, or another one with these options. A program that lacks the wide kind judges
-        by ends."""
+        """Returns the kind by which this program judges `model` with these options. Without `model` it is the options' own model. A program
+        that lacks the wide kind judges by ends."""
         model = model_of(self.model if model is None else model)
         return kind_of(model, model not in WIDE or self.by_ends or WIDE[model] not in wide_kinds(program))
 
@@ -42,7 +42,7 @@ class Options(NamedTuple):
         return self.kind(program) != model_of(self.model)
 
     def of_line(self, line: KeyLine, program: Optional[str] = None) -> Options:
-        """The options by which a key was judged, by its line in a report with these options. These are by ends if its values are equal
+        """The options by which a key was judged, by its line in a report with these options. A queue with equal values is judged by ends
         (equal_values.py)."""
         own = self._replace(model=line.model, budget=line.budget, workers=None)
         return own._replace(by_ends=self.by_ends or not line.is_wide and own.is_wide(program))

@@ -11,17 +11,17 @@ from .report import DEAD, KeyLine, Place, Report, report_on, verdict_of
 if TYPE_CHECKING:
     from . import Options
 
-NAMED = 6  # keys
+NAMED = 6  # keys that a note names
 LEFT = ("key {}: two enqueues of one value have not failed, and by its ends the queue is over its budget before: give each message a value of "
         "its own")
 
 def is_left(line: KeyLine) -> bool:
-    """Whether the wide kind left the key, since its values are equal."""
+    """Returns whether the key is unknown by the wide kind because of equal values."""
     return line.kind == DIFFERING and line.status == "over"
 
 
 def in_full(options: Options, asked: Callable[[Options], Report]) -> Report:
-    """The report of a check by these options. The check is made again by ends if the wide kind left a key."""
+    """The report of a check by these options. If equal values make a key unknown, the check is made again by ends."""
     report = asked(options)
     return joined(report, asked(options._replace(by_ends=True))) if any(map(is_left, report.keys)) else report
 
@@ -29,14 +29,14 @@ def in_full(options: Options, asked: Callable[[Options], Report]) -> Report:
 def joined(report: Report, by_ends: Report) -> Report:
     """The report in which keys that were judged further by ends have the lines of this judgement."""
     if [line.key for line in report.keys] != [line.key for line in by_ends.keys]:
-        return report  # memory may have run out
+        return report  # the second check gave no verdict, for example if memory ran out
     lines = [further(line, other) if is_left(line) else line for line, other in zip(report.keys, by_ends.keys)]
     verdict = verdict_of(first(lines, DEAD), first(lines, ("over",)), len(lines))
     return report_on(lines, verdict, by_ends.error if by_ends.verdict == verdict.line else report.error)
 
 
 def further(line: KeyLine, by_ends: KeyLine) -> KeyLine:
-    """The line of a key, of these two, that judges it further."""
+    """Returns the one of two lines of a key that judges the key further."""
     return line if by_ends.status == "over" and (by_ends.index or 0) <= (line.index or 0) else by_ends
 
 

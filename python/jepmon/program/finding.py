@@ -13,7 +13,7 @@ from ..history.kinds import WIDE
 from ..tools.errors import ProgramError
 
 CURE = "`./jepmon install DIR`, put DIR on the PATH, or set JEPMON"
-PROMPT = 5.0  # seconds in which the program answers [:hello], or prints its help
+PROMPT = 5.0  # the program answers [:hello], or prints its help, within this number of seconds
 HELLO = re.compile(r'\{:jepmon "[^"]*" .*\}\n')
 KIND = re.compile("wide-[a-z]+(?:-[a-z]+)*")
 
@@ -69,4 +69,4 @@ def _said(words: List[str], raw: bytes = b"") -> Optional[str]:
     try:
         return subprocess.run(words, input=raw, stdout=subprocess.PIPE, stderr=subprocess.DEVNULL, timeout=PROMPT).stdout.decode("utf-8", "replace")
     except (OSError, subprocess.TimeoutExpired):
-        return None  # whoever asks it for a verdict will report this
+        return None  # the fault is reported when the program is asked for a verdict

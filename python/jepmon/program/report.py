@@ -6,7 +6,7 @@ from typing import List, NamedTuple, Optional, Sequence, Tuple
 
 from ..history.kinds import WIDE, kind_of, model_of
 
-STATUSES = {"legal": 0, "illegal": 1, "unknown": 2, "refused": 3}  # by the first word of the last line
+STATUSES = {"legal": 0, "illegal": 1, "unknown": 2, "refused": 3}  # the exit status, by the first word of the last line
 KEY_LINE = re.compile(r"key (\d+) model (\S+) budget (\d+) events (\d+) status ([a-z-]+)(?: (\d+))?")
 BAD_KEY = re.compile(r"(illegal|unknown) key (\d+) index (\d+)")
 REFUSAL = re.compile(r"refused .* event (\d+)")
@@ -20,11 +20,11 @@ class KeyLine(NamedTuple):
     """The line of a report on one key."""
 
     key: int
-    model: str  # the object, whatever kind of it was judged
+    model: str  # the model of the object, whichever of its kinds was judged
     budget: int
     events: int
-    status: str  # "alive", "dead" or "over"; of jepmon-judge also others (docs/FORMATS.md)
-    index: Optional[int]  # type: ignore[assignment]  # (also a method of tuple) the event from which it is dead or over
+    status: str  # "alive", "dead" or "over"; in reports of jepmon-judge also others (docs/FORMATS.md)
+    index: Optional[int]  # type: ignore[assignment]  # the event from which on it is dead or over (tuple has a method of this name)
     is_wide: bool = False  # whether it was judged as the wide kind of the model
 
     @property
@@ -52,7 +52,7 @@ class Verdict(NamedTuple):
 
     word: str  # "legal", "illegal" or "unknown"
     found: Optional[Place] = None  # the event and key that it names
-    keys: int = 0  # the keys of the history, if they were counted
+    keys: int = 0  # the number of keys of the history, if they were counted
 
     @property
     def line(self) -> str:
@@ -75,21 +75,21 @@ def verdict_of(dead: Optional[Place], undecided: Optional[Place], keys: int = 0)
 
 
 class Report(NamedTuple):
-    """What a check printed."""
+    """The output of a check."""
 
     text: str  # standard output
     keys: List[KeyLine]
     verdict: str  # the last line
     word: str  # the first word of the verdict: "legal", "illegal", "unknown" or "refused"
     key: Optional[int]
-    index: Optional[int]  # type: ignore[assignment]  # of the event that the verdict names, or at which events are refused
+    index: Optional[int]  # type: ignore[assignment]  # the index of the event that the verdict names, or of the refused event
     status: int
     error: str  # standard error
 
 
 def report_of(output: str, error: str, status: int) -> Report:
     """Reads the output of a check. If the output is empty, the refusal is on standard error."""
-    refusals = [line for line in error.splitlines() if line.startswith("refused ")]  # the lines after it have its usual cause
+    refusals = [line for line in error.splitlines() if line.startswith("refused ")]  # the lines after the refusal have its usual cause
     lines = output.splitlines() or refusals or error.splitlines() or ["refused"]
     keys = [found for found in map(key_line, lines) if found is not None]
     verdict, refusal = verdict_in(lines[-1]), REFUSAL.match(lines[-1])

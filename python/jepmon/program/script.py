@@ -13,7 +13,7 @@ from typing import IO, List, Optional
 from ..tools.errors import ProgramError
 from .finding import CURE, find_program
 
-PATIENCE = 10.0  # seconds that the program may take to end
+PATIENCE = 10.0  # the program has this many seconds to end
 
 
 class Script:
@@ -22,10 +22,10 @@ class Script:
     def __init__(self, words: List[str], timeout: float = 60.0, program: Optional[str] = None) -> None:
         words = [find_program(program), "script"] + words
         self._name, self._timeout = " ".join(words), timeout
-        self._unread = b""  # what has come after the last reply
-        self._errors: IO[bytes] = tempfile.TemporaryFile()  # not a pipe, which a program that prints much would fill
+        self._unread = b""  # the bytes after the last reply
+        self._errors: IO[bytes] = tempfile.TemporaryFile()  # a file and not a pipe, since a program that prints much would fill a pipe
         try:
-            # a session of its own, so that Ctrl-C in a terminal ends the test and not the program under it
+            # The program has a session of its own, so that Ctrl-C in a terminal ends the test, and not the program first.
             self._child = subprocess.Popen(words, bufsize=0, stdin=subprocess.PIPE, stdout=subprocess.PIPE, stderr=self._errors,
                                            start_new_session=True)
         except OSError as fault:
@@ -85,16 +85,16 @@ class Script:
         return reply.decode(errors="replace")
 
     def _ended(self) -> ProgramError:
-        """How it has ended, with its standard error."""
+        """Says how the program has ended, with its standard error."""
         try:
             status = self._child.wait(timeout=PATIENCE)
         except subprocess.TimeoutExpired:
-            return ProgramError(f"{self._name} goes on, and takes or gives no line any more{self._errors_told()}")
+            return ProgramError(f"{self._name} still runs, but reads and writes no more lines{self._errors_told()}")
         how = f"with status {status}" if status >= 0 else f"by signal {-status}"
         return ProgramError(f"{self._name} has ended, {how}{self._errors_told()}")
 
     def _errors_told(self) -> str:
-        """The end of its standard error. For a refusal only its line, without the usual cause."""
+        """Returns the end of the program's standard error. For a refusal it is only the line of the refusal, without the usual cause."""
         file = self._errors.fileno()
         text = os.pread(file, 2000, max(0, os.fstat(file).st_size - 2000)).decode(errors="replace").strip()
         refusals = [line for line in text.splitlines() if line.startswith("refused ")]
@@ -111,7 +111,7 @@ class Script:
         self._errors.close()
 
     def _kill(self) -> None:
-        """Kills it if it still runs, and what it has started."""
+        """Kills the program if it still runs, and all processes that it has started."""
         if self._child.poll() is None:
             os.killpg(self._child.pid, signal.SIGKILL)
             self._child.wait()

@@ -12,14 +12,14 @@ from .strips import Row, depths, rows
 
 WIDTH, LEFT, RIGHT = 1100, 158, 22  # pixels: the names of faults, and the scales, are on the left
 FIELD = WIDTH - LEFT - RIGHT
-HEAD, AXIS = 20, 20  # above and below the field of a chart
+HEAD, AXIS = 20, 20  # the space above and below the field of a chart
 RATES, STRIP = 96, 18
 DECADE = 38  # pixels of a decade of latency
-POINTS = 240  # of a line of rates, at most
+POINTS = 240  # the greatest number of points of a line of rates
 TICKS = 14
-NAME = 23  # characters of a fault's name beside its row
+NAME = 23  # at most this many characters of a fault's name are beside its row
 SECOND = 1_000_000_000
-LEVELS = (1, 6)  # numbers of operations in a cell: from the first on the mark is faint, from the second on full
+LEVELS = (1, 6)  # a mark is faint from the first number of operations in a cell on, and full from the second on
 
 
 class Chart:
@@ -36,7 +36,7 @@ class Chart:
         return LEFT + FIELD * min(max(moment, 0), self.end) / self.end
 
     def framed(self, title: str, high: int, body: List[str], bottom: bool = True) -> str:
-        """A chart whose field is so high."""
+        """Returns a chart whose field is `high` pixels high."""
         whole = HEAD + high + (AXIS if bottom else 4)
         name = html.escape(title)
         lines = [f'<svg viewBox="0 0 {WIDTH} {whole}" role="img" aria-label="{name}">', f'<text class="title" x="{LEFT}" y="14">{name}</text>']
@@ -52,7 +52,7 @@ class Chart:
     # --- Faults ---
 
     def strip(self) -> str:
-        """The faults; nothing if there are none."""
+        """Returns the strip of faults. It is empty if there are none."""
         laid = rows(self.faults, self.end, FIELD)
         if not laid:
             return ""
@@ -119,7 +119,8 @@ class Chart:
 
 
 def runs(cells: Sequence[Tuple[int, int]], join: bool) -> Iterator[Tuple[int, int, int]]:
-    """The cells, as column, step, and the number of cells above it that follow one another: each cell alone, or all of them together."""
+    """Yields runs of cells: the column, the step, and the number of adjacent cells above it. With `join` adjacent cells are one run,
+    otherwise each cell is a run."""
     place = 0
     while place < len(cells):
         column, step = cells[place]

@@ -17,7 +17,7 @@ from .history import joined
 
 HERE = pathlib.Path(__file__).resolve().parent
 BADGES = {"legal": "\u2713", "illegal": "\u2717", "unknown": "?", "lost": "\u2717", "crashed": "\u2717"}
-LONGEST = 20_000  # characters of a section
+LONGEST = 20_000  # a section shows at most this many characters
 
 
 def render(given: RatesPage) -> str:
@@ -50,7 +50,7 @@ def links(given: RatesPage) -> str:
 
 
 def body(given: RatesPage) -> Iterator[str]:
-    """The sections, from above."""
+    """Returns the sections, from top to bottom."""
     for section in given.sections:
         more = f"\n({len(section.text) - LONGEST:,} characters more)" if len(section.text) > LONGEST else ""
         yield f"<section><h2>{escaped(section.title)}</h2><pre>{escaped_lines(section.text[:LONGEST])}{more}</pre></section>"

@@ -8,14 +8,14 @@ from typing import Counter, Dict, List, Tuple
 
 from .moments import Moments
 
-COLUMN = 10_000_000  # nanoseconds of a column, while a run has at most COLUMNS of them; then pairs of columns are joined
+COLUMN = 10_000_000  # the nanoseconds of a column; if a run has more than COLUMNS columns, pairs of columns are joined
 COLUMNS = 480
-BITS = 6  # of a latency that are kept for quantiles: a bin is 1/64 of the latency wide
-STEPS = 12  # of a latency's decade, in which a picture shows it
+BITS = 6  # the leading bits of a latency that are kept for quantiles: a bin is 1/64 of the latency wide
+STEPS = 12  # a picture shows latencies in this many steps for each decade
 OUTCOMES = ("ok", "fail", "info")
 
-Sort = Tuple[str, str]  # of operations: name and outcome
-Cells = Counter[Tuple[int, int]]  # how many: by column of their begin, and step of their latency
+Sort = Tuple[str, str]  # a sort of operations: name and outcome
+Cells = Counter[Tuple[int, int]]  # the number of operations, by the column of their begin and the step of their latency
 
 
 class Gathered:
@@ -23,11 +23,11 @@ class Gathered:
 
     def __init__(self) -> None:
         self.column = COLUMN
-        self.ended: Dict[Sort, Counter[int]] = {}  # how many ended in each column
+        self.ended: Dict[Sort, Counter[int]] = {}  # the number of operations that ended in each column
         self.cells: Dict[Sort, Cells] = {}
-        self.bins: Dict[Sort, Counter[int]] = {}  # how many had a latency of this bin
+        self.bins: Dict[Sort, Counter[int]] = {}  # the number of operations with a latency of each bin
         self.most: Dict[Sort, int] = {}  # the greatest latency
-        self.open: Counter[str] = collections.Counter()  # by name: never completed
+        self.open: Counter[str] = collections.Counter()  # the number of operations that never completed, by name
         self.oks = Moments()
         self.end = 0
 
@@ -63,7 +63,7 @@ class Gathered:
 
     @property
     def names(self) -> List[str]:
-        """Of the operations."""
+        """Returns the names of the operations."""
         return sorted({name for name, _ in self.ended} | set(self.open))
 
     def count(self, name: str, outcome: str) -> int:

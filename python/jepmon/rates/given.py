@@ -8,7 +8,7 @@ from .history import Fault, Key
 
 
 class KeyRow(NamedTuple):
-    """A key, or the object that it stands for. `link` leads to its own page, if it has one."""
+    """A row of the table of keys: a key, or the object of this key. `link` leads to its own page, if it has one."""
 
     name: str
     part: str
@@ -18,7 +18,7 @@ class KeyRow(NamedTuple):
 
 
 class Section(NamedTuple):
-    """A text that stands on the page as it is."""
+    """A text that the page shows unchanged."""
 
     title: str
     text: str

@@ -8,7 +8,7 @@ from ..history.kinds import ABSENT
 from ..history.line import LINE, TIME
 from .gathered import Gathered
 
-SLACK = 1_000_000  # nanoseconds between the notes of one fault in two parts
+SLACK = 1_000_000  # the notes of one fault in two parts are at most this many nanoseconds apart
 
 
 class Fault(NamedTuple):
@@ -20,10 +20,10 @@ class Fault(NamedTuple):
 
 
 class Key:
-    """How the operations of a key ended."""
+    """The operations of a key by outcome."""
 
     def __init__(self, begin: int) -> None:
-        self.begin, self.end = begin, begin  # of its events
+        self.begin, self.end = begin, begin  # the times of its first and last event
         self.ok = self.fail = self.info = self.open = 0
 
     def count(self, outcome: str, now: int) -> None:
@@ -37,7 +37,7 @@ class Read:
     def __init__(self) -> None:
         self.keys: Dict[int, Key] = {}
         self.faults: List[Fault] = []
-        self.untimed = 0  # events without a time, which are not reported
+        self.untimed = 0  # the number of events without a time, which are left out
 
 
 class Begun(NamedTuple):
@@ -62,11 +62,11 @@ class Reader:
 
     def __init__(self, gathered: Gathered) -> None:
         self.gathered, self.found = gathered, Read()
-        self._opened: Dict[str, Begun] = {}  # by process
-        self._held: Dict[str, List[int]] = {}  # when faults began that have not ended, by text
+        self._opened: Dict[str, Begun] = {}  # the open operation of each process
+        self._held: Dict[str, List[int]] = {}  # the begins of faults that have not ended, by text
 
     def line(self, line: str) -> None:
-        """A line as Monitor writes it."""
+        """Takes a line as Monitor writes it."""
         if line.startswith("{"):
             told = LINE.match(line)
             time = TIME.search(told[6] or "") if told is not None else None
@@ -100,7 +100,7 @@ class Reader:
             self.found.faults.append(Fault(note.text, self._held[note.text].pop(), note.time))
 
     def finish(self) -> Read:
-        """The history is over."""
+        """Ends the history."""
         for begun in self._opened.values():
             if begun.counts:
                 self.gathered.open[begun.name] += 1

@@ -2,7 +2,7 @@
 number of moments."""
 from __future__ import annotations
 
-SLOT = 1_000_000  # nanoseconds
+SLOT = 1_000_000  # the nanoseconds of a slot
 MOST = 1 << 24  # slots: 4.6 hours of milliseconds; a longer run has wider slots
 MARK = b"\x01"
 

@@ -14,7 +14,7 @@ from .gathered import OUTCOMES, Gathered
 from .given import KeyRow, RatesPage, Section
 from .history import Fault, read
 
-MOST = 1 << 29  # bytes of histories, some five million events, that are read for a page unless all are asked for
+MOST = 1 << 29  # a page reads at most this many bytes of histories (some five million events), unless the user asks for all
 NO_VERDICT = "no verdict"
 NAME = re.compile(r"([0-9]+) is '(.*)'$", re.M)
 
@@ -37,7 +37,7 @@ def leave(folder: pathlib.Path, is_said: bool = False) -> None:
         if not is_said:
             print(f"jepmon: {folder / RUN_PAGE} can't be written: {fault.strerror}", file=sys.stderr)
     except Exception as fault:
-        print(f"jepmon: {folder} has no {RUN_PAGE}, by a fault of jepmon itself: {fault!r}", file=sys.stderr)
+        print(f"jepmon: {folder} has no {RUN_PAGE}, because of a fault of jepmon itself: {fault!r}", file=sys.stderr)
 
 
 def page_of(folder: pathlib.Path, whole: bool = False) -> RatesPage:
@@ -58,7 +58,7 @@ def page_of(folder: pathlib.Path, whole: bool = False) -> RatesPage:
                      [("run", folder.absolute().name), *facts.items(), *counts], command, list(links(folder)), sections, drawn.notes)
 
 
-# --- What stands in the folder ---
+# --- The files of the folder ---
 
 
 def parts_of(folder: pathlib.Path) -> List[pathlib.Path]:
@@ -74,7 +74,7 @@ def verdict_of(folder: pathlib.Path) -> str:
 
 
 def facts_of(folder: pathlib.Path) -> Dict[str, str]:
-    """The test's own facts about the run; nothing if it has none."""
+    """Returns the facts of the test about the run. Empty if the test has left none."""
     try:
         found = json.loads(text_of(folder / RUN_FACTS) or "{}")
     except ValueError:
@@ -124,7 +124,7 @@ def read_parts(folder: pathlib.Path, whole: bool) -> Drawn:
 
 
 def newest(parts: List[pathlib.Path]) -> List[pathlib.Path]:
-    """The newest parts that are read in some seconds, and those that are not legal."""
+    """Returns the newest parts, as many as can be read in some seconds, and all parts that are not legal."""
     chosen, left = [], MOST
     for part in reversed(parts):
         left -= (part / HISTORY).stat().st_size
@@ -139,9 +139,9 @@ def notes(folder: pathlib.Path, parts: List[pathlib.Path], chosen: List[pathlib.
         yield f"Shown are the newest {len(chosen)} of {len(parts)} parts, and those that are not legal; jepmon-runs --whole shows all."
     removed = text_of(folder / "parts.txt").count(": removed, ")
     if removed:
-        yield f"{removed} legal parts were removed (keep): nothing of them is shown."
+        yield f"{removed} legal parts were removed (keep): the page does not show them."
     if untimed:
-        yield f"{untimed:,} events have no time: nothing of them is shown."
+        yield f"{untimed:,} events have no time: the page does not show them."
 
 
 class Statuses:
@@ -153,7 +153,7 @@ class Statuses:
         self._bad = {int(key): f"{word} at event {index}" for word, key, index in BAD_KEY.findall(f"{counts}\n{verdict}")}
         self._other = "legal" if verdict.split(" ")[0].strip() in ("legal", "illegal", "unknown") else NO_VERDICT
         found = BAD_KEY.match(verdict)
-        self.bad: Optional[int] = int(found[2]) if found is not None else None  # the key of the page
+        self.bad: Optional[int] = int(found[2]) if found is not None else None  # the key that has the page
 
     def of(self, key: int) -> str:
         return self._bad.get(key, self._other)

@@ -7,15 +7,15 @@ from typing import Dict, Iterator, List, NamedTuple, Sequence, Tuple
 from ..history.fault_texts import kind_of, nodes_of
 from .history import Fault
 
-KINDS = 24  # that have rows of their own
-ROWS = 6  # of a kind
+KINDS = 24  # the number of kinds of faults that have rows of their own
+ROWS = 6  # the greatest number of rows of a kind
 BARS = 1500  # with more bars than this, bars without a pixel between them become one
-DEEPEST = 3  # faults at once that shades tell apart
+DEEPEST = 3  # shades distinguish up to this many simultaneous faults
 OTHERS = "other faults"
 
 
 class Bar(NamedTuple):
-    """A fault, or several side by side that a picture can't tell apart."""
+    """A fault, or several adjacent faults that a picture can't distinguish."""
 
     texts: List[str]
     who: str  # the nodes that it hits
@@ -24,7 +24,7 @@ class Bar(NamedTuple):
 
 
 class Row(NamedTuple):
-    """A row of bars, none of which meets another. Only the first row of a kind has its name."""
+    """A row of bars that do not overlap. Only the first row of a kind has the name of the kind."""
 
     name: str
     bars: List[Bar]

@@ -12,8 +12,8 @@ from .given import KeyRow
 from .history import Fault
 
 SHARES = ((0.5, "50 %"), (0.9, "90 %"), (0.99, "99 %"), (0.999, "99.9 %"))
-FAULTS = 400  # that are listed one by one, those with the longest time without an ok
-KEYS = 2000  # that are listed: first those that are not legal, then the newest
+FAULTS = 400  # the number of faults in the list; they are those with the longest time without an ok
+KEYS = 2000  # the number of keys in the list: first those that are not legal, then the newest
 SECOND = 1_000_000_000
 Cell = Tuple[str, str]  # a text, and the class of its cell
 
@@ -22,8 +22,8 @@ class Effect(NamedTuple):
     """The effect of a fault on clients, in nanoseconds."""
 
     fault: Fault
-    without: int  # the longest time without an ok that meets it
-    until_ok: Optional[int]  # from its end to the next ok; None: there was none
+    without: int  # the longest time without an ok that overlaps the fault
+    until_ok: Optional[int]  # the time from the fault's end to the next ok; None if there was none
 
 
 def latencies(gathered: Gathered) -> str:
@@ -78,7 +78,7 @@ def single(found: Sequence[Effect]) -> str:
 
 
 def keys(rows: Sequence[KeyRow]) -> str:
-    """The keys, those first that are not legal."""
+    """Returns the keys. Those that are not legal come first."""
     shown = sorted(rows, key=lambda row: row.status == "legal")[:KEYS]
     made: List[List[Cell]] = []
     for row in shown:

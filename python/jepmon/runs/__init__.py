@@ -1,7 +1,7 @@
 """`jepmon-runs`: all runs of a folder, as lines and as a page, index.html, with links to the page of each run.
 
-summary.py  what a run's folder says of it
-index.py    the page; jepmon-test makes it again at each end
+summary.py  a run in one line, by its folder
+index.py    the page; jepmon-test makes it again after each run
 tool.py     the command
 """
 from __future__ import annotations

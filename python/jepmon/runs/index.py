@@ -17,7 +17,7 @@ from .summary import Summary, summaries
 
 INDEX = "index.html"
 HERE = pathlib.Path(__file__).resolve().parent
-MARK = "<!-- jepmon-runs -->"  # by which a page is known as one that may be overwritten
+MARK = "<!-- jepmon-runs -->"  # a page with this mark may be overwritten
 HEAD = ("begun", "server", "object", "nemesis", "seconds", "operations", "verdict", "pages")
 BADGES = ("legal", "illegal", "unknown", "lost", "crashed")
 
@@ -37,7 +37,7 @@ def put(folder: pathlib.Path, runs: Sequence[Summary]) -> None:
     path = folder / INDEX
     if path.exists() and MARK not in path.read_text("utf-8", errors="replace")[:400]:
         raise FileExistsError(17, "this file is there, and is not a page of jepmon-runs", str(path))
-    command.write_file(path, render(folder, runs))  # several tests may do so at once
+    command.write_file(path, render(folder, runs))  # a new file each time, since several tests may write the page at once
 
 
 def render(folder: pathlib.Path, runs: Sequence[Summary]) -> str:
@@ -50,7 +50,7 @@ def render(folder: pathlib.Path, runs: Sequence[Summary]) -> str:
 
 
 def counted(runs: Sequence[Summary]) -> str:
-    """How many runs came to which verdict."""
+    """Returns the number of runs with each verdict."""
     words = {word: sum(run.word == word for run in runs) for word in (*BADGES, "no")}
     return f"{len(runs):,} runs: " + ", ".join(f"{count:,} {'without a verdict' if word == 'no' else word}" for word, count in words.items()
                                                if count)

@@ -16,7 +16,7 @@ COUNT = re.compile(r"^[a-z]+: ([0-9]+) ok, ([0-9]+) fail, ([0-9]+) info$", re.M)
 class Summary(NamedTuple):
     """A run. Fields that its folder lacks are empty."""
 
-    name: str  # of its folder
+    name: str  # the name of its folder
     begun: str
     server: str
     object: str
@@ -24,7 +24,7 @@ class Summary(NamedTuple):
     seconds: str
     operations: int
     verdict: str
-    page: str  # beside the folder of all runs
+    page: str  # the page of the run, relative to the folder of all runs
     why: str  # the page of the bad key
 
     @property

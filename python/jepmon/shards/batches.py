@@ -1,9 +1,8 @@
-"""The second pass: the events of keys as texts that one `jepmon check` judges, one key behind another.
-
-Keys and processes get new numbers. The number of a key is its place in the text. In each key a process has its own thread, one of 64. If
-there are more processes, each operation gets a free thread. If a key leaves operations open and another key follows, an :info ends these
-operations. It changes no status: no ok of the key follows it, and an operation that may take place later does not make a history illegal.
-After an :info a thread continues as process + 64.
+"""The second pass: the events of keys as texts that one `jepmon check` judges, one key after another. Keys and processes get new numbers.
+The number of a key is its place in the text. In each key a process has its own thread, one of 64. If there are more processes, each
+operation gets a free thread. If a key leaves operations open and another key follows, an :info ends these operations. This :info changes no
+status: no ok of the key follows it, and an operation that may take place later does not make a history illegal. After an :info a thread
+continues as process + 64.
 """
 from __future__ import annotations
 
@@ -77,7 +76,8 @@ class Threads:
             spelling.spell(thread, self._current[thread])
 
 
-Row = Tuple[int, List[bytes], Spelling, bool]  # of a code: the process, the heads by threads, whose they are, and whether of an :info
+# The meaning of a code: the process, the heads by threads, the spelling of these heads, and whether the event is an :info.
+Row = Tuple[int, List[bytes], Spelling, bool]
 
 
 class Rows(Dict[int, Row]):
@@ -101,10 +101,10 @@ class BatchText:
         self._sizes = sizes
         self._threads = Threads(sizes.threads)
         self._rows = Rows(self._threads)
-        self._heads: List[bytes] = []  # of each event
+        self._heads: List[bytes] = []  # the head of each event
         self._parts: List[bytes] = []
-        self._counts: List[int] = []  # of each key, how many events it has here
-        self._open: List[Tuple[int, bytes, bytes]] = []  # what the last key leaves open: the thread, the operation and the part
+        self._counts: List[int] = []  # the number of events of each key in this batch
+        self._open: List[Tuple[int, bytes, bytes]] = []  # the open operations of the last key: the thread, the operation and the operand
         self.keys: List[KeyMap] = []
         self.places = array.array(NUMBERS)
 
@@ -113,7 +113,7 @@ class BatchText:
         return len(self.keys) < self._sizes.keys and len(self._heads) + len(self._open) + events <= self._sizes.events
 
     def add(self, key: int, events: Events, rest: Optional[Rest]) -> None:
-        """Adds the events of a key. If the key has more events, their tester is given."""
+        """Adds the events of a key. If the key has more events, `rest` is their tester."""
         self._close()
         rows = list(map(self._rows.__getitem__, events[1:self._sizes.events * FIELDS:FIELDS]))
         processes = collections.Counter([row[0] for row in rows])
@@ -136,7 +136,7 @@ class BatchText:
         self.keys.append(KeyMap(key, count if rest is None else rest.count, judged, cut, cut_place))
 
     def _add_by_process(self, rows: Sequence[Row], processes: Dict[int, int], events: Events) -> None:
-        """Each process has a thread."""
+        """Adds a key in which each process has a thread of its own."""
         threads = dict(zip(processes, self._threads.all))
         crashed = [threads[process] for process, _, _, crashes in rows if crashes]
         self._heads += [heads[threads[process]] for process, heads, _, _ in rows]
@@ -149,7 +149,7 @@ class BatchText:
     def _add_by_operation(self, rows: Sequence[Row], events: Events) -> None:
         """Adds a key in which each operation has a free thread. If no thread is free, the key is cut."""
         free = list(self._threads.all)
-        invoked: Dict[int, Tuple[int, int]] = {}  # of a process: the thread, and the place of the invocation
+        invoked: Dict[int, Tuple[int, int]] = {}  # for each process: the thread, and the place of the invocation
         for place, (process, heads, spelling, crashes) in enumerate(rows):
             if spelling.kind == b"invoke":
                 if not free:
@@ -170,7 +170,7 @@ class BatchText:
         self._open = [(thread, rows[place][2].name, events[place * FIELDS]) for thread, place in invoked.values()]
 
     def _close(self) -> None:
-        """Ends what the last key has left open."""
+        """Ends the operations that the last key has left open."""
         for thread, name, part in self._open:
             self._heads.append(self._threads.spelling(b"info", name).heads[thread])
             self._parts.append(part)
@@ -182,7 +182,7 @@ class BatchText:
             self._open = []
 
     def batch(self) -> Batch:
-        """All that was added."""
+        """Returns the batch of all keys that were added."""
         pieces = [b""] * (3 * len(self._heads))
         numbers = (itertools.repeat(b"%d " % number, count) for number, count in enumerate(self._counts))
         pieces[0::3] = self._heads

@@ -1,5 +1,5 @@
-"""The events of a shard by their keys. If a key has more events than one check takes, this module keeps the first events. It tests the
-later events itself, since no program sees them."""
+"""The events of a shard by their keys. If a key has too many events for one check, this module keeps the first events. It tests the later
+events itself, since no program sees them."""
 from __future__ import annotations
 
 import functools
@@ -11,10 +11,10 @@ from .lines import of_code
 from .reading import Reader, Unreadable
 from .routing import Source, segments_of
 
-FIELDS = 3  # of an event of a key: part, code and place
-KNOWN = 1 << 12  # events that are remembered, since most come again and again
+FIELDS = 3  # the fields of an event of a key: operand, code and place
+KNOWN = 1 << 12  # at most this many events are remembered, since most events occur again and again
 
-Events = List[Any]  # one behind another: the part, the code and the place of each
+Events = List[Any]  # for each event, one after another: its operand, code and place
 
 
 class KeysEvents(Dict[bytes, Callable[[Tuple[bytes, int, int]], None]]):
@@ -35,7 +35,7 @@ class Rest:
 
     def __init__(self) -> None:
         self.count = 0
-        self._open: Dict[int, Event] = {}  # by process
+        self._open: Dict[int, Event] = {}  # the open operation of each process
 
     def take(self, events: Sequence[Any]) -> None:
         for part, code in zip(events[0::FIELDS], events[1::FIELDS]):

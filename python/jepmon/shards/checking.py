@@ -24,14 +24,14 @@ def check(history: History, options: Options = Options(), jobs: Optional[int] = 
           sizes: Sizes = Sizes()) -> Report:
     """Judges a recorded history: the file of a path, `-` for standard input, bytes, or texts that come one after another.
 
-    options    as of `jepmon check`; but the concurrency has no upper limit, nor has the number of keys or events
-    jobs       how many processes work side by side; by default as many as there are processors
+    options    as for `jepmon check`, but the concurrency and the numbers of keys and events have no upper limit
+    jobs       the number of processes that work side by side; by default the number of processors
     program    the program, if it is not the one that `find_program` finds
     temporary  the folder for temporary files: about half the room of a file of events, and the data of a pipe or of texts too
-    out        where the report is written, as it is made. Then it is not held, and the Report has no text and no keys
+    out        a file into which the report is written while it is made. Then the Report has no text and no keys
 
-    A key with more events than a check takes, or more operations open at once, is judged up to there. Its line has the status `full I` or
-    `wide I`, and the verdict is never `legal` then. ProgramError and ShardsError if no verdict can be given."""
+    A key with too many events or open operations for one check is judged up to the limit. Its line has the status `full I` or `wide I`, and
+    the verdict is never `legal` then. Raises a ProgramError or a ShardsError if no verdict is possible."""
     refusal = refusal_of(options)
     if refusal is not None:
         return report_of("", refusal + "\n", 3)

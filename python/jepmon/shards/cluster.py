@@ -21,9 +21,9 @@ from .judging import Judged
 from .splitting import judged_of, tested_report
 
 CONNECT = 20.0  # seconds within which the scheduler must answer
-PATIENCE = 30.0  # seconds for which there may be no worker
+PATIENCE = 30.0  # the cluster may have no worker for this number of seconds
 LOOK = 0.02  # seconds between two looks at the tasks
-RETRIES = 3  # of a task whose program fails
+RETRIES = 3  # the number of times that a failed task is repeated
 
 
 def judged_on(address: str, folder: str, shards: Sequence[Written], options: Options, *, threads: int, program: str,
@@ -44,8 +44,8 @@ def connected(address: str) -> Iterator[Any]:
     except ImportError as fault:
         raise ShardsError(f"--dask needs the package distributed (Debian: python3-distributed), which is not here: {fault}") from fault
     logged = logging.root.manager.disable
-    logging.disable(logging.CRITICAL)  # what is lost is said here, in one line
-    warnings.filterwarnings("ignore", module="distributed")  # of large objects: a shard goes with its task, so that none is lost
+    logging.disable(logging.CRITICAL)  # this module itself reports losses, in one line
+    warnings.filterwarnings("ignore", module="distributed")  # it warns of large tasks, but a task has to contain its shard, so that no shard is lost
     client: Any = None
     try:
         client = distributed.Client(address, timeout=CONNECT, set_as_default=False)
@@ -70,7 +70,7 @@ class Tasks:
         self._options, self._program, self._patience = options, program, patience
         self._check = checker()
         self._running: Dict[Any, Written] = {}
-        self._left: Dict[str, Report] = {}  # of shards that are judged again by ends, since values are equal
+        self._left: Dict[str, Report] = {}  # the first reports on shards that are judged again by ends, since values are equal
         self._had_workers = time.monotonic()
 
     def reports(self, shards: Sequence[Written]) -> Iterator[Tuple[Written, str]]:
@@ -98,7 +98,7 @@ class Tasks:
         """The number of threads of the workers. Raises a ShardsError if there was no worker for too long."""
         try:
             workers: Dict[str, Any] = self._client.scheduler_info()["workers"]
-        except Exception as fault:  # of any class: without its scheduler the cluster gives no more answers
+        except Exception as fault:  # an exception of any class means that the scheduler is lost
             raise ShardsError(f"the Dask scheduler at {self._address} is lost, and {left} shards are not judged") from fault
         now = time.monotonic()
         if workers:
@@ -108,7 +108,7 @@ class Tasks:
         return sum(int(worker.get("nthreads", 1)) for worker in workers.values())
 
     def _done(self) -> List[Any]:
-        """The tasks that are done, for which it waits."""
+        """Waits for tasks, and returns those that are done."""
         looked = time.monotonic()
         while True:
             done = [future for future in self._running if future.status != "pending"]
@@ -120,7 +120,7 @@ class Tasks:
                 looked = time.monotonic()
 
     def _report(self, future: Any, shard: Written) -> str:
-        """The program's output."""
+        """Returns the program's output for a shard."""
         if future.status != "finished":
             fault = future.exception(timeout=CONNECT) if future.status == "error" else None
             said = " ".join(str(fault).split()) if fault is not None else f"its task is {future.status}"
@@ -140,7 +140,7 @@ def checker() -> Callable[[bytes, List[str], str], str]:
         names = [os.environ.get("JEPMON"), program, "jepmon"]
         name = next((name for name in names if name and shutil.which(name)), None)
         if name is None:
-            raise RuntimeError(f"this worker has no jepmon: {program} is not there, and it is not on the PATH")
+            raise RuntimeError(f"this worker has no jepmon: {program} does not exist, and there is none on the PATH")
         ran = subprocess.run([name, "check", "/dev/stdin"] + words, input=text, stdout=subprocess.PIPE, stderr=subprocess.DEVNULL)
         if ran.returncode not in (0, 1, 2, 3):
             raise RuntimeError(f"{name} has ended with status {ran.returncode}")

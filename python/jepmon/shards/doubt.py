@@ -5,8 +5,8 @@ from ..tools.errors import ProgramError
 
 
 class Doubt(Exception):
-    """Something is refused, or the quick reader cannot read it. The exact reader decides which. The text is for the case that the exact
-    reader finds nothing, which is a fault of this package or of the program."""
+    """Something is refused, or the quick reader cannot read it. The exact reader decides which. The text is shown if the exact reader
+    refuses nothing: then this package or the program has a fault."""
 
 
 class ShardsError(ProgramError):

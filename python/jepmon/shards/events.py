@@ -11,12 +11,12 @@ from ..history.line import FRONT
 from ..history.nemesis_faults import LOST, REPLICAS
 from .reading import Element
 
-KEYS = range(1 << 63)  # of a history that is judged in shards
+KEYS = range(1 << 63)  # the keys of a history that is judged in shards
 KINDS = tuple(kind.encode() for kind in kinds.EVENT_TYPES)
 NAMES = tuple(sorted(name.encode() for name in kinds.OPERATIONS))
 WITHOUT_PART = tuple(name.encode() for name in kinds.WITHOUT_PART)
 NAMES_OF_REFUSALS = {1: "Busy", 2: "WrongProcess", 3: "NotOpen", 4: "Mismatch", 5: "BadValue", 6: "BadIndex"}
-FAULT = b"{:type :info, :process :nemesis, :f :heal, :value nil}"  # stands for any event of the nemesis
+FAULT = b"{:type :info, :process :nemesis, :f :heal, :value nil}"  # represents any event of the nemesis
 
 INT = rb"0|[1-9][0-9]{0,17}"
 SIGNED = rb"[+-]?(?:" + INT + rb")"
@@ -27,7 +27,7 @@ PLAIN = re.compile(
 
 
 class Refusal(Exception):
-    """An event is refused, with the number that jepmon has for it."""
+    """The refusal of an event, with jepmon's number for it."""
 
     def __init__(self, number: int) -> None:
         super().__init__(number)
@@ -37,7 +37,7 @@ class Refusal(Exception):
 class Event(NamedTuple):
     """An event that has passed test 5. For the nemesis the process is None, and only the index matters."""
 
-    stated: Optional[int]  # the index
+    stated: Optional[int]  # the index that the event states
     kind: bytes
     process: Optional[int]
     name: bytes
@@ -142,11 +142,11 @@ class Rule:
 
     def __init__(self, concurrency: int) -> None:
         self.concurrency, self.length = concurrency, 0
-        self.current: Dict[int, int] = {}  # the process of a thread, where it is not its own number
-        self.open: Dict[int, Event] = {}  # by process
+        self.current: Dict[int, int] = {}  # the process of each thread whose process is not its own number
+        self.open: Dict[int, Event] = {}  # the open operation of each process
 
     def take(self, event: Event) -> None:
-        """Takes the next event; a Refusal if it may not come."""
+        """Takes the next event. Raises a Refusal if a test fails."""
         if event.stated is not None and event.stated != self.length:
             raise Refusal(6)
         if event.process is not None:

@@ -1,9 +1,9 @@
 """A folder of shards. Any machines judge the shards one by one, in any order. At the end the results are joined.
 
-    shards.json   what they are of: the history, the options, and the name and the checksum of each shard. It is written last
-    NAME.edn      a shard: a history that one check takes. Its first line says by which options
-    NAME.map      which keys these are, and where each event stands in the history
-    NAME.out      the report on it, below the checksum of the shard: it comes whole or not at all
+    shards.json   the history, the options, and the name and the checksum of each shard. It is written last
+    NAME.edn      a shard: a history for one check. Its first line has the options
+    NAME.map      the keys of the shard, and the place of each event in the history
+    NAME.out      the report on it, below the checksum of the shard. It is written whole or not at all
 """
 from __future__ import annotations
 
@@ -38,7 +38,7 @@ class Written(NamedTuple):
 
 
 class Manifest(NamedTuple):
-    """What a folder has."""
+    """The content of shards.json."""
 
     history: File
     options: Options
@@ -70,7 +70,7 @@ def write_shard(folder: str, name: str, batch: Batch, options: Options, threads:
 
 
 def read_shard(path: str) -> Tuple[bytes, Options]:
-    """The text of a shard, and the options by which it is to be checked."""
+    """Reads the text of a shard, and the options of its check."""
     try:
         with open(path, "rb") as file:
             text = file.read()
@@ -137,8 +137,8 @@ def read_manifest(folder: str) -> Manifest:
             raise ShardsError(f"{path}: it is of another version of jepmon-shards")
         return Manifest(File(**told["history"]), Options(**told["options"]), [Written(*shard) for shard in told["shards"]])
     except FileNotFoundError as fault:
-        raise ShardsError(f"{folder}: there are no shards in this folder, or jepmon-shards split did not come to its end") from fault
+        raise ShardsError(f"{folder}: there are no shards in this folder, or jepmon-shards split was cut off") from fault
     except OSError as fault:
         raise ShardsError(f"{path}: {fault.strerror}") from fault
     except (ValueError, KeyError, TypeError) as fault:
-        raise ShardsError(f"{path}: this is not what jepmon-shards split writes") from fault
+        raise ShardsError(f"{path}: jepmon-shards split has not written this file") from fault

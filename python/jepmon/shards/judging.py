@@ -15,7 +15,7 @@ from .models import by_model
 from .routing import Source
 from .sizes import Sizes
 
-REFUSED = re.compile(r"refused [0-9]+ [A-Za-z]+ (?:event )?[0-9]+")  # of what stands in a file
+REFUSED = re.compile(r"refused [0-9]+ [A-Za-z]+ (?:event )?[0-9]+")  # the refusals of a file's content
 
 
 class Status(NamedTuple):
@@ -48,7 +48,7 @@ class Judged(NamedTuple):
 
 
 def judge_shard(task: ShardTask) -> Judged:
-    """The second pass over a shard."""
+    """Does the second pass over a shard."""
     statuses: List[Status] = []
     keys, rests = events_of(task.sources, task.shard, task.sizes.events)
     for model, of_model in by_model(keys, task.options.model):
@@ -71,10 +71,10 @@ def statuses_of(report: str, keys: Sequence[KeyMap], places: Sequence[int], opti
     lines = report.splitlines()
     if lines and lines[-1].startswith("refused "):
         if REFUSED.fullmatch(lines[-1]):
-            raise Doubt(f"jepmon says {lines[-1]} of a shard")
+            raise Doubt(f"jepmon refuses a shard: {lines[-1]}")
         raise ShardsError(f"jepmon can't judge a shard: {lines[-1]}")
     if len(lines) != len(keys) + 1:
-        raise Doubt(f"jepmon's report on a shard has {len(lines)} lines in place of {len(keys) + 1}")
+        raise Doubt(f"jepmon's report on a shard has {len(lines)} lines instead of {len(keys) + 1}")
     found: List[Status] = []
     at = 0
     for number, (line, key) in enumerate(zip(lines, keys)):

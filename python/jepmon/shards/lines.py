@@ -1,8 +1,9 @@
 """The quick reader of a history: one regular expression finds the fields of all lines of a block.
 
-This module takes a line only if it is certainly one event, or a text by itself, which the exact reader then reads. If every line of a file
-is a text, so is the file, with the same elements. The program decides whether the part is valid, and gets it unchanged. The brackets of a
-part are closed, and it has no words, strings or comments. So it cannot change the meaning of the text around it.
+This module accepts a line only if it is certainly one event, or a text by itself, which the exact reader then reads. If every line of a
+file is a text, the file is a text too, with the same elements. The program decides whether the operand (here called part) is valid, and
+gets it unchanged. The brackets of an operand are closed, and it has no words, strings or comments. So the operand cannot change the meaning
+of the text around it.
 """
 from __future__ import annotations
 
@@ -16,8 +17,8 @@ from . import events
 from .doubt import Doubt
 from .reading import Reader, Unreadable
 
-Row = Tuple[bytes, bytes, bytes, bytes, bytes]  # the stated index, the head, the key, the part; or an odd line. A fault has no head
-Head = Tuple[int, int, int, int]  # the code; of the process rule the thread, its state before and after
+Row = Tuple[bytes, bytes, bytes, bytes, bytes]  # the stated index, the head, the key, the operand; or an odd line. A fault has no head
+Head = Tuple[int, int, int, int]  # the code; for the process rule: the thread, and its state before and after
 
 LINE = re.compile(
     rb"^\{(?::index (0|[1-9][0-9]{0,9}), )?(:type :[a-z]+, :process [0-9]+, :f :[a-z]+, ):value "
@@ -29,7 +30,7 @@ LINE = re.compile(
 HEAD = re.compile(rb":type :(invoke|ok|fail|info), :process (0|[1-9][0-9]{0,9}), :f :([a-z]+), ")
 ODD = operator.itemgetter(4)
 
-KIND_BITS, NAME_BITS = 2, 3  # of a code; above them stands the process
+KIND_BITS, NAME_BITS = 2, 3  # the lowest bits of a code; the process is above them
 
 
 def rows_of(block: bytes) -> Tuple[List[Row], int]:

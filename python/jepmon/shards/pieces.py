@@ -39,18 +39,18 @@ class PieceTask(NamedTuple):
 class Piece(NamedTuple):
     """The facts that were found about a piece."""
 
-    path: str  # of the file that was written
+    path: str  # the path of the written file
     slabs: List[int]
-    written: List[int]  # bytes of each shard
+    written: List[int]  # the number of bytes of each shard
     events: int
-    base: Optional[int]  # the index of its first event, if any is stated
-    starts: Dict[int, int]  # of a thread: the state before its first event
-    ends: Dict[int, int]  # of a thread: the state after its last event
+    base: Optional[int]  # the index of its first event, if an event states its index
+    starts: Dict[int, int]  # for each thread: the state before its first event
+    ends: Dict[int, int]  # for each thread: the state after its last event
     tally: Tally
 
 
 def read_piece(task: PieceTask) -> Piece:
-    """The first pass over a piece."""
+    """Does the first pass over a piece."""
     path = os.path.join(task.folder, f"{task.begin}.piece")
     counting = Counting()
     router = Router(task.shards, counting=counting)
@@ -87,7 +87,7 @@ class PieceEvents:
         self._router = router
 
     def take(self, rows: Sequence[Row]) -> None:
-        """Takes the next events: column by column, since what is done for each event of a history costs most."""
+        """Takes the next events: column by column, since the work for each single event costs most."""
         if not rows:
             return
         columns: List[Sequence[Any]] = list(zip(*rows))
@@ -98,7 +98,7 @@ class PieceEvents:
             for place, index in zip(places, stated):
                 if index:
                     self._test_index(int(index), place)
-        if not all(texts):  # without the faults
+        if not all(texts):  # without the faults, which have no head
             kept = [at for at, text in enumerate(texts) if text]
             texts, keys, parts, places = ([column[at] for at in kept] for column in (texts, keys, parts, places))
         heads = list(map(self._heads.__getitem__, texts))
@@ -110,11 +110,12 @@ class PieceEvents:
         self._router.route(keys, parts, list(map(CODE, heads)), places)
 
     def forget(self) -> None:
-        """Forgets how heads are spelled, since a long history has many."""
+        """Forgets the spellings of heads, since a long history has many."""
         self._heads.clear()
 
     def _begin(self, thread: int, state: int) -> None:
-        """Treats a thread in another state than this one. This is allowed only if the thread has had no event yet."""
+        """Records that a thread has to begin the piece in this state. Raises a Doubt if the thread has had an event in the piece
+        already."""
         if self.states[thread] != UNSEEN:
             raise Doubt
         self.starts[thread] = state
@@ -155,7 +156,7 @@ def blocks_of(task: PieceTask) -> Iterator[bytes]:
         while begin < end:
             data = file.read(min(task.sizes.block, end - begin))
             if not data:
-                raise Doubt  # the file has become shorter
+                raise Doubt  # the file has become shorter since the check began
             begin += len(data)
             cut = len(data) if begin == end else data.rfind(b"\n") + 1
             if cut:

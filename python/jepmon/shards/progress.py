@@ -5,19 +5,19 @@ import time
 from typing import Iterator, Optional, TextIO, TypeVar
 
 Item = TypeVar("Item")
-SECONDS = 0.2  # between two lines
+SECONDS = 0.2  # the time between two lines
 
 
 class Progress:
-    """Tells it to a terminal, or to nobody."""
+    """Shows the progress if there is a terminal."""
 
     def __init__(self, terminal: Optional[TextIO] = None) -> None:
         self._terminal = terminal if terminal is not None and terminal.isatty() else None
-        self._next = time.monotonic() + 1  # a short check says nothing
+        self._next = time.monotonic() + 1  # a short check shows no line
         self._width = 0
 
     def over(self, what: str, items: Iterator[Item], count: int) -> Iterator[Item]:
-        """The items, with their number. They are counted as they come."""
+        """Yields the items, and shows the share of `count` that was reached."""
         for number, item in enumerate(items):
             self.say(f"{what} {100 * number // max(1, count)} %")
             yield item

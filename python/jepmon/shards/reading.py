@@ -1,8 +1,7 @@
 """Reads texts of jepmon's profile of EDN (docs/FORMATS.md, Text) exactly, from bytes or from a file that is mapped.
 
-A value is None (nil), an int, or a pair of a tag and its content: ("bool", b), ("keyword", bytes), ("string", bytes),
-("vector", tuple), ("map", frozenset of pairs), ("set", frozenset). So two values are the same to the profile exactly where they are
-equal in Python.
+A value is None (nil), an int, or a pair of a tag and its content: ("bool", b), ("keyword", bytes), ("string", bytes), ("vector", tuple),
+("map", frozenset of pairs), ("set", frozenset). So two values are the same in the profile if and only if they are equal in Python.
 """
 from __future__ import annotations
 
@@ -141,7 +140,7 @@ class Reader:
 
 
 def atom_of(token: bytes) -> Tuple[bool, Element]:
-    """Whether the token is an atom, and its value."""
+    """Returns whether the token is an atom, and its value."""
     if token in WORDS:
         return True, WORDS[token]
     if KEYWORD.fullmatch(token):

@@ -17,7 +17,7 @@ Entry = Union[Event, Refusal]
 
 
 def entries_of(reader: Reader, account: Account) -> Iterator[Entry]:
-    """Each element of a text: an event, or the refusal of it."""
+    """Yields for each element of a text an event, or the refusal of the element."""
     line, counted = 1, 0
     while reader.more():
         begin = reader.at

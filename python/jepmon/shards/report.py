@@ -11,13 +11,13 @@ from ..program.report import Verdict, verdict_of
 from .judging import Judged
 from .sizes import Sizes
 
-PLACE = 21  # bytes in front of each line of a result
+PLACE = 21  # the bytes of the number before each line of a result
 
 
 def merged(results: Sequence[str], folder: str, sizes: Sizes) -> Iterator[bytes]:
     """The lines of these files, in the order of the number at the beginning of each line. Removes the files."""
     names, count = list(results), 0
-    while len(names) > sizes.merged:  # no more files are open at once
+    while len(names) > sizes.merged:  # at most this many files are open at once
         path = os.path.join(folder, f"{count}.merged")
         with open(path, "wb") as file:
             file.writelines(lines_of(names[:sizes.merged]))
@@ -34,7 +34,7 @@ def lines_of(names: Sequence[str]) -> Iterator[bytes]:
 
 
 def verdict_on(judged: Iterable[Judged]) -> Verdict:
-    """All results together."""
+    """Returns the verdict of all results together."""
     results = list(judged)
     dead, undecided = (min((place for place in places if place is not None), default=None)
                        for places in ([result.dead for result in results], [result.undecided for result in results]))

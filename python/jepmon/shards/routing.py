@@ -1,6 +1,6 @@
 """The events of a history by shards of their keys, in files between the two passes.
 
-Such a file has slabs, one behind another. In a slab the events of a shard are together, field by field: a Segment. Behind the segments is
+Such a file has slabs, one after another. In a slab the events of a shard are together, field by field: a Segment. Behind the segments is
 the slab's directory. It has, for each shard, the beginning of its segment, the bytes of its keys and of its parts, and the number of its
 events.
 """
@@ -13,7 +13,7 @@ from typing import Any, BinaryIO, Callable, Iterator, List, NamedTuple, Optional
 
 from .tally import Counting
 
-FIELDS = 4  # of a shard in a directory
+FIELDS = 4  # the fields of a shard in a directory
 NUMBERS = "Q"
 WIDTH = array.array(NUMBERS).itemsize
 
@@ -41,17 +41,17 @@ class Router:
 
     def __init__(self, shards: int, level: int = 0, counting: Optional[Counting] = None) -> None:
         self._level, self._counting = level, counting
-        self._routed: List[List[int]] = [[] for _ in range(shards)]  # of each shard, which events
+        self._routed: List[List[int]] = [[] for _ in range(shards)]  # for each shard, the numbers of its events
         self._puts = [routed.append for routed in self._routed]
         self._keys: List[List[bytes]] = [[] for _ in range(shards)]
         self._parts: List[List[bytes]] = [[] for _ in range(shards)]
         self._codes = [array.array(NUMBERS) for _ in range(shards)]
         self._places = [array.array(NUMBERS) for _ in range(shards)]
-        self.written = [0] * shards  # bytes of each shard
+        self.written = [0] * shards  # the number of bytes of each shard
 
     def route(self, keys: Sequence[bytes], parts: Sequence[bytes], codes: Sequence[int], places: Sequence[int]) -> None:
-        """Takes these events, only few at once, so that they stay in the cache. The tests of each event cost most, so they are done on
-        whole columns."""
+        """Takes these events. The caller passes only few at once, so that they stay in the cache. The tests of single events would cost
+        most, so they are done on whole columns."""
         puts = self._puts
         for at, shard in enumerate(shards_of_keys(keys, len(puts), self._level)):
             puts[shard](at)

@@ -37,7 +37,7 @@ class Tools(NamedTuple):
     """The parts of a check."""
 
     program: str
-    folder: str  # for temporary files
+    folder: str  # the folder for temporary files
     team: Team
     sizes: Sizes
     progress: Progress
@@ -54,7 +54,7 @@ class KeyEvent(NamedTuple):
 
 
 class Session:
-    """One history."""
+    """The check of one history."""
 
     def __init__(self, file: File, options: Options, tools: Tools, finds_threads: bool = False) -> None:
         self.file, self.options, self.tools = file, options, tools
@@ -62,13 +62,13 @@ class Session:
         self.tally = Tally()
         self.shards: List[Shard] = []
         self._finds_threads = finds_threads
-        self._exact: Optional[Account] = None  # of the lines of what was read exactly
+        self._exact: Optional[Account] = None  # the account of the lines, if the history was read exactly
         self._has_read = self._is_plain = False
         if finds_threads:
             self._find_threads(FRONT)
 
     def read(self) -> None:
-        """The first pass. Raises Refused if the pass finds a refused event without the program."""
+        """Makes the first pass. Raises Refused if this pass finds an event that has to be refused. It does not ask the program."""
         while not self._has_read:
             file, tools = self.file, self.tools
             try:
@@ -81,7 +81,7 @@ class Session:
         self._test_unchanged()
 
     def judged(self, options: Options) -> List[Judged]:
-        """The second pass: the program's reports on the shards, by these options."""
+        """Makes the second pass. Returns the program's reports on the shards, by these options."""
         while True:
             self.read()
             tasks = [ShardTask(shard.sources, shard.number, shard.name, self.tools.folder, options, self.tools.program, self.tools.sizes)
@@ -106,7 +106,7 @@ class Session:
         return verdict
 
     def account(self) -> Account:
-        """Accounts for the lines of the history, which was read."""
+        """Returns the account of the lines of the history. The history was read before."""
         if self._exact is not None:
             return self._exact
         account = Account()
@@ -146,7 +146,7 @@ class Session:
         self.file, self._is_plain, self._has_read = file_of(path), True, False
 
     def _find_threads(self, length: int) -> bool:
-        """Finds the concurrency from this much of the history. Returns whether it differs from before."""
+        """Finds the concurrency from the first `length` bytes of the history. Returns whether it differs from before."""
         self._finds_threads = length < self.file.length
         found: Optional[int] = fewest_threads(self.file.path, min(length, self.file.length), self.tools.sizes)
         before = self.options.concurrency

@@ -15,7 +15,7 @@ from .team import Team, in_order
 
 class Shard(NamedTuple):
     """Some keys of a history, with all their events. The fields are the files with these events, the number of the shard in the files, a
-    name, the bytes, how often the shard was divided, and whether it may be divided again."""
+    name, the number of bytes, the number of divisions, and whether the shard may be divided again."""
 
     sources: List[Source]
     number: int

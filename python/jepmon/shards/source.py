@@ -20,7 +20,7 @@ class File(NamedTuple):
 
     path: str
     length: int
-    changed: int  # by the clock of the file system
+    changed: int  # the time of its last change, by the clock of the file system
 
     def is_unchanged(self) -> bool:
         try:
@@ -55,7 +55,7 @@ def _file_of_path(name: str, folder: str) -> File:
         raise ReadFailed from fault
     with file:
         status = os.fstat(file.fileno())
-        path = os.path.realpath(name)  # what /dev/stdin is in this process, it is in no other
+        path = os.path.realpath(name)  # /dev/stdin is another file in another process
         if stat.S_ISREG(status.st_mode) and os.path.isfile(path) and os.path.samestat(status, os.stat(path)):
             return file_of(path)
         return _written(pieces_of(file), folder)

@@ -28,8 +28,8 @@ from .sizes import Sizes
 
 Engine = Callable[[str, Sequence[Written], Options], Iterator[Judged]]
 
-LISTED = 12  # shards that are named where some lack
-MARK = "splitting"  # a file in a folder whose shards are not written to the end
+LISTED = 12  # at most this many missing shards are named
+MARK = "splitting"  # a folder has this file as long as its shards are not all written
 
 
 class SplitTask(NamedTuple):
@@ -44,7 +44,7 @@ class SplitTask(NamedTuple):
 
 
 def write_shards(task: SplitTask) -> List[Written]:
-    """The second pass over a shard that is judged elsewhere."""
+    """Does the second pass over a shard that is judged elsewhere."""
     keys, rests = events_of(task.sources, task.shard, task.sizes.events)
     written: List[Written] = []
     for model, of_model in by_model(keys, task.options.model):
@@ -55,7 +55,7 @@ def write_shards(task: SplitTask) -> List[Written]:
 
 
 def split(session: Session, options: Options, folder: str) -> List[Written]:
-    """Writes the shards of a history into a folder that is there."""
+    """Writes the shards of a history into an existing folder."""
     session.read()
     tools = session.tools
     tasks = [SplitTask(shard.sources, shard.number, f"shard-{shard.name}", folder, options, tools.sizes) for shard in session.shards]
@@ -109,7 +109,7 @@ def judged_elsewhere(session: Session, options: Options, engine: Engine) -> List
 
 
 def finish(session: Session, options: Options, folder: str, shards: List[Written]) -> None:
-    """Says what the folder has: from now on it can be joined."""
+    """Writes shards.json: from now on the folder can be joined."""
     file = session.original
     write_manifest(folder, Manifest(file._replace(path=os.path.abspath(file.path)), options, shards))
 
@@ -129,7 +129,7 @@ def judge(path: str, program: str) -> bool:
 
 
 def tested_report(report: str) -> str:
-    """The report, if it is about the present content of the shard."""
+    """Returns the report if the program has judged the shard, or has refused an event of it. Otherwise raises a ShardsError."""
     last = report.splitlines()[-1] if report else "nothing"
     if last == "nothing" or last.startswith("refused ") and not REFUSED.fullmatch(last):
         raise ShardsError(f"jepmon can't judge a shard: it says {last}")
@@ -176,7 +176,7 @@ def refusal_in(manifest: Manifest, doubt: Doubt) -> Exception:
     """The message if the program refuses an event of a shard: the first refusal in the history, which is read exactly."""
     file = manifest.history
     if not file.is_unchanged():
-        return ShardsError(f"{doubt}; {file.path} is not there any more as it was, so which event of it is refused first can't be said")
+        return ShardsError(f"{doubt}; {file.path} was removed or has changed, so the first refused event can't be found")
     line = first_refusal(file.path, manifest.options.concurrency)
     if line is None:
         return ShardsError(f"jepmon and this package differ on {file.path}, which is not judged: {doubt}")

@@ -7,30 +7,30 @@ from typing import Counter, Dict, Iterable, List, NamedTuple, Sequence
 from ..history.kinds import MODELS, OPERATIONS, WITHOUT_PART
 from .lines import KIND_BITS, NAME_BITS, of_code
 
-SORT = (1 << KIND_BITS + NAME_BITS) - 1  # of a code: the type and the operation, without the process
+SORT = (1 << KIND_BITS + NAME_BITS) - 1  # the bits of a code that have the type and the operation, without the process
 
 
 class Tally(NamedTuple):
     """The counts of a history."""
 
-    events: int = 0  # those of the nemesis too
-    sorts: Dict[int, int] = {}  # of the events of clients: by type and operation, as a code without a process
-    nils: int = 0  # parts of theirs that are nil
-    sets: int = 0  # parts of theirs that are sets
+    events: int = 0  # all events, also those of the nemesis
+    sorts: Dict[int, int] = {}  # the events of clients, by type and operation (a code without a process)
+    nils: int = 0  # operands of these events that are nil
+    sets: int = 0  # operands of these events that are sets
     lines: int = 0
-    lines_of_events: int = 0  # those that have some
+    lines_of_events: int = 0  # lines that have events
 
     def number_of(self, name: str, kind: str) -> int:
-        """How many events there are of this operation and type."""
+        """Returns the number of events of this operation and type."""
         return sum(number for sort, number in self.sorts.items() if of_code(sort)[::2] == (kind.encode(), name.encode()))
 
     def outcomes(self) -> Counter[str]:
-        """How operations ended, as "read ok"."""
+        """Returns the number of operations by name and outcome, such as "read ok"."""
         ended = {f"{name} {kind}": self.number_of(name, kind) for name in self.names() for kind in ("ok", "fail", "info")}
         return collections.Counter({outcome: number for outcome, number in ended.items() if number})
 
     def names(self) -> List[str]:
-        """The operations that there are."""
+        """Returns the names of the operations that occur."""
         found = {of_code(sort)[2].decode() for sort in self.sorts}
         return sorted(found)
 
@@ -56,7 +56,7 @@ def total(tallies: Iterable[Tally]) -> Tally:
 
 
 class Counting:
-    """Counts events as they go by."""
+    """Counts events while they are read."""
 
     def __init__(self) -> None:
         self._codes: Counter[int] = collections.Counter()

@@ -18,7 +18,7 @@ from .doubt import ShardsError
 Task = TypeVar("Task")
 Result = TypeVar("Result")
 
-PACKAGE = str(pathlib.Path(__file__).resolve().parents[2])  # the folder in which the package jepmon lies
+PACKAGE = str(pathlib.Path(__file__).resolve().parents[2])  # the folder that has the package jepmon
 SERVE = "import sys; sys.path.insert(0, sys.argv[1]); from jepmon.shards.worker import serve; serve(int(sys.argv[2]))"
 
 
@@ -29,7 +29,8 @@ class Member:
         ours, theirs = socket.socketpair()
         with theirs:
             try:
-                # a group of its own, so that it ends together with the program that it runs, and Ctrl-C reaches this process alone
+                # The process has a group of its own, so that it ends together with the program that it runs, and Ctrl-C reaches only this
+                # process.
                 self.process = subprocess.Popen([sys.executable, "-I", "-c", SERVE, PACKAGE, str(theirs.fileno())],
                                                 stdin=subprocess.DEVNULL, pass_fds=[theirs.fileno()], start_new_session=True)
             except OSError as fault:
@@ -44,7 +45,7 @@ class Member:
             raise self._ended() from None
 
     def receive(self) -> Any:
-        """The result of the task; it raises the task's exception."""
+        """Returns the result of the task, or raises the task's exception."""
         try:
             result, fault = self.connection.recv()
         except (EOFError, OSError):
@@ -54,13 +55,13 @@ class Member:
         return result
 
     def _ended(self) -> ShardsError:
-        """How the process has ended. This does not wait for the process, so that its number stays its own until `kill`."""
+        """Says how the process has ended. Does not wait for the process, so that its number stays its own until `kill`."""
         ended = os.waitid(os.P_PID, self.process.pid, os.WEXITED | os.WNOWAIT)
         how = "with status" if ended is not None and ended.si_code == os.CLD_EXITED else "by signal"
         return ShardsError(f"a process of this check has ended, {how} {ended.si_status if ended is not None else '?'}: nothing is judged")
 
     def kill(self) -> None:
-        """Ends it, and the program that it runs."""
+        """Ends the process, and the program that it runs."""
         with contextlib.suppress(ProcessLookupError):
             os.killpg(self.process.pid, signal.SIGKILL)
         self.process.wait()
@@ -86,8 +87,8 @@ class Team:
             self._members.pop().kill()
 
     def run(self, function: Callable[[Task], Result], tasks: Sequence[Task]) -> Iterator[Tuple[int, Result]]:
-        """The function's result for each task, with the task's number, as soon as it comes. The function must be in a module. If a task
-        raises an exception, it is raised here, and the other tasks are not completed."""
+        """Yields the function's result for each task, with the task's number, as soon as the result arrives. The function must be in a
+        module. If a task raises an exception, it is raised here, and the other tasks are not completed."""
         if self.jobs == 1:
             with uncollected():
                 for number, task in enumerate(tasks):

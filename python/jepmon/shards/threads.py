@@ -9,7 +9,7 @@ from .lines import HEAD, Row, rows_of
 from .pieces import PieceTask, blocks_of
 from .sizes import Sizes
 
-FRONT = 4 << 20  # bytes of the front that is looked at first
+FRONT = 4 << 20  # the first search reads this many bytes
 
 
 class Heads(Dict[bytes, Tuple[int, bool]]):
@@ -31,8 +31,8 @@ def tell(lives: Lives, rows: Iterable[Row]) -> None:
 
 
 def fewest_threads(path: str, length: int, sizes: Sizes = Sizes()) -> Optional[int]:
-    """The least number of threads that fits the events in this much of a file. None if no number fits, or if the lines can't be read
-    here."""
+    """Returns the least number of threads that fits the events in the first `length` bytes of a file. None if no number fits, or if the
+    lines can't be read here."""
     lives = Lives()
     try:
         for block in blocks_of(PieceTask(path, 0, length, 1, 1, "", sizes)):

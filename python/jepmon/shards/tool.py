@@ -88,7 +88,7 @@ def work() -> int:
 
 def splits(given: argparse.Namespace) -> int:
     from ..forms import files
-    from ..judge import by_shards, large, words as judge_words  # which stand on this package
+    from ..judge import by_shards, large, words as judge_words  # these modules need this package
 
     more = [word for name in ("concurrency", "model", "budget", "jobs", "temporary") for value in [getattr(given, name)]
             if value is not None for word in (f"--{name}", str(value))]
@@ -152,7 +152,7 @@ def texts_of(path: str) -> Iterator[str]:
 
 
 def terminated(number: int, _frame: Optional[FrameType]) -> None:
-    sys.exit(128 + number)  # by way of all that removes files
+    sys.exit(128 + number)  # an exception, so that temporary files are removed
 
 
 def main() -> int:

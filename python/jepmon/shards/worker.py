@@ -8,7 +8,7 @@ from typing import Any, Callable, Optional, Tuple
 from ..tools.errors import ProgramError
 from .doubt import Doubt, ShardsError
 
-TOLD = (Doubt, ShardsError, ProgramError, OSError, MemoryError)  # what a task may raise, and is told as it is
+TOLD = (Doubt, ShardsError, ProgramError, OSError, MemoryError)  # exceptions of tasks that are reported unchanged
 
 
 def answer(function: Callable[[Any], Any], task: Any) -> Tuple[Any, Optional[BaseException]]:
@@ -24,11 +24,11 @@ def answer(function: Callable[[Any], Any], task: Any) -> Tuple[Any, Optional[Bas
 def serve(number: int) -> None:
     """Does the tasks that come through the connection of this number: pairs of a function and a task. The answer is a pair of the
     function's result and its exception."""
-    gc.disable()  # nothing here goes in cycles, and it would look through all events again and again
+    gc.disable()  # there are no cycles here, and the search for cycles would look through all events again and again
     with multiprocessing.connection.Connection(number) as connection:
         try:
             while True:
                 function, task = connection.recv()
                 connection.send(answer(function, task))
-        except (EOFError, ConnectionError):  # the team is no more
+        except (EOFError, ConnectionError):  # the team has ended
             return

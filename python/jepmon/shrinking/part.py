@@ -11,7 +11,7 @@ from ..program import Options
 
 
 def without(operations: Sequence[Operation], out: AbstractSet[int], values: AbstractSet[int]) -> List[Operation]:
-    """The operations without those at some places. Each answer that is a set is without some values."""
+    """Returns the operations without those at the places `out`. Removes `values` from each answer that is a set."""
     return [without_values(operation, values) for place, operation in enumerate(operations) if place not in out]
 
 
@@ -31,8 +31,8 @@ def events_of(operations: Iterable[Operation]) -> List[Event]:
 
 def text_of(events: Iterable[Event], concurrency: int) -> str:
     """The events as a history by itself. The first process of each client is its own number, and after each :info the next process is
-    greater by the concurrency. These are the processes of the history, unless timed-out operations were removed. If the history has more
-    clients than one check takes, each operation gets a free thread."""
+    greater by the concurrency. These are the processes of the history, unless timed-out operations were removed. If the history has too
+    many clients for one check, each operation gets a free thread."""
     clients: Clients = Clients(concurrency) if concurrency <= THREADS else FreeThreads()
     return "".join(line_of(event, clients.process_of(event), f", :original-index {event.index}") + "\n" for event in events)
 
@@ -66,7 +66,7 @@ class FreeThreads(Clients):
     def __init__(self) -> None:
         super().__init__(THREADS)
         self._free = list(range(THREADS))
-        self._open: Dict[int, int] = {}  # the thread of a process
+        self._open: Dict[int, int] = {}  # the thread of each process with an open operation
 
     def thread_of(self, event: Event) -> int:
         if event.kind == "invoke":
@@ -78,5 +78,5 @@ class FreeThreads(Clients):
 
 
 def line_of(event: Event, process: int, further: str = "") -> str:
-    key = event.key if event.key in KEYS else 0  # of a history with more keys than one check takes
+    key = event.key if event.key in KEYS else 0  # any key, if the history has too many keys for one check
     return event_line(event.kind, process, event.name, key, part_text(event.value), further)

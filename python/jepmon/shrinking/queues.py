@@ -1,4 +1,4 @@
-"""Queues: a value is removed with its enqueues and dequeues."""
+"""Units of queues: a value is removed with its enqueues and dequeues."""
 from __future__ import annotations
 
 import collections
@@ -20,8 +20,8 @@ def by_value(operations: Sequence[Operation], places: Iterable[int], name: str) 
 
 
 def of_fifo_queue(operations: Sequence[Operation], places: Sequence[int]) -> List[Unit]:
-    """A unit for each value, with all its enqueues and dequeues. A unit for each dequeue without an answer. It drags each value that the
-    dequeue may have taken: each value with more enqueues than dequeues that have answered it."""
+    """A unit for each value, with all its enqueues and dequeues. There is also a unit for each dequeue without an answer. This unit drags
+    each value that the dequeue may have taken: each value with more enqueues than dequeues that have answered it."""
     enqueues, dequeues = by_value(operations, places, "enqueue"), by_value(operations, places, "dequeue")
     of_value = {value: tuple(enqueues.get(value, []) + dequeues.get(value, [])) for value in {**enqueues, **dequeues}}
     values = sorted(of_value, key=lambda value: max(of_value[value]))

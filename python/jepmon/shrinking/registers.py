@@ -1,4 +1,4 @@
-"""Registers: a read is removed alone, and a write with all operations that may have found its value."""
+"""Units of registers: a read is removed alone, and a write with all operations that may have found its value."""
 from __future__ import annotations
 
 import bisect
@@ -35,16 +35,16 @@ def wanted(operation: Operation) -> Optional[int]:
 
 def finders_of(operations: Sequence[Operation], places: Sequence[int]) -> Dict[int, List[int]]:
     """For each operation that writes a value, the operations that may have found this value. An operation f cannot have found the value of
-    a writer w if f had ended before w began. It also cannot if a third operation, which has certainly written, began after w had ended, and
-    ended before f began."""
+    a writer w if f had ended before w began. It also cannot have found this value if a third operation, which has certainly written, began
+    after w had ended, and ended before f began."""
     gone = Overwrites(operations, places)
-    wanting: Dict[int, List[int]] = collections.defaultdict(list)  # by value, in the order of invocations
+    wanting: Dict[int, List[int]] = collections.defaultdict(list)  # for each value: the operations that found it, in the order of invocations
     for place in places:
         value = wanted(operations[place])
         if value is not None:
             wanting[value].append(place)
     begins = {value: [begin(operations[place]) for place in found] for value, found in wanting.items()}
-    unended: Dict[int, List[int]] = collections.defaultdict(list)  # those wanting a value that had begun, and not ended
+    unended: Dict[int, List[int]] = collections.defaultdict(list)  # for each value: the operations that found it, had begun and had not ended
     finders: Dict[int, List[int]] = {}
     for place in places:
         operation = operations[place]
@@ -67,7 +67,7 @@ class Overwrites:
         spans = sorted((begin(operations[place]), end(operations[place])) for place in places
                        if brought(operations[place]) is not None and end(operations[place]) < NEVER)
         self._begins = [first for first, _ in spans]
-        self._earliest = [NEVER] * (len(spans) + 1)  # the earliest end of those that begin from here on
+        self._earliest = [NEVER] * (len(spans) + 1)  # the earliest end of the writes that begin from this place on
         for number in range(len(spans) - 1, -1, -1):
             self._earliest[number] = min(self._earliest[number + 1], spans[number][1])
 

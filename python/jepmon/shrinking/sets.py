@@ -1,5 +1,5 @@
-"""Sets: a read is removed alone, and so is an add of a value that an earlier add had added. A value is removed with all its adds, and from
-each answer."""
+"""Units of sets: a read is removed alone. An add is removed alone if an earlier add had added its value. A value is removed with all its
+adds, and from each answer."""
 from __future__ import annotations
 
 import collections

@@ -5,7 +5,7 @@ from typing import Iterable, List, NamedTuple, Sequence, Set, Tuple
 
 from ..history import Operation
 
-NEVER = 1 << 62  # the end of what has not ended
+NEVER = 1 << 62  # the end of an operation that has not ended
 
 
 class Unit(NamedTuple):
@@ -14,7 +14,7 @@ class Unit(NamedTuple):
     the list of units."""
 
     operations: Tuple[int, ...]
-    values: Tuple[int, ...] = ()  # of a set: these go out of each answer
+    values: Tuple[int, ...] = ()  # for a set: these values are removed from each answer
     drags: Tuple[int, ...] = ()
 
 
@@ -45,7 +45,7 @@ def with_dragged(units: Sequence[Unit], chosen: Iterable[int]) -> Set[int]:
 
 
 def dragging(units: Sequence[Unit], kept: Iterable[int]) -> Set[int]:
-    """The units that can't be removed if these units are kept, since they drag one of these."""
+    """Returns the units that can't be removed if the units `kept` are kept: they drag one of these units."""
     draggers: List[List[int]] = [[] for _ in units]
     for place, unit in enumerate(units):
         for dragged in unit.drags:

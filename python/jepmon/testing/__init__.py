@@ -2,14 +2,14 @@
 
     from jepmon.testing import Client, Server        # as in template.py, which `jepmon-test template` prints
 
-server.py   what a server is to the test; servers/ has Redis, etcd, PostgreSQL, RabbitMQ, ZooKeeper and
+server.py   the base class of a server; servers/ has Redis, etcd, PostgreSQL, RabbitMQ, ZooKeeper and
             beanstalkd, and wire/ their protocols
 cluster.py  the nodes (node.py), and the links between them (links.py: switch.py and places.py, or proxy.py)
-guard.py    leaves none behind; undisturbed.py lets Ctrl-C wait for that
-strikes/    what is done to them, and when; needs.py says what the machine must have for it
+guard.py    leaves no process behind; undisturbed.py lets Ctrl-C wait until this is done
+strikes/    the faults, and their times; needs.py tests what the machine must have for them
 after.py    reads the bad key again after a finding; losses.py lists lost data, and crashes.py finds crashes
-facts.py    what a test says of itself in the run's folder, and the pages at its end
-run.py      a whole test: workloads.py says what clients do, generators.py when
+facts.py    the facts about a test in the run's folder, and the pages at its end
+run.py      a whole test: workloads.py has the operations of clients, generators.py their times
 """
 from __future__ import annotations
 

@@ -27,13 +27,13 @@ from .losses import Acknowledged, One, known_from, line, many, told
 from .node import Node
 from .server import Server
 
-FINDING, ALWAYS, NEVER = "finding", "always", "never"  # when the nodes' data are kept
+FINDING, ALWAYS, NEVER = "finding", "always", "never"  # the settings of --keep-nodes: when the nodes' data are kept
 PATIENCE = 30.0  # seconds, at most, until the nodes are ready again
-ROUNDS = 5  # in which the nodes are read until they agree
+ROUNDS = 5  # the nodes are read at most this many times, until they agree
 PAUSE = 0.4  # seconds between two rounds
-TRIES = 3  # of a read
-MOST = 10_000  # messages of a queue that are drained
-SHOWN = 120  # characters of a value
+TRIES = 3  # a read is tried at most this many times
+MOST = 10_000  # at most this many messages of a queue are drained
+SHOWN = 120  # at most this many characters of a value are shown
 
 
 class Reading(NamedTuple):
@@ -49,7 +49,8 @@ class Reading(NamedTuple):
 
 @contextlib.contextmanager
 def after_a_finding(cluster: Cluster, folder: pathlib.Path, keep: str, lost: Callable[[], int]) -> Iterator[None]:
-    """The block is the test. If it ends with a finding, or if messages are lost, collects the facts while the servers still run."""
+    """Runs the test as its block. If the test ends with a finding, or if messages are lost, collects the facts while the servers still
+    run."""
     found = False
     try:
         yield
@@ -171,8 +172,8 @@ def one_round(cluster: Cluster, key: int) -> Dict[str, Reading]:
 
 
 def one_reading(server: Server, node: Node, number: Optional[int], key: int) -> Optional[Reading]:
-    """The answer at this node, through a reader that the server gives, or else through the client of this number. None if there is
-    neither."""
+    """Returns the answer at this node, through the server's own reader for the node, otherwise through the client of this number. None if
+    there is neither."""
     said = ""
     for _ in range(TRIES):
         client: Any = server.reader(node)
@@ -183,7 +184,7 @@ def one_reading(server: Server, node: Node, number: Optional[int], key: int) -> 
         try:
             value = client.read(key)
             return Reading(frozenset(value) if isinstance(value, (set, frozenset, list, tuple)) else value)
-        except Exception as fault:  # of any class that the client raises
+        except Exception as fault:  # the client may raise any class
             said = f"no answer ({type(fault).__name__})"
         finally:
             client.close()
@@ -226,7 +227,7 @@ def verdict_on(fatal: Event, readings: Dict[str, Reading], acknowledged: Acknowl
 
 
 def lost_members(readings: Dict[str, Reading], acknowledged: Acknowledged) -> List[One]:
-    """The messages that no node has."""
+    """Returns the acknowledged members that no node has."""
     sets = [reading.value for reading in readings.values() if isinstance(reading.value, frozenset)]
     return acknowledged.missing(frozenset().union(*sets)) if sets else []
 
@@ -241,7 +242,7 @@ def verdict_on_set(fatal: Event, held: "frozenset[int]", acknowledged: Acknowled
 
 
 def listed(readings: Dict[str, Reading]) -> str:
-    """The readings. Nodes with the same answer are together."""
+    """Lists the readings. Nodes with the same answer are together."""
     by_text: Dict[str, List[str]] = {}
     for name, reading in readings.items():
         by_text.setdefault(str(reading), []).append(name)

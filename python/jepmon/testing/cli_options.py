@@ -59,7 +59,7 @@ def given(words: Optional[List[str]]) -> Optional[Given]:
     model = kinds.model_of(parsed.object or "") or (plant.model if plant else next(iter(server.objects)))
     if model not in server.objects or plant and plant.model != model:
         raise ServerError(f"--object {model}: {parsed.server} has {_listed(server.objects)}" if not plant else
-                          f"--object {model}: the plant {parsed.plant} is one of a {plant.model}")
+                          f"--object {model}: the known fault {parsed.plant} is a fault of a {plant.model}")
     nodes = parsed.nodes or (plant.nodes if plant else 0) or server.size
     if nodes not in server.sizes:
         raise ServerError(f"--nodes {nodes}: {parsed.server} takes {server.sizes[0]} to {server.sizes[-1]}")
@@ -72,7 +72,7 @@ def given(words: Optional[List[str]]) -> Optional[Given]:
     given = Given(server, model, parsed.plant or "", seconds, parsed.clients, parsed.keys, parsed.seed, nemesis, parsed.rate, nodes,
                   parsed.network, parsed.least, parsed.patience, parsed.out, parsed.keep, parsed.durability or "", parsed.keep_nodes, stages, reserved,
                   parsed.test_count, parsed.by_ends)
-    planned(given)  # rejects what is impossible before anything starts
+    planned(given)  # rejects impossible options before anything starts
     return given
 
 
@@ -83,7 +83,7 @@ def _parser() -> Words:
     parser.add_argument("--object", metavar="MODEL", type=_filled, help="the object that each key is: " + ", ".join(kinds.MODELS))
     command.add_by_ends(parser)
     parser.add_argument("--inject-bug", "--plant", dest="plant", metavar="NAME", type=_filled, help="a known fault of the server, by its name")
-    parser.add_argument("--durability", metavar="NAME", type=_filled, help="the server's setting for acknowledged data (the safest that it has)")
+    parser.add_argument("--durability", metavar="NAME", type=_filled, help="the server's setting for acknowledged data (its safest setting)")
     parser.add_argument("--time", metavar="SECONDS", type=_positive("seconds"), default=20.0, help="the time for which clients work (20)")
     parser.add_argument("--clients", metavar="N", type=_within("clients", 1, MOST_CLIENTS), default=5, help="threads of clients (5)")
     parser.add_argument("--keys", metavar="N", type=_within("keys", 1, 1000), default=5, help="keys that are open to changes at once (5)")
@@ -174,7 +174,7 @@ def server_of(name: str) -> Type[Server]:
 
 def _of_file(path: pathlib.Path) -> Type[Server]:
     """The last class in the user's file that is a Server, or the class that the file names `server`."""
-    name = f"server_in_{path.stem}"  # so that it takes no other module's name
+    name = f"server_in_{path.stem}"  # a name that no other module has
     spec = importlib.util.spec_from_file_location(name, path)
     if not path.is_file() or spec is None or spec.loader is None:
         raise ServerError(f"{path}: there is no such file")

@@ -1,10 +1,8 @@
-"""Wall clocks of single nodes. The test compiles a small library at its start and preloads it into the node's processes. The library adds
-the seconds in a file to the time that they ask the C library for.
-
-It reaches programs that ask the C library for the time, such as Redis, PostgreSQL, and programs in Erlang and Java. It does not reach
-programs that ask the kernel directly, such as programs in Go, nor statically linked programs. The monotonic clock is unchanged: people set
-the wall clocks of machines, and timeouts use the monotonic clock. (A time namespace of Linux shifts only the monotonic clock, and not the
-wall clock.)
+"""Wall clocks of single nodes. The test compiles a small library at its start and preloads it into the node's processes. The library adds a
+number of seconds, which is in a file, to the time that the C library returns. It has an effect on programs that ask the C library for the
+time, such as Redis, PostgreSQL, and programs in Erlang and Java. It has no effect on programs that ask the kernel directly, such as
+programs in Go, nor statically linked programs. The monotonic clock is unchanged: people set the wall clocks of machines, and timeouts use
+the monotonic clock. (A time namespace of Linux shifts only the monotonic clock, and not the wall clock.)
 """
 from __future__ import annotations
 
@@ -83,7 +81,7 @@ class Clock:
         """Raises if no process of the node has the library, since a strike would have no effect."""
         pids = [] if node.pid is None else family(node.pid)
         if pids and not any(self._library in maps(pid) for pid in pids):
-            raise ServerError(f"the clock of {node.name} can't be set: its program takes no preloaded library, as where it is linked statically")
+            raise ServerError(f"the clock of {node.name} can't be set: its program does not load a preloaded library (is it linked statically?)")
 
 
 def maps(pid: int) -> str:
@@ -94,7 +92,7 @@ def maps(pid: int) -> str:
 
 
 def compiled(folder: pathlib.Path) -> pathlib.Path:
-    """The library."""
+    """Compiles the library, and returns its path."""
     source, library = folder / "clock.c", folder / "clock.so"
     source.write_text(SOURCE)
     ran = subprocess.run([compiler() or COMPILERS[0], "-O2", "-shared", "-fPIC", str(source), "-o", str(library)], stdin=subprocess.DEVNULL,
@@ -114,4 +112,4 @@ def why_not() -> Optional[str]:
     """The reason for which no clock can be set here; None if one can."""
     if os.uname().sysname != "Linux":
         return "clocks of nodes are set on Linux alone"
-    return None if compiler() else f"it takes a compiler of C, of {', '.join(COMPILERS)}: on Debian, apt-get install gcc libc6-dev"
+    return None if compiler() else f"it needs a compiler of C, of {', '.join(COMPILERS)}: on Debian, apt-get install gcc libc6-dev"

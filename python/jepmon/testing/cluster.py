@@ -1,4 +1,4 @@
-"""The nodes of a test: in a folder of their own, with ports of their own, all gone when it ends."""
+"""The nodes of a test: they have a folder and ports of their own, and are removed when the test ends."""
 from __future__ import annotations
 
 import contextlib
@@ -31,14 +31,14 @@ class Cluster:
                  has_disks: bool = False, has_clocks: bool = False, durability: str = "", has_spare: bool = False) -> None:
         self._ended = contextlib.ExitStack()
         self.crew = Crew()
-        self.stopped = threading.Event()  # nobody waits any more for a node to be ready
-        adopt()  # the orphans of servers that have ended
+        self.stopped = threading.Event()  # set when no thread should wait for a node any longer
+        adopt()  # this process gets the orphans of servers that have ended
         try:
             with undisturbed():
                 folder = pathlib.Path(tempfile.mkdtemp(prefix="jepmon-test-"))
                 guard = Guard(folder)
                 self._ended.callback(guard.end)
-            folder.chmod(0o755)  # a node's user reaches its own folder in it
+            folder.chmod(0o755)  # the user of a node must reach the node's folder in it
             ports = Ports(random.Random(os.urandom(8)))
             self._every: List[Node] = []
             for number in range(size + has_spare):
@@ -46,7 +46,7 @@ class Cluster:
                 (folder / name).mkdir()
                 self._every.append(Node(number, folder / name, logs / f"{name}.log", {port: ports.free() for port in kind.ports}, guard))
             self.nodes, self.spares = self._every[:size], self._every[size:]
-            self.disks: Dict[str, Disk] = {}  # by the names of nodes
+            self.disks: Dict[str, Disk] = {}  # the disks, by the names of nodes
             for node in self.nodes if has_disks else []:
                 self.disks[node.name] = Disk(node.folder, folder / f"{node.name}.disk")
                 self._ended.callback(self.disks[node.name].end)
@@ -96,7 +96,7 @@ class Cluster:
         self._ended.close()
 
     def clients(self) -> "contextlib.AbstractContextManager[None]":
-        """This thread is where clients are."""
+        """Moves this thread, for the block, to the place of the clients (their network namespace)."""
         return contextlib.nullcontext() if self.links is None else self.links.clients()
 
     def _start(self, node: Node) -> None:
@@ -114,7 +114,7 @@ class Cluster:
         with node.inside():
             try:
                 self.server.ready(node)
-            except Exception:  # whatever it is, it is not ready
+            except Exception:  # after any exception the node is not ready
                 return False
         return True
 
@@ -122,7 +122,7 @@ class Cluster:
         """The node that leads now, if the server names one. Otherwise None."""
         try:
             return self.server.leader()
-        except Exception:  # nodes that are struck do not answer
+        except Exception:  # nodes under a fault may not answer
             return None
 
     @property
@@ -130,7 +130,7 @@ class Cluster:
         """The nodes, and the additional one if it was started."""
         return self.nodes + [node for node in self.spares if node.pid is not None]
 
-    # --- What strikes do ---
+    # --- The actions of strikes ---
 
     def kill(self, node: Node) -> None:
         node.kill()
@@ -148,6 +148,6 @@ class Cluster:
         self._logs.look()
 
     def wait_until_all_ready(self) -> None:
-        """Where nothing strikes any more."""
+        """Waits until all nodes are ready. The faults have ended by now."""
         for node in self.nodes:
             self.wait_until_ready(node)

@@ -14,7 +14,7 @@ from .generators import Phases
 
 NUMBER = re.compile(r"[0-9]+(?:\.[0-9]+)?")
 FORM = "each is SECONDS, with some of rate=N, changes=SHARE, limit=N and strikes=off, such as 5:rate=100:changes=0.5"
-RESERVED = {"changes": 1.0, "reads": 0.0}  # the share of operations that change something
+RESERVED = {"changes": 1.0, "reads": 0.0}  # for each kind of reserved client: the share of operations that change something
 
 
 class Stage(NamedTuple):
@@ -22,10 +22,10 @@ class Stage(NamedTuple):
 
     begin: float  # seconds from the first operation on
     end: float
-    rate: Optional[float] = None  # operations a second of all clients; None as --rate says
-    changes: Optional[float] = None  # the share that change something; None as is drawn
-    limit: Optional[int] = None  # operations at most
-    strikes: bool = True  # whether something strikes
+    rate: Optional[float] = None  # operations a second of all clients; None: as --rate says
+    changes: Optional[float] = None  # the share of operations that change something; None: as drawn from the seed
+    limit: Optional[int] = None  # the greatest number of operations
+    strikes: bool = True  # whether there are strikes
 
 
 class Now(NamedTuple):
@@ -33,20 +33,20 @@ class Now(NamedTuple):
 
     rate: float  # operations a second of all clients; 0 is as many as they can
     changes: float
-    goes_on: bool  # else the limit of the stage is reached
+    goes_on: bool  # False if the limit of the stage is reached
 
 
 class Course:
-    """All clients are in one stage at a time."""
+    """The stages of a run. All clients are in the same stage at any time."""
 
     def __init__(self, seed: int, rate: float, stages: Tuple[Stage, ...] = (), reserved: Tuple[float, ...] = ()) -> None:
         self._rate, self._stages, self._reserved = rate, stages, reserved
         self._phases = Phases(seed)
         self._lock = threading.Lock()
-        self._done: Dict[float, int] = {}  # operations, by the beginning of the stage
+        self._done: Dict[float, int] = {}  # the number of operations, by the beginning of the stage
 
     def next(self, seconds: float, client: int) -> Now:
-        """For the next operation of a client, which is counted."""
+        """Returns the present work of a client, for its next operation. Counts this operation."""
         drawn, stage = self._phases.at(seconds), self._stage(seconds)
         rate = self._rate if stage is None or stage.rate is None else stage.rate
         changes = drawn.changes if stage is None or stage.changes is None else stage.changes
@@ -55,7 +55,7 @@ class Course:
         return Now(rate * drawn.speed, changes, stage is None or self._takes(stage))
 
     def calm_from(self, seconds: float) -> float:
-        """When the next calm begins: now or later. Infinity means never."""
+        """Returns the time at which the next calm begins: now or later. Infinity means never."""
         return min((max(seconds, stage.begin) for stage in self._stages if not stage.strikes and seconds < stage.end), default=float("inf"))
 
     def _stage(self, seconds: float) -> Optional[Stage]:
@@ -105,7 +105,7 @@ def reserved_of(text: str, clients: int) -> Tuple[float, ...]:
     for item in text.split(","):
         name, _, number = item.partition("=")
         if name not in RESERVED or not number.isdecimal() or not number.isascii():
-            raise ServerError(f"--reserve {item}: it takes changes=N and reads=N, of clients")
+            raise ServerError(f"--reserve {item}: it takes changes=N and reads=N, with numbers of clients")
         found += [RESERVED[name]] * int(number)
     if len(found) > clients:
         raise ServerError(f"--reserve {text}: these are {len(found)} clients, and there are {clients}")

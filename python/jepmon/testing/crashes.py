@@ -18,14 +18,14 @@ from .node import AGAIN, TELLING, Node
 
 WORDS = re.compile(r"panic|assert|segmentation|segfault|sanitizer|fatal|abort|core dumped|corrupt|traceback|exception|error", re.I)
 HARD = re.compile(r"\b(?:panic|assert|segmentation|segfault|core dumped|SIG(?:SEGV|ABRT|BUS|ILL|FPE)\b)|sanitizer", re.I)  # not "sig_fatal_cb"
-LAST = 30  # lines of a log that are searched for what ended the server
-TRACE = 200  # lines that are searched for HARD: registers and a stack may follow it
+LAST = 30  # the last lines of a log, which are searched for the reason of the end
+TRACE = 200  # lines that are searched for HARD: registers and a stack may follow such a line
 LONGEST = 240  # characters of a line that are shown
-SHOWN, BEFORE = 12, 2  # lines of a log in the account of a crash; of them before the line that says it
-PARTS = 2  # the newest ones, whose faults it names
+SHOWN, BEFORE = 12, 2  # lines of a log in the text about a crash; the number of these lines before the decisive line
+PARTS = 2  # the text names faults of this many newest parts
 MOST = 1 << 22  # bytes of a log that are read at once
 SAYS = "says in its log: "
-KILLED = "by signal 9"  # which no process sends to itself
+KILLED = "by signal 9"  # a server never sends this signal to itself
 
 
 class LogWatch:
@@ -37,10 +37,10 @@ class LogWatch:
             self._patterns = [re.compile(pattern) for pattern in patterns]
         except re.error as fault:
             raise ServerError(f"crashes of the server's class: {fault.pattern!r} is not a regular expression: {fault}") from fault
-        self._read: Dict[str, int] = {}  # by node: bytes that were looked at
+        self._read: Dict[str, int] = {}  # for each node: the bytes of its log that were searched
 
     def look(self) -> None:
-        """Raises a Died if there is one."""
+        """Raises a Died if a log has a matching line."""
         for node in self._nodes if self._patterns else []:
             for line in self._new_lines(node):
                 if any(pattern.search(line) for pattern in self._patterns):

@@ -15,7 +15,7 @@ class Crew:
     def __init__(self) -> None:
         self.size = 0
         self._changed = threading.Condition()
-        self._paused: Counter[int] = Counter()  # by how many strikes
+        self._paused: Counter[int] = Counter()  # for each paused client: the number of strikes that pause it
         self._crashed: Set[int] = set()
 
     def pause(self, number: int) -> None:
@@ -28,7 +28,7 @@ class Crew:
             self._changed.notify_all()
 
     def crash(self, number: int) -> None:
-        """At its next step."""
+        """Crashes a client at its next step."""
         with self._changed:
             self._crashed.add(number)
 
@@ -43,7 +43,7 @@ class Crew:
 
 
 class Mortal(Client):
-    """A client that strikes can reach: before each thing that it does, and after it."""
+    """A client that strikes can reach: before and after each of its operations."""
 
     def __init__(self, client: Client, crew: Crew, number: int) -> None:
         self.client, self.crew, self.number = client, crew, number

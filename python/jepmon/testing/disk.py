@@ -6,9 +6,9 @@ It needs only /dev/fuse, and root. Names (create, rename, unlink) are durable at
 synced: by fsync or fdatasync, or at once if the file was opened with O_SYNC or O_DSYNC. It reads commands, one in each line, and answers
 each with a line:
 
-    sync         all is durable now                             ok
-    lose         what is not durable is gone                    lost FILES BYTES
-    tear SEED    each sector of it is kept or gone, by a coin   lost FILES BYTES
+    sync         makes all data durable                               ok
+    lose         loses all data that is not durable                   lost FILES BYTES
+    tear SEED    keeps or loses each sector of such data, by a coin   lost FILES BYTES
 """
 from __future__ import annotations
 
@@ -25,17 +25,17 @@ from typing import Callable, Dict, List, Optional, Tuple
 from .mounts import mounted, unmount
 from .unsynced import Unsynced
 
-HEADER, ANSWER = struct.Struct("<IIQQIIII"), struct.Struct("<IiQ")  # of a request, and of an answer
+HEADER, ANSWER = struct.Struct("<IIQQIIII"), struct.Struct("<IiQ")  # the headers of a request and of an answer
 ATTRIBUTES = struct.Struct("<QQQQQQIIIIIIIIII")
-ENTRY, KEPT = struct.Struct("<QQQQII"), 3600  # seconds that the kernel may keep a name: nobody else changes it
-READ = struct.Struct("<QQIIQII")  # and write
+ENTRY, KEPT = struct.Struct("<QQQQII"), 3600  # 3600: the kernel may keep a name for so many seconds, since nobody else changes it
+READ = struct.Struct("<QQIIQII")  # of read and of write
 SET = struct.Struct("<IIQQQQQQIIIIIIII")
-REQUEST, MOST = 1 << 18, 1 << 17  # bytes of a request, and of what is written by one, at most
-BIG_WRITES, TRUNCATES = 1 << 5, 1 << 3  # what the kernel is asked for as it begins
+REQUEST, MOST = 1 << 18, 1 << 17  # the greatest number of bytes of a request, and of the data of one write
+BIG_WRITES, TRUNCATES = 1 << 5, 1 << 3  # features that are requested from the kernel at its beginning
 SYNCED = os.O_SYNC | os.O_DSYNC
 SETS_MODE, SETS_USER, SETS_GROUP, SETS_SIZE, SETS_ATIME, SETS_MTIME = 1, 2, 4, 8, 16, 32
-ROOT = 1  # number of the folder itself
-PUNCHES = 0x02 | 0x10 | 0x08 | 0x20  # modes of fallocate that change what is there
+ROOT = 1  # the number of the folder itself
+PUNCHES = 0x02 | 0x10 | 0x08 | 0x20  # modes of fallocate that change existing data
 
 
 class Inode:
@@ -43,7 +43,7 @@ class Inode:
 
     def __init__(self, number: int, path: int) -> None:
         self.number, self.path = number, path
-        self.known = 0  # how often the kernel has it
+        self.known = 0  # the number of references that the kernel has to it
         self.opened = 0
         self.file = -1  # open for reading and writing, if it is in use or has unsynced data
         self.unsynced: Optional[Unsynced] = None
@@ -72,7 +72,7 @@ class Disk:
         self._numbers: Dict[Tuple[int, int], int] = {}
         self._folders: Dict[int, List[Tuple[str, int, int]]] = {}  # the entries of open folders
         self._count = 0
-        self._user = self._group = 0  # who asks
+        self._user = self._group = 0  # the user and group of the present request
         self._found(os.open(backing, os.O_PATH | os.O_DIRECTORY)).known = 1
         self._answers: Dict[int, Callable[[Inode, bytes], bytes]] = {
             1: self._lookup, 3: self._get, 4: self._set, 5: lambda inode, _: os.fsencode(os.readlink("", dir_fd=inode.path)), 6: self._symlink,
@@ -134,7 +134,8 @@ class Disk:
                 self._leave(inode)
 
     def _leave(self, inode: Inode) -> None:
-        """Closes the files that nobody needs any more. Their unsynced blocks can still be lost, unless the file has no name."""
+        """Closes the files that nobody needs any more. The unsynced blocks of such a file can still be lost, unless the file has no
+        name."""
         if inode.opened or inode.unsynced is not None and os.fstat(inode.path).st_nlink:
             return
         if inode.file >= 0:
@@ -178,7 +179,7 @@ class Disk:
         old, new = body[names:].split(b"\0")[:2]
         to = self._inodes[struct.unpack_from("<Q", body)[0]]
         if flags & ~1:
-            raise OSError(errno.EINVAL, "of these flags only the one by which nothing is replaced")
+            raise OSError(errno.EINVAL, "only the flag that forbids to replace a file is supported")
         if flags and os.path.lexists(f"{to.name}/{os.fsdecode(new)}"):
             raise OSError(errno.EEXIST, "it is there")
         os.rename(old, new, src_dir_fd=folder.path, dst_dir_fd=to.path)
@@ -338,7 +339,7 @@ def serve(backing: str, point: str) -> None:
     try:
         while True:
             ready = [file for file, _ in poll.poll()]
-            if requests in ready:  # first: what was written before a command belongs to it
+            if requests in ready:  # requests come first: the writes before a command belong to it
                 answer = disk.handle(os.read(requests, REQUEST))
                 if answer is not None:
                     give(requests, answer)
@@ -350,7 +351,7 @@ def serve(backing: str, point: str) -> None:
             for line in lines:
                 print(disk.obey(line.decode().split()), flush=True)
     except OSError as fault:
-        if fault.errno != errno.ENODEV:  # it was unmounted by others
+        if fault.errno != errno.ENODEV:  # somebody else has unmounted it
             raise
     finally:
         try:
@@ -363,7 +364,7 @@ def give(requests: int, answer: bytes) -> None:
     try:
         os.write(requests, answer)
     except FileNotFoundError:
-        pass  # who asked was killed
+        pass  # the process that asked was killed
 
 
 if __name__ == "__main__":

@@ -24,15 +24,15 @@ class Disk:
             raise ServerError(f"a disk that can lose power can't be made: {mounts.why_not() or 'its process has ended'}")
 
     def sync(self) -> None:
-        """All that is there is durable."""
+        """Makes all data durable."""
         self._tell("sync")
 
     def lose(self) -> str:
-        """Unsynced data is lost. Says how much: `lost FILES BYTES`."""
+        """Loses unsynced data. Returns how much: `lost FILES BYTES`."""
         return self._tell("lose")
 
     def tear(self, seed: int) -> str:
-        """A coin decides for each unsynced sector whether it is kept or lost."""
+        """Lets a coin decide for each unsynced sector whether it is kept or lost."""
         return self._tell(f"tear {seed}")
 
     def end(self) -> None:
@@ -61,6 +61,6 @@ class Disk:
 
 
 def why_not() -> Optional[str]:
-    """Why there can be no such disk here; None if there can."""
+    """Returns the reason why such a disk is impossible here. None if it is possible."""
     reason = mounts.why_not()
-    return f"it takes a file system by FUSE, as root on Linux: {reason}" if reason else None
+    return f"it needs a file system by FUSE, as root on Linux: {reason}" if reason else None

@@ -12,7 +12,7 @@ class ServerError(Exception):
 
 
 class Died(ServerError):
-    """A node has ended without being told to, or its log says that it has crashed. `how` says which."""
+    """A node has ended although the test has not ended it, or its log says that it has crashed. `how` says which."""
 
     def __init__(self, node: str, how: str, log: pathlib.Path, said: str = "") -> None:
         super().__init__(f"{node} {how}{said}")
@@ -20,7 +20,7 @@ class Died(ServerError):
 
     @property
     def note(self) -> str:
-        """For the history, as it is found."""
+        """The note for the history when the crash is found."""
         return f"{self.node} {self.how}"
 
 

@@ -18,9 +18,9 @@ if TYPE_CHECKING:
     from .run import Given
 
 NAME = "test"
-PATIENCE = 20.0  # seconds for a server to say its version
-NAMES = {"model": "object", "least": "min-ok", "keep_nodes": "keep-nodes"}  # of options that are called otherwise
-LEFT_OUT = ("server", "out", "plant", "keep", "patience", "stages", "reserved", "times", "by_ends")  # the last four stand in the command line
+PATIENCE = 20.0  # a server has this many seconds to print its version
+NAMES = {"model": "object", "least": "min-ok", "keep_nodes": "keep-nodes"}  # the names of options, if they differ from the fields
+LEFT_OUT = ("server", "out", "plant", "keep", "patience", "stages", "reserved", "times", "by_ends")  # the command line shows the last four
 
 
 def facts_of(given: Given, network: str, kinds: Sequence[str]) -> Dict[str, str]:

@@ -13,7 +13,7 @@ from .losses import Acknowledged, brought_by
 class Failure(NamedTuple):
     """An operation that failed, and whose value the illegal event shows or forces."""
 
-    what: str  # as "write of 11"
+    what: str  # the operation in words, such as "write of 11"
     value: int
     before: Acknowledged  # the changes that were acknowledged before it began
 

@@ -1,4 +1,4 @@
-"""A process and all that it has started: servers like PostgreSQL and RabbitMQ are many processes, each in a session of its own.
+"""A process and all processes that it has started: servers like PostgreSQL and RabbitMQ are many processes, each in a session of its own.
 
 A process that forks twice leaves its child without a parent. On Linux the nearest process above that adopts (a child subreaper) gets such
 an orphan. So a server's first process adopts, and its orphans stay in its family. The test adopts the orphans of a server that has ended by
@@ -13,10 +13,10 @@ import pathlib
 import signal
 from typing import Dict, List
 
-ROUNDS = 8  # in which a family that forks is stopped
+ROUNDS = 8  # a family that forks is stopped in at most this many rounds
 ADOPTS = 36  # PR_SET_CHILD_SUBREAPER
-MARK = "JEPMON_NODE"  # in the environment of each process of a node
-PROCESS = getattr(ctypes.CDLL(None), "prctl", None)  # of Linux; looked up here, not between a fork and an exec
+MARK = "JEPMON_NODE"  # the environment of each process of a node has this variable
+PROCESS = getattr(ctypes.CDLL(None), "prctl", None)  # a call of Linux; looked up here, and not between a fork and an exec
 
 
 def adopt() -> None:
@@ -62,7 +62,7 @@ def family(pid: int) -> List[int]:
 
 
 def parent_of(pid: int) -> int:
-    """The parent, or -1 where there is no such process."""
+    """Returns the parent of a process, or -1 if there is no such process."""
     try:
         with open(f"/proc/{pid}/stat", encoding="ascii", errors="replace") as file:
             return int(file.read().rpartition(")")[2].split()[1])

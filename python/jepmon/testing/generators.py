@@ -11,7 +11,7 @@ LASTING = (1.0, 4.0)  # seconds of a phase
 
 class Phase(NamedTuple):
     end: float
-    speed: float  # by which the rate is greater
+    speed: float  # the factor by which the rate is greater
     changes: float  # the share of operations that change something
 
 
@@ -44,6 +44,6 @@ class Pace:
         if rate == 0:
             return
         now = time.monotonic()
-        self._next = max(self._next + self._draws.uniform(0.0, 2.0) / rate, now - 0.1)  # late ones are made up for
+        self._next = max(self._next + self._draws.uniform(0.0, 2.0) / rate, now - 0.1)  # the client makes up for late operations
         if self._next > now:
             time.sleep(self._next - now)

@@ -17,11 +17,11 @@ from typing import List, Set
 from .family import kill_family
 from .mounts import unmount_below
 
-PATIENCE, PAUSE = 5.0, 0.05  # seconds for a folder to be removed, and between two tries
+PATIENCE, PAUSE = 5.0, 0.05  # the seconds in which a folder is removed, and the seconds between two tries
 
 
 class Guard:
-    """The test's side of it."""
+    """The test's side of the guard."""
 
     def __init__(self, folder: pathlib.Path) -> None:
         self._process = subprocess.Popen(module("guard"), stdin=subprocess.PIPE, start_new_session=True, env=environment())

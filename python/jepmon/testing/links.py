@@ -20,21 +20,21 @@ __all__ = ["AUTO", "CLIENTS", "CUT", "DIRECT", "Effect", "Links", "NAMESPACES", 
            "network"]
 
 AUTO, NAMESPACES, PROXY, DIRECT = "auto", "namespaces", "proxy", "direct"
-NETWORKS = (AUTO, NAMESPACES, PROXY)  # what --network takes
+NETWORKS = (AUTO, NAMESPACES, PROXY)  # the values of --network
 NET, CLIENTS_HOST = "10.0.0.", 200
 
 
 def network(asked: str, needs_links: bool, needs_addresses: bool = False) -> str:
     """The way to reach the nodes: DIRECT if nothing strikes their links, otherwise namespaces if this machine allows them. Nodes that need
-    addresses of their own always take namespaces."""
+    addresses of their own always use namespaces."""
     if needs_addresses and asked == PROXY:
-        raise ServerError(f"--network {PROXY}: the nodes of this server find one another by their addresses: several take {NAMESPACES}")
+        raise ServerError(f"--network {PROXY}: the nodes of this server find one another by their addresses: several nodes need {NAMESPACES}")
     if asked == AUTO and not needs_addresses:
         return DIRECT if not needs_links else PROXY if why_not() else NAMESPACES
     fault = why_not() if asked != PROXY else None
     if fault:
-        others = "one node takes none" if needs_addresses else f"{PROXY} takes no rights"
-        raise ServerError(f"--network {NAMESPACES}: there are none to be had here: {fault}; they take root, and {others}")
+        others = "one node needs none" if needs_addresses else f"{PROXY} needs no rights"
+        raise ServerError(f"--network {NAMESPACES}: namespaces are not possible here: {fault}; they need root, and {others}")
     return PROXY if asked == PROXY else NAMESPACES
 
 
@@ -46,13 +46,13 @@ class Effect(NamedTuple):
 
     cut: bool = False
     delay: float = 0.0
-    jitter: float = 0.0  # at most, in addition to the delay
+    jitter: float = 0.0  # the greatest addition to the delay
     loss: float = 0.0
     reorder: float = 0.0
     corrupt: float = 0.0
 
     def and_(self, other: Effect) -> Effect:
-        """The effects of both on a packet."""
+        """Returns both effects together."""
         loss, reorder, corrupt = (1 - (1 - one) * (1 - two) for one, two in zip(self[3:], other[3:]))
         return Effect(self.cut or other.cut, self.delay + other.delay, self.jitter + other.jitter, loss, reorder, corrupt)
 
@@ -76,13 +76,13 @@ class Links:
                                          start_new_session=True, env=environment(), pass_fds=files)
 
     def up(self, node: Node) -> None:
-        """The node has a process, and will listen."""
+        """Notes that the node has a process, which will listen."""
 
     def down(self, node: Node) -> None:
-        """Nothing listens there any more."""
+        """Notes that nothing listens at the node any more."""
 
     def clients(self) -> "contextlib.AbstractContextManager[None]":
-        """This thread is where clients are."""
+        """Moves this thread, for the block, to the place of the clients."""
         return contextlib.nullcontext()
 
     def hold(self, pairs: List[Pair], effect: Effect) -> int:
@@ -110,7 +110,7 @@ class Links:
             self._tell(line)
 
     def _tell(self, line: str) -> None:
-        """The caller has the lock."""
+        """Sends a line to the process of the links. The caller has the lock."""
         assert self._process.stdin is not None and self._process.stdout is not None
         try:
             self._process.stdin.write(line.encode() + b"\n")
@@ -143,7 +143,7 @@ class Proxied(Links):
         super().__init__("proxy", ends)
 
     def up(self, node: Node) -> None:
-        """Registers the node's process: its connections are those of the node, and others get through when it listens."""
+        """Registers the node's process: the connections that it makes are the node's, and others reach it as soon as it listens."""
         if node.pid is not None:
             self.tell(f"node {node.name} {node.pid}")
         self.tell(f"up {node.name}")
@@ -154,7 +154,7 @@ class Proxied(Links):
 
 
 class Switched(Links):
-    """Between network namespaces: each node has one, and the clients have one."""
+    """Links between network namespaces: each node has one, and the clients have one."""
 
     def __init__(self, nodes: Sequence[Node]) -> None:
         with contextlib.ExitStack() as made, contextlib.ExitStack() as handed_over:

@@ -19,9 +19,9 @@ class One(NamedTuple):
     """A value whose operation was acknowledged."""
 
     value: int
-    moment: int  # of the acknowledgement, in nanoseconds from the begin of the run
-    fault: str  # how long before which fault this was, or, if no fault followed, how long after which one
-    begun: int = 0  # the event with which its operation began
+    moment: int  # the time of the acknowledgement, in nanoseconds from the beginning of the run
+    fault: str  # the time to the fault that followed, in words; if no fault followed, the time since the last fault
+    begun: int = 0  # the index of the event with which its operation began
 
 
 class Acknowledged(NamedTuple):
@@ -32,7 +32,7 @@ class Acknowledged(NamedTuple):
     @classmethod
     def of(cls, events: Sequence[Event], index: int, faults: Sequence[Fault]) -> Acknowledged:
         found = []
-        begun: Dict[int, int] = {}  # by process
+        begun: Dict[int, int] = {}  # for each process: the index at which its operation began
         for event in events:
             begun.setdefault(event.process, event.index)
             brought = brought_by(event)
@@ -44,7 +44,7 @@ class Acknowledged(NamedTuple):
         return cls(found)
 
     def after(self, index: int) -> List[One]:
-        """The values whose operation began after that event."""
+        """Returns the values whose operation began after the event `index`."""
         return [one for one in self.values if one.begun > index]
 
     def missing(self, held: "frozenset[int]") -> List[One]:
@@ -66,14 +66,15 @@ def brought_by(event: Event) -> Optional[int]:
 
 
 def beside(faults: Sequence[Fault], moment: int) -> str:
-    """The fault that was ending a process at this moment. Otherwise the fault that followed, or else the last fault before it."""
+    """Returns, in words, the fault that was ending a process at this moment. Otherwise it is the fault that followed, or the last fault
+    before the moment."""
     if any(map(ends_a_process, holding(faults, moment))):
         return since(faults, moment)
     return until(faults, moment) or since(faults, moment)
 
 
 def told(one: One) -> str:
-    """As "5 was acknowledged at 1.04 s, 0.07 s before .."."""
+    """Returns a text such as "5 was acknowledged at 1.04 s, 0.07 s before .."."""
     return f"{one.value} was acknowledged at {seconds(one.moment)}" + (f", {one.fault}" if one.fault else "")
 
 
@@ -86,7 +87,7 @@ def many(lost: Sequence[One], of: int = 12) -> str:
 
 
 def line(name: str, one: One) -> str:
-    """Of a list."""
+    """Returns a line of the list of losses."""
     return f"{name}: {told(one)}\n"
 
 

@@ -9,12 +9,12 @@ if TYPE_CHECKING:
 
 
 class Account:
-    """Of one queue."""
+    """The messages of one queue."""
 
     def __init__(self) -> None:
-        self.missing: Set[int] = set()  # taken, and not come
-        self.early: Set[int] = set()  # come before the server had acknowledged them
-        self.may_have_come = 0  # of the missing messages, since dequeues timed out
+        self.missing: Set[int] = set()  # the messages that the server acknowledged and that have not come
+        self.early: Set[int] = set()  # the messages that have come before the server acknowledged them
+        self.may_have_come = 0  # how many of the missing messages timed-out dequeues may have taken
 
     @property
     def lost(self) -> int:
@@ -65,7 +65,7 @@ class Messages:
 
     @property
     def missing(self) -> List[LongObject]:
-        """The queues of which something is."""
+        """The queues of which messages are missing."""
         with self._lock:
             return [queue for queue, account in self._accounts.items() if account.lost]
 

@@ -10,7 +10,7 @@ from typing import List, Optional
 
 DEVICE = "/dev/fuse"
 NO_SUID, NO_DEVICES = 2, 4  # MS_NOSUID, MS_NODEV
-DETACH = 2  # MNT_DETACH: also where something is still open in it
+DETACH = 2  # MNT_DETACH: also if files in it are still open
 MOUNTS = "/proc/self/mounts"
 
 
@@ -59,7 +59,7 @@ def flush(point: str) -> None:
 
 
 def why_not() -> Optional[str]:
-    """Why nothing can be mounted here; None if it can."""
+    """Returns the reason why nothing can be mounted here. None if mounting is possible."""
     with tempfile.TemporaryDirectory(prefix="jepmon-mount-") as point:
         try:
             requests = mounted(point, "jepmon")

@@ -16,12 +16,12 @@ if TYPE_CHECKING:
 
 
 def planned(given: Given) -> Plan:
-    """The strikes for --nemesis. A ServerError says which strikes are impossible, and which are left."""
+    """The strikes for --nemesis. Raises a ServerError if a named strike is impossible; its text also names the possible strikes."""
     server = given.server
     strikes = strikes_of(server)
     here: Dict[str, Callable[[], Optional[str]]] = {NEEDS_PACKETS: lambda: packets(given.network), NEEDS_DISK: disks.why_not,
                                                         NEEDS_CLOCK: clocks.why_not}
-    found: Dict[str, Optional[str]] = {}  # by what is needed
+    found: Dict[str, Optional[str]] = {}  # for each need: the reason why it is not met, or None
 
     def why_not(name: str) -> Optional[str]:
         if name in server.cannot:
@@ -39,8 +39,8 @@ def planned(given: Given) -> Plan:
 
 
 def packets(network: str) -> Optional[str]:
-    """Why packets can't be struck; None if they can."""
+    """Returns the reason why faults of packets are impossible. None if they are possible."""
     if network == PROXY:
-        return "the proxy carries bytes, not packets: it takes --network namespaces"
+        return "the proxy carries bytes, not packets: this needs --network namespaces"
     reason = places.why_not()
-    return f"it takes network namespaces, which can't be had here: {reason}" if reason else None
+    return f"it needs network namespaces, which are not possible here: {reason}" if reason else None

@@ -22,11 +22,12 @@ if TYPE_CHECKING:
 ADDRESS = "127.0.0.1"
 At = Tuple[str, int]
 GLANCE = 0.1  # seconds between two looks
-LAST_LINES = 3  # of a log, in an error
+LAST_LINES = 3  # an error shows this many last lines of a log
+# Texts in a log that say why the system can't do something.
 TELLING = ("no space left on device", "disk quota exceeded", "read-only file system", "unable to write", "address already in use",
-           "permission denied", "cannot allocate memory", "out of memory", "too many open files")  # in a log, of what can't be done
-AGAIN = "--- started again\n"  # in a log
-ELSEWHERE = 2.0  # seconds after which a server that listens at another address will no longer listen at its own
+           "permission denied", "cannot allocate memory", "out of memory", "too many open files")
+AGAIN = "--- started again\n"  # the line in a log at a restart
+ELSEWHERE = 2.0  # if a server listens at another address for this many seconds, it will not listen at its own address any more
 
 
 class Node:
@@ -38,12 +39,12 @@ class Node:
         self.number, self.name, self.folder, self.log, self.ports = number, f"n{number + 1}", folder, log, ports
         self.address = ADDRESS
         self.reach = dict(ports)
-        self.place: Optional[Place] = None  # its network namespace, where it has one
-        self.user: Optional[str] = None  # by whom it is run, where it must not be root
+        self.place: Optional[Place] = None  # its network namespace, if it has one
+        self.user: Optional[str] = None  # the user who runs it, if this must not be root
         self.environment: Dict[str, str] = {}
-        self.preloaded: Dict[str, str] = {}  # of the environment too: the test's own
+        self.preloaded: Dict[str, str] = {}  # variables of the environment that the test itself sets
         self.words: List[str] = []
-        self.starts = 0  # how often it was started
+        self.starts = 0  # the number of its starts
         self._mark = str(folder)
         self._guard = guard
         self._process: Optional["subprocess.Popen[bytes]"] = None
@@ -51,12 +52,12 @@ class Node:
 
     @property
     def port(self) -> int:
-        """Where clients reach it."""
+        """The port at which clients reach it."""
         return self.reach["client"]
 
     @property
     def at(self) -> At:
-        """Where clients reach it: its address, and its port."""
+        """The address and the port at which clients reach it."""
         return self.address, self.port
 
     @property
@@ -76,7 +77,7 @@ class Node:
     # --- Its process ---
 
     def start(self) -> None:
-        """Starts it; it may take some time until it answers."""
+        """Starts the node. Some time may pass until it answers."""
         with self._lock, open(self.log, "ab") as log, self.inside():
             log.write(AGAIN.encode() if self.starts else b"")
             log.flush()
@@ -133,7 +134,7 @@ class Node:
             try:
                 ready()
                 return
-            except Exception as fault:  # whatever it is, it is not ready
+            except Exception as fault:  # after any exception the node is not ready
                 if time.monotonic() > begun + seconds:
                     raise ServerError(f"{self.name} {what} for {seconds:g} s ({one_line(fault)}){self.said()}") from fault
                 if time.monotonic() > begun + ELSEWHERE:
@@ -147,19 +148,19 @@ class Node:
         it may speak to itself."""
         if "client" in self.ports and listens((ADDRESS, self.ports["client"])) and not listens(self.listens_at):
             raise ServerError(f"{self.name} listens at {ADDRESS}, port {self.ports['client']}, where nobody else reaches it in its network "
-                              f"namespace: let it listen at node.address, which is {self.address}, or take --network proxy")
+                              f"namespace: let it listen at node.address, which is {self.address}, or use --network proxy")
 
     def accepts(self, name: str = "client") -> None:
-        """Raises an OSError if it does not listen at this port."""
+        """Raises an OSError if the node does not listen at this port."""
         socket.create_connection((self.address, self.ports[name]), 1.0).close()
 
     def write_log(self, text: str) -> None:
-        """Says in its log what the test did to it."""
+        """Writes into the node's log an action of the test on the node."""
         with open(self.log, "a", encoding="utf-8") as log:
             log.write(f"--- {text}\n")
 
     def said(self) -> str:
-        """Where its log is, and its last lines, for an error."""
+        """Returns the path and the last lines of the node's log, for an error."""
         try:
             lines = self.log.read_text(errors="replace").split("\n")
         except OSError:
@@ -244,7 +245,7 @@ def begun(words: Sequence[str], log: IO[bytes], folder: Union[str, pathlib.Path]
 def completed(words: Sequence[str], log: pathlib.Path, user: Optional[str] = None, environment: Optional[Dict[str, str]] = None,
               guard: Optional[Guard] = None) -> None:
     """Runs a program to its end, such as a program that prepares a server's folder. Its output is written to the log. If the test ends
-    earlier, so does the program, with all its processes."""
+    earlier, the program ends too, with all its processes."""
     process: Optional["subprocess.Popen[bytes]"] = None
     try:
         with open(log, "ab") as file, undisturbed():

@@ -15,7 +15,7 @@ from typing import Iterator, Optional
 NEW_NETWORK = 0x40000000  # CLONE_NEWNET
 HERE = "/proc/thread-self/ns/net"
 TUN, DEVICE = "/dev/net/tun", b"jepmon"
-MASK, PACKET = "255.255.255.0", 9000  # bytes of a packet at most
+MASK, PACKET = "255.255.255.0", 9000  # the network mask, and the greatest number of bytes of a packet
 SET_TUN, IS_TUN = 0x400454CA, 0x1001  # IFF_TUN, and IFF_NO_PI: a file of packets of IP
 SET_FLAGS, SET_ADDRESS, SET_MASK, SET_MTU = 0x8914, 0x8916, 0x891C, 0x8922
 IS_UP = 0x41  # IFF_UP and IFF_RUNNING
@@ -46,7 +46,7 @@ class Place:
             yield
 
     def leave_packets(self) -> None:
-        """Another process has the file now."""
+        """Closes the file of packets here: another process has it now."""
         os.close(self.packets)
 
     def end(self) -> None:
@@ -66,7 +66,7 @@ def why_not() -> Optional[str]:
 
 @contextlib.contextmanager
 def _back() -> Iterator[None]:
-    """This thread is where it was, afterwards."""
+    """Moves this thread back to its namespace after the block."""
     home, name = os.open(HERE, os.O_RDONLY), os.readlink(HERE)
     try:
         yield

@@ -6,11 +6,11 @@ sent them again. So a request that timed out may take place later.
 Its one word is a JSON list of [port, port of the server, name of the node]. It reads commands, a line each, and answers `ok`:
 
     node n1 PID          the process of a node, by which the connections that it makes are known
-    down n1              nothing listens for the node: a connection to it is refused, as where there were no link
+    down n1              nothing listens for the node: a connection to it is refused, as without a link
     up n1                it listens as soon as the node does
     way A B CUT DELAY JITTER LOSS REORDER CORRUPT
-                         what A sends to B is held, or comes later, as Effect of links.py says; A and B are names of nodes, or `clients`. The
-                         proxy carries bytes and not packets: it takes no share of them
+                         the bytes from A to B are held or delayed, as Effect of links.py says; A and B are names of nodes, or `clients`. The
+                         proxy carries bytes and not packets, so it has no effects on a share of packets
 """
 from __future__ import annotations
 
@@ -32,7 +32,7 @@ GLANCE = 0.02  # seconds between two looks whether a server listens
 
 
 class Way:
-    """The bytes from one to another."""
+    """The bytes from one place to another."""
 
     def __init__(self) -> None:
         self.open = asyncio.Event()
@@ -87,7 +87,7 @@ class Proxy:
         self.ways: Dict[Tuple[str, str], Way] = {}
         self.pids: Dict[str, int] = {}
         self.listening: Dict[int, asyncio.AbstractServer] = {}
-        self.waiting: Dict[int, "asyncio.Task[None]"] = {}  # for the server to listen
+        self.waiting: Dict[int, "asyncio.Task[None]"] = {}  # tasks that wait until the server listens
         self.connections: Set["asyncio.Task[None]"] = set()
 
     def way(self, source: str, target: str) -> Way:
@@ -162,7 +162,7 @@ def source_of(port: int, to: int, pids: Dict[str, int]) -> str:
     wanted = f"socket:[{inode}]"
     if not inode or wanted in open_files(os.getppid()):
         return CLIENTS
-    for only_first in (True, False):  # of most servers one process makes all connections
+    for only_first in (True, False):  # in most servers the first process makes all connections
         for name, pid in pids.items():
             for member in [pid] if only_first else family(pid)[1:]:
                 if wanted in open_files(member):
@@ -204,7 +204,7 @@ async def serve(links: List[Link]) -> None:
     while True:
         line = (await lines.readline()).decode()
         if not line:
-            os._exit(0)  # the test has ended: so does everything that is still carried
+            os._exit(0)  # the test has ended, so all connections end too
         try:
             await proxy.obey(line.split())
             reply = "ok"

@@ -49,7 +49,7 @@ def _lines(outcome: Outcome) -> Iterator[str]:
 
 
 def cause(outcome: Outcome) -> List[str]:
-    """Why it is not legal, as the run's folder has it."""
+    """Returns the cause in the run's folder, if the run is not legal."""
     try:
         return (outcome.part / CAUSE).read_text(errors="replace").splitlines()
     except OSError:

@@ -32,10 +32,10 @@ from .workloads import Work, works_of
 if TYPE_CHECKING:
     from ..long import LongMonitor, LongOperation
 
-EVENTS = 1 << 18  # of a part
-PART = " of part-"  # in a verdict
+EVENTS = 1 << 18  # the events of a part
+PART = " of part-"  # the text before the number of a part in a verdict
 COUNTED = ("lost", "crashed")  # the first words of verdicts that no history shows
-PAUSE = 0.01  # seconds after an operation that was not ok: not thousands of refused connections a second
+PAUSE = 0.01  # seconds to wait after an operation that was not ok, so that there are not thousands of refused connections a second
 
 
 class Given(NamedTuple):
@@ -53,29 +53,29 @@ class Given(NamedTuple):
     nodes: int
     network: str
     least: int
-    patience: float  # 0: the server's own
+    patience: float  # seconds; 0: the server's own setting
     out: str
-    keep: Optional[int]  # of parts that are legal
-    durability: str = ""  # how the server keeps what it acknowledges; empty: as its first one
+    keep: Optional[int]  # the number of legal parts that are kept
+    durability: str = ""  # the setting of --durability; empty: the first setting of the server
     keep_nodes: str = FINDING  # when the nodes' data are kept
-    stages: Tuple[Stage, ...] = ()  # of --phases
-    reserved: Tuple[float, ...] = ()  # of --reserve
-    times: int = 1  # how many tests, with one seed after the other
+    stages: Tuple[Stage, ...] = ()  # the stages of --phases
+    reserved: Tuple[float, ...] = ()  # the shares of --reserve
+    times: int = 1  # the number of tests, each with the next seed
     by_ends: bool = False  # whether each key is judged by all its ends
 
 
 class Outcome(NamedTuple):
     """The result of a test."""
 
-    verdict: str  # legal, illegal .., unknown ..; empty where there is none
-    reason: str  # why there is none, or what else is wrong
+    verdict: str  # legal, illegal .., unknown ..; empty if there is no verdict
+    reason: str  # the reason why there is no verdict, or another fault
     status: int
     counts: Dict[str, Counter[str]]
     events: int
     at_work: Dict[str, Counter[str]]  # the counts while clients were at work, without the operations at the end
-    seconds: float  # in which they were
+    seconds: float  # the seconds during which clients were at work
     parts: int
-    not_judged: List[str]  # a line each
+    not_judged: List[str]  # lines about operations that were not judged
     strikes: Counter[str]
     lost: int
     folder: pathlib.Path
@@ -101,7 +101,7 @@ class Test:
         self.at_work: Dict[str, Counter[str]] = {}
         self.struck: Counter[str] = Counter()
         self.crash = ""  # the verdict on a server that has crashed
-        self.broken_off: Optional[Outcome] = None  # what there was, where Ctrl-C or a signal ended the test
+        self.broken_off: Optional[Outcome] = None  # the result so far, if Ctrl-C or a signal ended the test
 
     def run(self) -> Outcome:
         """Runs the test. Raises Ctrl-C again after everything has ended. Raises a Refused of jepmon, for example if the program is missing,
@@ -142,7 +142,7 @@ class Test:
         return outcome
 
     def _fault(self, fault: Exception) -> str:
-        """The message of an unexpected exception: mostly one of the client, in a file of the user's."""
+        """Returns the message of an unexpected exception. Mostly it is an exception of the client, in a file of the user's."""
         file = getattr(sys.modules.get(self.given.server.__module__), "__file__", None)
         said = where(fault, pathlib.Path(file) if file else None)
         return f"a fault of the client: {said}"
@@ -200,7 +200,7 @@ class Test:
         return Mortal(client, cluster.crew, number) if self.plan.needs(NEEDS_CREW) else client
 
     def _finish(self, monitor: LongMonitor, work: Work, cluster: Cluster) -> None:
-        """Does the remaining operations after all faults have ended. Each node must answer them."""
+        """Does the last operations after all faults have ended. Each node must answer them."""
         monitor.note(OVER)
         with contextlib.ExitStack() as over:
             with noted(monitor):
@@ -228,11 +228,11 @@ class Test:
             work.finish(ask)
 
     def _outcome(self, monitor: LongMonitor, work: Work, reason: str) -> Outcome:
-        """The verdict, if enough operations were ok to have one."""
+        """Returns the result, with a verdict if enough operations were ok."""
         assert monitor.folder is not None
         verdict, *not_judged = monitor.close().split("\n")
         counts, status = monitor.counts, 0
-        reason = reason or (f"what clients did was not kept: {monitor.lost}" if monitor.lost else "")
+        reason = reason or (f"the history was not kept: {monitor.lost}" if monitor.lost else "")
         few = [f"{counts.get(name, Counter())['ok']} of {name}" for name in work.names
                if counts.get(name, Counter())["ok"] < self.given.least]
         if verdict.startswith("illegal"):
@@ -250,7 +250,7 @@ class Test:
         elif not verdict.startswith("legal"):
             status = 2
         elif not_judged:
-            verdict, status, reason = "unknown", 2, "what was judged is legal, and not all was judged"
+            verdict, status, reason = "unknown", 2, "the judged operations are legal, and some operations were not judged"
         return Outcome(verdict, reason, status, counts, monitor.length, self.at_work, max(self.ended - self.begun, 0.001), monitor.segments,
                        not_judged, self.struck, work.lost, monitor.folder)
 
@@ -262,7 +262,7 @@ def leave(folder: pathlib.Path, verdict: str, reason: str) -> None:
             said = f"no verdict: {reason}" if not verdict else f"{verdict}; {reason}" if reason else verdict
             command.write_file(folder / VERDICT, said + "\n")
         except OutputError:
-            (folder / VERDICT).unlink(missing_ok=True)  # on a disk that is full
+            (folder / VERDICT).unlink(missing_ok=True)  # removes the verdict if the disk is full
 
 
 @contextlib.contextmanager

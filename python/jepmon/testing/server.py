@@ -1,4 +1,4 @@
-"""A server under test: the commands of its nodes, and its clients. One file for a server; template.py is the smallest."""
+"""A server under test: the commands of its nodes, and its clients. Each server is one file; template.py is the smallest example."""
 from __future__ import annotations
 
 import shutil
@@ -17,21 +17,21 @@ ALL_STRIKES = ("kill", "pause", "cut", "partition", "slow", "halves", "oneway", 
 class Client:
     """The client of one thread, with the operations of its object: `read` and `write` of a register, also `cas` of a cas-register;
     `acquire` and `release` of a mutex. A queue has `enqueue` and `dequeue`, and a set `add` and `read`. Values are integers. `read` of a
-    register and `dequeue` give None if there is no value; `cas`, `acquire` and `release` give whether they took effect. Each returns once
-    the server has answered. If it has not, an exception says what is known:
+    register and `dequeue` return None if there is no value; `cas`, `acquire` and `release` return whether they took effect. Each method
+    returns once the server has answered. If the server has not answered, the method raises an exception of one of these sorts:
 
     certain  it certainly did not take place, for example if the connection was refused, so that nothing was sent: a :fail
-    unsure   it may have taken place, or may yet, for example after a timeout: an :info
+    unsure   it may have taken place, or may still take place, for example after a timeout: an :info
 
     Failed (jepmon.testing.Failed) is always certain; raise it if a message has come before. Any other exception is a fault of the
     client, and ends the test. A client must not retry by itself."""
 
     certain: Exceptions = (ConnectionRefusedError,)
     unsure: Exceptions = (OSError,)
-    work: float = 0.02  # the seconds for which a lock is held at most
+    work: float = 0.02  # a client holds a lock for at most this many seconds
 
     def rest(self, seconds: float) -> None:
-        """Does something else for a time, for example while it holds a lock."""
+        """Sleeps for some seconds, for example while the client holds a lock."""
         time.sleep(seconds)
 
     def close(self) -> None:
@@ -39,8 +39,8 @@ class Client:
 
 
 class Leases:
-    """The locks with a lease that a client could not release. The client tries again before its next acquire. This is allowed by the :info
-    of the release, since the release may take place at any later moment. So no lock stays held for the rest of its lease."""
+    """The locks with a lease that a client could not release. The client tries again before its next acquire. The :info of the release
+    allows this, since it says that the release may take place at any later moment. So no lock stays held for the rest of its lease."""
 
     def __init__(self) -> None:
         self._owed: List[Tuple[int, str]] = []
@@ -60,7 +60,7 @@ class Leases:
 class Plant(NamedTuple):
     """A known fault, which the test must find."""
 
-    text: str  # what is wrong
+    text: str  # the fault, in words
     model: str
     nemesis: str = "none"  # the strikes that show it
     nodes: int = 0  # the nodes that it needs, if not the server's own number
@@ -70,12 +70,12 @@ class Server:
     """A server or a group of them. A subclass needs `objects`, `command` and `client`."""
 
     programs: Mapping[str, str] = {}  # each program that it needs, and the package of Debian that has it
-    objects: Mapping[str, Type[Client]] = {}  # the models that it can be, and the client of each; the first is the default
-    bears: Mapping[str, Tuple[str, ...]] = {}  # by model: the strikes under which it ought to be right, if not ALL_STRIKES
+    objects: Mapping[str, Type[Client]] = {}  # its models, and the client of each; the first model is the default
+    bears: Mapping[str, Tuple[str, ...]] = {}  # for each model: the strikes that it should survive, if not ALL_STRIKES
     survives_power: bool = False  # with its first durability it syncs acknowledged data, so that `all` has power and tear too
     durabilities: Mapping[str, str] = {}  # settings for acknowledged data, each with a text; --durability NAME sets self.durability
     strikes: Mapping[str, Strike] = {}  # its own strikes, by name (strikes/kind.py)
-    cannot: Mapping[str, str] = {}  # strikes that it cannot be tested under, and why
+    cannot: Mapping[str, str] = {}  # strikes under which it cannot be tested, and the reasons
     workloads: Mapping[str, Type[Work]] = {}  # its own workloads, by model (workloads.py)
     plants: Mapping[str, Plant] = {}
     ports: Tuple[str, ...] = ("client",)  # the names of the ports of each node

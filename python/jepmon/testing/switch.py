@@ -1,12 +1,12 @@
 """The links between network namespaces (places.py): a process that takes each packet from one namespace and passes it to another. It can
 lose or delay the packets of one direction.
 
-Packets on a cut link are lost, as on a wire. TCP sends them again, so a request that timed out may take place later. The same holds for a
-single lost packet, and for a packet with a flipped bit, since the receiving kernel finds a wrong checksum.
+Packets on a cut link are lost, as on a wire. TCP sends them again, so a request that timed out may take place later. TCP also sends
+a single lost packet again, and a packet with a flipped bit, since the receiving kernel finds a wrong checksum.
 
 Its one word is a JSON list of [name, address, file of packets]. It reads commands, a line each, and answers `ok`:
 
-    way A B CUT DELAY JITTER LOSS REORDER CORRUPT     what happens to what A sends to B, as Effect of links.py; A and B are of these names
+    way A B CUT DELAY JITTER LOSS REORDER CORRUPT     the effect on the packets from A to B, as in Effect of links.py
 """
 from __future__ import annotations
 
@@ -23,13 +23,13 @@ from typing import Dict, List, Optional, Tuple
 from .places import PACKET
 
 End = Tuple[str, str, int]  # the name of a place, its address, and the file of its packets
-LATER = 0.02  # seconds by which a packet comes after later ones
-BATCH = 64  # packets of one file before it is the turn of the others
-ENDS = slice(12, 20)  # of a packet: the two addresses, sender and receiver
+LATER = 0.02  # a reordered packet is late by this number of seconds
+BATCH = 64  # at most this many packets of one file are passed on in its turn
+ENDS = slice(12, 20)  # the bytes of a packet that have the two addresses, sender and receiver
 
 
 class Way:
-    """The packets from one to another."""
+    """The packets from one place to another."""
 
     def __init__(self, target: int) -> None:
         self.target = target
@@ -104,11 +104,11 @@ def give(way: Way, packet: bytes) -> None:
     try:
         os.write(way.target, packet)
     except OSError:
-        pass  # it is lost, as where a queue is full
+        pass  # the packet is lost, as if a queue were full
 
 
 def serve(ends: List[End]) -> None:
-    """Until standard input ends: the test has gone."""
+    """Passes packets on until standard input ends, which means that the test has ended."""
     switch, rest = Switch(ends), b""
     poll = select.epoll()
     for name, _, packets in ends:

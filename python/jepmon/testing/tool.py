@@ -21,7 +21,7 @@ if TYPE_CHECKING:
 
 
 def main(arguments: Optional[List[str]] = None) -> int:
-    """Tests the server that the words of the command line name. Gives the exit status."""
+    """Tests the server that the command line names. Returns the exit status."""
     try:
         for number in (signal.SIGTERM, signal.SIGHUP):
             if threading.current_thread() is threading.main_thread():
@@ -49,8 +49,8 @@ def _terminated(number: int, _frame: Optional[FrameType]) -> None:
     sys.exit(128 + number)
 
 
-VERDICTS, NO_VERDICT = ("legal", "illegal", "lost", "crashed", "unknown", "no"), "without a verdict"  # their first words
-WORST = (1, 3, 2, 0)  # statuses, of which a summary has the first
+VERDICTS, NO_VERDICT = ("legal", "illegal", "lost", "crashed", "unknown", "no"), "without a verdict"  # the first words of verdicts
+WORST = (1, 3, 2, 0)  # statuses, the worst one first: the status of several tests is the first of these that occurs
 
 
 def _tests(given: Given) -> int:
@@ -62,7 +62,7 @@ def _tests(given: Given) -> int:
             one = given._replace(seed=given.seed + number)
             try:
                 status, verdict = _test(one)
-            except ServerError as fault:  # of this test; the next one may start
+            except ServerError as fault:  # only this test fails; the next one may start
                 status, verdict = command.REFUSED, f"no verdict: {fault}"
                 command.say(NAME, str(fault))
             statuses.append(status)
@@ -79,7 +79,7 @@ def counted(lines: List[str]) -> str:
 
 
 def _test(given: Given) -> Tuple[int, str]:
-    """Its status, and its verdict with the folder."""
+    """Runs one test. Returns its status, and its verdict with the folder."""
     given.server.test_installed()
     progress = Progress()
     test = Test(given, progress.show)

@@ -11,8 +11,8 @@ ENDING = (signal.SIGINT, signal.SIGTERM, signal.SIGHUP)
 
 @contextlib.contextmanager
 def undisturbed() -> Iterator[None]:
-    """A signal that comes during the block takes effect at its end. Signals disturb only the main thread, so other threads need no
-    protection."""
+    """Delays each signal that comes during the block to the end of the block. Signals interrupt only the main thread, so other threads need
+    no protection."""
     if threading.current_thread() is not threading.main_thread():
         yield
         return

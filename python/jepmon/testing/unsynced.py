@@ -14,12 +14,12 @@ class Unsynced:
 
     def __init__(self, file: int) -> None:
         self._file = file
-        self._length = os.fstat(file).st_size  # at the last sync
-        self._blocks: Dict[int, bytes] = {}  # by their numbers: their bytes at that time, empty beyond the length
+        self._length = os.fstat(file).st_size  # the length at the last sync
+        self._blocks: Dict[int, bytes] = {}  # for each block number: its bytes at the last sync, empty beyond the length
 
     @property
     def size(self) -> int:
-        """Bytes that would be lost, in whole blocks."""
+        """The number of bytes that would be lost, in whole blocks."""
         return len(self._blocks) * BLOCK
 
     def before(self, at: int, size: int) -> None:
@@ -34,7 +34,7 @@ class Unsynced:
         self.before(length, max(0, self._length - length))
 
     def lose(self) -> None:
-        """All of it is lost."""
+        """Loses all unsynced data."""
         for number, had in self._blocks.items():
             os.pwrite(self._file, had, number * BLOCK)
         os.ftruncate(self._file, self._length)

@@ -16,16 +16,17 @@ if TYPE_CHECKING:
     from .server import Server
 
 Attempt = Callable[[Any], "LongOperation"]  # an operation by a client
-Asked = Callable[[Attempt], "LongOperation"]  # tries it by one client after the other, until it is ok or op.fail() says that it is not
+Asked = Callable[[Attempt], "LongOperation"]  # tries an operation by one client after another, until it is ok or op.fail() records that it failed
 
 
 class Work:
     """`step` does an operation of a client, or the two operations of a lock. `finish` does the operations at the end, when all faults have
-    ended: `ask(attempt)` tries an operation until the server has answered it. `names` are the operations of which some must be ok, or else
-    there is no verdict. After CHANGES changes a new object replaces an object. The name of an object is a number, which is also its key."""
+    ended: `ask(attempt)` tries an operation until the server has answered it. `names` are the operations of which some must be ok;
+    otherwise there is no verdict. After CHANGES changes a new object replaces an object. The name of an object is a number, which is also
+    its key."""
 
     names: Tuple[str, ...] = ()
-    model = ""  # by which it is judged, where that is not its name among a server's objects
+    model = ""  # the model by which it is judged, if its name among a server's objects is another one
     CHANGES = 200
 
     def __init__(self, monitor: LongMonitor, clients: int, keys: int) -> None:
@@ -34,14 +35,14 @@ class Work:
         self.handles = [monitor.fresh(changes=self.CHANGES) for _ in range(self.many(keys))]
 
     def many(self, keys: int) -> int:
-        """How many objects are open to changes at once."""
+        """Returns the number of objects that are open to changes at once."""
         return keys
 
     def step(self, number: int, client: Any, draws: random.Random, changes: float) -> LongOperation:
         raise NotImplementedError
 
     def finish(self, ask: Asked) -> None:
-        """Asks what is left to ask."""
+        """Does the last operations of the test."""
 
     def each_left(self) -> Iterator[LongObject]:
         """The objects that are still judged, except for those that are over budget when their turn comes."""
@@ -54,7 +55,7 @@ class Work:
 
     @property
     def missing(self) -> List[Missing]:
-        """Where they were."""
+        """The queues of these values."""
         return []
 
 
@@ -93,10 +94,11 @@ class CasRegisters(Registers):
 
     def __init__(self, monitor: LongMonitor, clients: int, keys: int) -> None:
         super().__init__(monitor, clients, keys)
-        self.seen: Dict[Tuple[int, Union[Handle, LongObject]], Tuple[LongObject, int]] = {}  # by a client, of a handle's objects
+        # For each client and handle (or object): the object, and the value that the client has learned.
+        self.seen: Dict[Tuple[int, Union[Handle, LongObject]], Tuple[LongObject, int]] = {}
 
     def change(self, number: int, client: Any, handle: Handle, draws: random.Random) -> LongOperation:
-        one, old = self.seen.pop((number, handle), (None, 0))  # who has failed knows it no more
+        one, old = self.seen.pop((number, handle), (None, 0))  # after a failure the client does not know the value any more
         if one is None or one.is_replaced or draws.random() < 0.4:
             return super().change(number, client, handle, draws)
         value = next(self.values)
@@ -117,7 +119,7 @@ class CasRegisters(Registers):
 
 class Sets(Work):
     names = ("add", "read")
-    CHANGES = 40  # of a set, which each read gives as a whole
+    CHANGES = 40  # the changes of a set; the number is small, since each read returns the whole set
 
     def step(self, number: int, client: Any, draws: random.Random, changes: float) -> LongOperation:
         handle = draws.choice(self.handles)
@@ -139,8 +141,8 @@ class Sets(Work):
 
 
 class Locks(Work):
-    """Locks. Clients try a lock for a long time after timeouts: a client that leaves it at once never sees that it was held when its server
-    died."""
+    """Operations of locks. Clients try a lock for a long time after timeouts: a client that leaves the lock at once never sees that the
+    lock was held when its server died."""
 
     names = ("acquire", "release")
     CHANGES = 400
@@ -151,7 +153,7 @@ class Locks(Work):
                 op.fail()
         if op.outcome != "ok":
             return op
-        with contextlib.suppress(Crashed):  # it raises this again as it gives the lock back
+        with contextlib.suppress(Crashed):  # the exception is raised again when the client releases the lock
             client.rest(draws.random() * client.work)
         with op.object.release() as released:
             if not client.release(key_of(released)):
@@ -160,20 +162,20 @@ class Locks(Work):
 
 
 class Queues(Work):
-    """Queues. Each queue has one producer (a client with an even number) and at most two consumers, so that budgets are sufficient. Most of
-    the time it has some messages: an empty queue has nothing to lose."""
+    """Operations of queues. Each queue has one producer (a client with an even number) and at most two consumers, so that budgets are
+    sufficient. Most of the time it has some messages: an empty queue has nothing to lose."""
 
     names = ("enqueue", "dequeue")
     CHANGES = 300
-    SETTLING = 10.0  # seconds in which missing messages may come
-    BACKLOG = (8, 14)  # below the first number consumers mostly wait, above the second producers do
+    SETTLING = 10.0  # missing messages may still come within this number of seconds
+    BACKLOG = (8, 14)  # with fewer messages than the first number consumers mostly wait; with more than the second number producers do
     HELPS = 0.8  # the chance that a producer consumes if consumers do not, for example since they are cut off
 
     def __init__(self, monitor: LongMonitor, clients: int, keys: int) -> None:
         super().__init__(monitor, clients, keys)
         self.messages = Messages()
         self.newest: Dict[Handle, LongObject] = {}
-        self.is_drained = False  # what was not asked for is not lost
+        self.is_drained = False  # whether the queues were drained; only then a missing message counts as lost
 
     def many(self, keys: int) -> int:
         return max(1, self.clients // 2)
@@ -238,7 +240,7 @@ class Queues(Work):
 
     @staticmethod
     def _wait(for_what: Callable[[], bool]) -> None:
-        """A little, if it is not so; then all the same."""
+        """Waits a little if the condition does not hold, and then continues in any case."""
         for _ in range(10):
             if for_what():
                 return

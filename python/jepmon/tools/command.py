@@ -21,7 +21,7 @@ __all__ = ["INTERRUPTED", "OutputError", "REFUSED", "Words", "collect_seldom", "
 
 REFUSED = 3  # the status without a verdict
 INTERRUPTED = 130
-OBJECTS = 100_000  # that are made before Python looks for garbage among them
+OBJECTS = 100_000  # this many objects are made before Python looks for garbage among them
 
 
 def collect_seldom() -> None:
@@ -35,7 +35,7 @@ def temporary_files(folder: Optional[str]) -> Iterator[None]:
     if folder is None:
         yield
         return
-    import tempfile  # which takes a while, and is seldom needed
+    import tempfile  # loaded here, since loading takes time and is seldom necessary
 
     before, tempfile.tempdir = tempfile.tempdir, folder
     try:
@@ -53,7 +53,7 @@ def printable(text: str) -> str:
 
 def tool(name: str) -> str:
     """The name by which the user can call a tool of this package, in the way in which this tool was called."""
-    called = os.environ.get("JEPMON_CALLED")  # by a script of the repository, as ./jepmon-judge
+    called = os.environ.get("JEPMON_CALLED")  # set by a script of the repository, such as ./jepmon-judge
     if called and os.path.basename(called) == f"jepmon-{name}":
         return called
     folder, script = os.path.split(sys.argv[0] if sys.argv else "")
@@ -138,10 +138,10 @@ def copy_file(source: str, path: Union[str, "os.PathLike[str]"]) -> None:
 def _write_to(path: Union[str, "os.PathLike[str]"], write: Callable[[BinaryIO], object]) -> None:
     import tempfile
 
-    named, path = path, os.path.realpath(path)  # of a link what it leads to
+    named, path = path, os.path.realpath(path)  # for a link: the file to which it leads
     made: Optional[str] = None
     try:
-        if os.path.exists(path) and not os.path.isfile(path):  # a device or a pipe is written as it is
+        if os.path.exists(path) and not os.path.isfile(path):  # a device or a pipe is written directly
             with open(path, "wb") as file:
                 write(file)
             return

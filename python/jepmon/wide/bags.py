@@ -1,6 +1,6 @@
-"""Unordered queues: each value is judged by itself. It is always right to let an enqueue take place at its invocation, and a dequeue at its
-completion. So there is an order if and only if, at each moment and for each value, at most as many dequeues have returned as enqueues were
-invoked."""
+"""Decides unordered queues: each value is judged by itself. It is always right to let an enqueue take place at its invocation, and a
+dequeue at its completion. So there is an order if and only if, at each moment and for each value, at most as many dequeues have returned as
+enqueues were invoked."""
 from __future__ import annotations
 
 import collections

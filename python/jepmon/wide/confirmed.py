@@ -1,5 +1,5 @@
-"""Whether a list is an order of a history, by `jepmon confirm`. If the program has no such command, a replacement in Python (ordered.py)
-decides. Only this module knows which of the two decides."""
+"""Tests whether a list is an order of a history, by `jepmon confirm`. If the program has no such command, a replacement in Python
+(ordered.py) decides. Only this module knows which of the two decides."""
 from __future__ import annotations
 
 import subprocess

@@ -27,7 +27,7 @@ class BySearch(Search):
         return self.clock.left() <= 0
 
     def is_illegal(self, part: List[Operation]) -> bool:
-        """Whether it is illegal at the fatal event, and not before."""
+        """Returns whether the part is illegal at the fatal event, and not before."""
         self.checks += 1
         try:
             return not self.has_order(part, self.fatal) and self.has_order(part, self.fatal - 1)

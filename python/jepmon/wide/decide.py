@@ -15,24 +15,24 @@ from .operation import Answer, Clock, Conflict, Order, OutOfTime, cut_before, fr
 from .solve import solve
 
 
-LEAST = 5.0  # seconds for the program, if an order was found in time
+LEAST = 5.0  # the program gets at least this many seconds, if an order was found in time
 
 
 class Decided(NamedTuple):
     """The result for a key."""
 
-    index: Optional[int]  # type: ignore[assignment]  # (also a method of tuple) the event at which it is dead; None: it is alive
-    order: List[int]  # of all operations, or of those before this event, by the index of their invocations
-    part: Optional[Part]  # where it is dead: what is illegal by itself at that event
+    index: Optional[int]  # type: ignore[assignment]  # the event at which the key is dead; None if it is alive (tuple has a method of this name)
+    order: List[int]  # an order of all operations, or of those before this event, by the index of their invocations
+    part: Optional[Part]  # for a dead key: the part that is illegal by itself at that event
     is_proved: bool  # whether a proved program has said that the order is one
-    options: Options  # the key's own
+    options: Options  # the options of the key
 
 
 def decide(operations: Sequence[Operation], options: Options, clock: Clock, program: Optional[str] = None) -> Optional[Decided]:
     """The result for a key, from its operations in the order of their invocations. None if there is no result in this time. The program
     judges the order and the part."""
     if most_open(operations) > THREADS:
-        return None  # the program takes no such history
+        return None  # the program can't judge such a history
     try:
         found = searched(operations, options.model, clock)
         if isinstance(found, Order):
@@ -43,10 +43,10 @@ def decide(operations: Sequence[Operation], options: Options, clock: Clock, prog
 
 
 class Dead(NamedTuple):
-    """The event from which a key is dead, as the search found."""
+    """The event from which on a key is dead, by the search."""
 
     event: int
-    before: Order  # of what comes before
+    before: Order  # an order of the operations before the event
     conflict: Conflict
 
 

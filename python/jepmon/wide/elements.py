@@ -10,11 +10,11 @@ from .operation import NEVER, Op
 
 class Elements:
     def __init__(self) -> None:
-        self._ops: List[Optional[Op]] = [None]  # the first stands before all elements
-        self._next: List[int] = [0]  # 0: there is none
+        self._ops: List[Optional[Op]] = [None]  # the first entry is the beginning of the list, and not an element
+        self._next: List[int] = [0]  # the next element of each; 0 if there is none
         self._before: List[int] = [0]
         self._place: Dict[int, int] = {}
-        self.held: Counter[int] = collections.Counter()  # how often a value is in
+        self.held: Counter[int] = collections.Counter()  # the number of elements with each value
 
     def append(self, op: Op) -> None:
         place, last = len(self._ops), self._before[0]

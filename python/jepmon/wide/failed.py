@@ -4,8 +4,8 @@ from __future__ import annotations
 
 from typing import Dict, List, Optional, Set, Tuple
 
-MOST = 128  # states of one event and value that are compared
-HELD = 1 << 20  # states that are kept; a forgotten state may be tried again
+MOST = 128  # at most this many states of one event and value are compared
+HELD = 1 << 20  # at most this many states are kept; a forgotten state may be tried again
 Key = Tuple[int, Optional[int]]  # the event, and the value of the register
 
 

@@ -1,7 +1,7 @@
-"""FIFO queues. Dequeues take place only when a dequeue returns, and then as few as possible. The enqueues show which element a dequeue
-takes: an element can be the first if no other element of the queue was certainly enqueued before it. Among the possible elements with the
-wanted value, the search takes the one whose enqueue returns first, since it blocks others the most. So a search has few choices: whether a
-timed-out dequeue takes an element that blocks others, and, if a value is in the queue twice, which of the two is first.
+"""Decides FIFO queues. Dequeues take place only when a dequeue returns, and then as few as possible. The enqueues show which element a
+dequeue takes: an element can be the first if no other element of the queue was certainly enqueued before it. Among the possible elements
+with the wanted value, the search takes the one whose enqueue returns first, since it blocks others the most. So a search has few choices:
+whether a timed-out dequeue takes an element that blocks others, and, if a value is in the queue twice, which of the two is first.
 
 If each value is enqueued once, there is no choice."""
 from __future__ import annotations
@@ -17,7 +17,7 @@ from .operation import NEVER, Answer, Clock, Conflict, Op, Order, by_moments
 
 
 class Removal(NamedTuple):
-    """An element leaves the queue."""
+    """The removal of an element from the queue."""
 
     element: Op
     dequeue: Op
@@ -31,15 +31,15 @@ class Queue:
     def __init__(self, ops: Sequence[Op]) -> None:
         chance = random.Random(0)
         self.marks = {op.id: chance.getrandbits(64) for op in ops}
-        self.mark = 0  # of what was removed, and by what
-        self.elements = Elements()  # whose enqueue returns
-        self.unsure: Dict[int, List[Op]] = collections.defaultdict(list)  # whose enqueue does not, by their values
-        self.used_unsure: Counter[int] = collections.Counter()  # of them
-        self.spare: Counter[int] = collections.Counter()  # how many elements with a value a dequeue without an answer may take
+        self.mark = 0  # a number that represents the removed elements and their dequeues
+        self.elements = Elements()  # the elements whose enqueue returns
+        self.unsure: Dict[int, List[Op]] = collections.defaultdict(list)  # the elements whose enqueue does not return, by their values
+        self.used_unsure: Counter[int] = collections.Counter()  # how many of these were used, by value
+        self.spare: Counter[int] = collections.Counter()  # for each value: how many elements a dequeue without an answer may take
         self.gone: Set[int] = set()  # elements that were removed, and dequeues that have taken place
         self.open: Dict[int, Dict[int, Op]] = collections.defaultdict(dict)  # dequeues by their answers
         self.lost: List[Op] = []  # dequeues that have been invoked and do not return
-        self.used = 0  # of them
+        self.used = 0  # how many of these were used
         self.removals: List[Removal] = []
         for op in ops:
             if op.name == "enqueue":
@@ -116,19 +116,19 @@ class Queue:
 
 
 class Search:
-    """The search: event by event. If it can't continue, it goes back to the last choice."""
+    """The search, event by event. If it can't continue, it goes back to the last choice."""
 
     def __init__(self, ops: Sequence[Op], clock: Clock) -> None:
         self.ops, self.clock = ops, clock
         self.events = events_of(ops)
         self.queue = Queue(ops)
-        self.at = 0  # the event that is next
+        self.at = 0  # the next event
         self.seen: Set[Tuple[int, int]] = set()
         self.furthest = -1
         self.blamed: List[int] = []
 
     def run(self) -> Answer:
-        stops: List[Tuple[int, int, Iterator[None]]] = []  # the event, how many elements were removed then, and what else may be done
+        stops: List[Tuple[int, int, Iterator[None]]] = []  # the event, the number of removed elements at this choice, and the remaining ways
         while self.forward():
             ways = self.ways(self.events[self.at][2])
             while next(ways, self) is self:
@@ -203,7 +203,7 @@ class Search:
             self.blame([wanted.id, blocker.id])
 
     def is_held(self, value: int) -> bool:
-        """Whether a value is in the queue, in front or not."""
+        """Returns whether a value is in the queue, at any place."""
         queue = self.queue
         return queue.elements.held[value] > 0 or queue.used_unsure[value] < len(queue.unsure[value])
 

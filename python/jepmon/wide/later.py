@@ -1,4 +1,4 @@
-"""The values that operations will need in a register after an event, and by when."""
+"""The values that operations will need in a register after an event, and the time by which they need them."""
 from __future__ import annotations
 
 import bisect
@@ -8,16 +8,16 @@ from typing import Dict, List, Optional, Sequence, Tuple
 from .operation import NEVER, Op
 from .zones import needs
 
-Soonest = Tuple[int, Optional[int]]  # by when a value is needed, and which
+Soonest = Tuple[int, Optional[int]]  # the time by which a value is needed, and the value
 
 
 class Later:
     """The operations that begin after an event, need a value and return."""
 
     def __init__(self, events: Sequence[Tuple[int, bool, Op]]) -> None:
-        self.first: List[Soonest] = [(NEVER, None)] * (len(events) + 1)  # by event: the operation that returns first among those that begin later
-        self.second: List[Soonest] = list(self.first)  # and the first among those that need another value than this one
-        self.begins: Dict[int, List[int]] = collections.defaultdict(list)  # of those that need a value: the events
+        self.first: List[Soonest] = [(NEVER, None)] * (len(events) + 1)  # for each event: the operation that returns first among those that begin later
+        self.second: List[Soonest] = list(self.first)  # for each event: the first of them that needs another value than that operation
+        self.begins: Dict[int, List[int]] = collections.defaultdict(list)  # for each value: the events at which operations begin that need it
         for at in range(len(events) - 1, -1, -1):
             _, is_end, op = events[at]
             first, second, value = self.first[at + 1], self.second[at + 1], needs(op)

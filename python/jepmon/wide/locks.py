@@ -1,6 +1,6 @@
-"""Locks. The search lets operations take place only when an operation returns, and then as few as possible. If one of several must take
-place, it takes the one that returns first. Neither rule misses an order: a delayed operation may still take place until it returns, and of
-two open operations the one that returns later may take place later."""
+"""Decides locks. The search lets operations take place only when an operation returns, and then as few as possible. If one of several must
+take place, the search chooses the one that returns first. Neither rule misses an order: a delayed operation may still take place until it
+returns, and of two open operations the one that returns later may take place later."""
 from __future__ import annotations
 
 import heapq
@@ -12,10 +12,10 @@ OTHER = {"acquire": "release", "release": "acquire"}
 
 
 def solve(ops: Sequence[Op], clock: Clock) -> Answer:
-    waiting: Dict[str, List[Tuple[int, int]]] = {"acquire": [], "release": []}  # by when they return
+    waiting: Dict[str, List[Tuple[int, int]]] = {"acquire": [], "release": []}  # the open operations, by the events at which they return
     taken: Set[int] = set()
     order: List[int] = []
-    wanted = "acquire"  # what may take place next
+    wanted = "acquire"  # the name of the operation that may take place next
     for _, is_end, op in events_of(ops):
         clock.step()
         if not is_end:
@@ -34,7 +34,7 @@ def solve(ops: Sequence[Op], clock: Clock) -> Answer:
 
 
 def events_of(ops: Sequence[Op]) -> List[Tuple[int, bool, Op]]:
-    """When each operation is invoked, and when each returns."""
+    """Yields the events at which operations are invoked and return, in their order."""
     both = [(op.invoked, False, op) for op in ops] + [(op.completed, True, op) for op in ops if op.is_done]
     return sorted(both, key=lambda event: event[0])
 

@@ -10,7 +10,7 @@ from ..history.kinds import MODELS, REGISTERS
 from ..objects import Part
 
 NEVER = 1 << 62  # the completion of an operation that need not have taken place
-BETWEEN = 512  # steps between two looks at the clock
+BETWEEN = 512  # the number of steps between two looks at the clock
 
 
 class Op:
@@ -22,7 +22,7 @@ class Op:
         self.id = id  # the index of its invocation in the history
         self.name = name
         self.part = part
-        self.answer = answer  # of a read or a dequeue that has returned
+        self.answer = answer  # the answer of a read or a dequeue that has returned
         self.is_done = completed < NEVER
         self.invoked = id
         self.completed = completed
@@ -36,7 +36,7 @@ class Order(NamedTuple):
 
 
 class Conflict(NamedTuple):
-    """The result that a prefix is not linearizable, by the search. Nobody has to believe it: it names the operations to try first in the
+    """The result that a prefix is not linearizable, by the search. You need not trust it: it names the operations to try first in the
     search for a part that the program finds illegal."""
 
     ids: List[int]
@@ -46,7 +46,7 @@ Answer = Union[Order, Conflict]
 
 
 class OutOfTime(Exception):
-    """The search has had its time."""
+    """The time for the search is up."""
 
 
 class Clock:
@@ -86,7 +86,7 @@ def front(operations: Sequence[Operation], end: int) -> List[Op]:
 
 
 def cut_before(operations: Sequence[Operation], index: int) -> List[Operation]:
-    """The operations of the events before this one."""
+    """Returns the operations of the events before this event."""
     return [operation if operation.completion is None or operation.completion.index < index else operation._replace(completion=None)
             for operation in operations if operation.invocation.index < index]
 
@@ -99,7 +99,7 @@ def most_open(operations: Sequence[Operation]) -> int:
 
 
 def fits(op: Op, model: str) -> bool:
-    """Whether an object of this kind has the operation and such an answer at all."""
+    """Returns whether an object of this model can have this operation with such an answer at all."""
     if op.name not in MODELS[model]:
         return False
     if op.name != "read" or not op.is_done:
@@ -108,7 +108,7 @@ def fits(op: Op, model: str) -> bool:
 
 
 def says_nothing(op: Op, model: str) -> bool:
-    """Whether the operation fits everywhere and changes nothing: a read of a register with the answer nil."""
+    """Returns whether the operation fits at each moment and changes nothing: a read of a register with the answer nil."""
     return op.name == "read" and op.is_done and op.answer is None and model in REGISTERS
 
 

@@ -31,7 +31,7 @@ def is_order(operations: Sequence[Operation], model: str, order: Sequence[int]) 
 
 
 def wanted(operation: Operation, model: str) -> Wanted:
-    """The answer that the operation has to find; None if any one will do."""
+    """Returns the answer that the operation has to find. None if every answer fits."""
     completion = operation.completion
     if operation.outcome != "ok" or completion is None or operation.invocation.name not in ANSWERED:
         return None

@@ -1,10 +1,10 @@
-"""Registers with repeated values. An operation takes place only when an operation that must take place returns, and a read as soon as the
-register has its value. A write that nobody needs is hidden: it may take place right before another write, while it is open, or when the
-register has its value already. So it needs no moment until it returns. The search tries the operations whose values are visible: each
+"""Decides registers with repeated values. An operation takes place only when an operation that must take place returns, and a read as soon
+as the register has its value. A write that nobody needs is hidden: it may take place right before another write, while it is open, or when
+the register has its value already. So it needs no moment until it returns. The search tries the operations whose values are visible: each
 visited state has a reader, or a cas from it.
 
-After an early wrong choice a search would try later choices for ages. So it begins again, in another order, after more and more steps, and
-keeps its list of failed states."""
+After an early wrong choice a search would try later choices for a very long time. So after some steps it begins again, in another order and
+with more steps, and keeps its list of failed states."""
 from __future__ import annotations
 
 import bisect
@@ -18,11 +18,11 @@ from .operation import Answer, Clock, Conflict, Op, Order
 from .zones import brings, needs
 
 FIRST = 2000  # steps of the first try
-SWAPPED = 0.25  # how often a later try first hides an operation that an earlier try shows, or the other way round
+SWAPPED = 0.25  # the share of choices in which a later try hides an operation first that an earlier try shows first, or the other way round
 
 
 class TooLong(Exception):
-    """A try has had its steps."""
+    """A try has used its steps."""
 
 
 class State(NamedTuple):
@@ -36,7 +36,7 @@ class State(NamedTuple):
 
 
 class Search:
-    """The search: event by event. If it can't continue, it goes back to the last choice."""
+    """The search, event by event. If it can't continue, it goes back to the last choice."""
 
     def __init__(self, ops: Sequence[Op], clock: Clock) -> None:
         self.clock = clock
@@ -49,15 +49,15 @@ class Search:
         self.begin_anew(0)
 
     def begin_anew(self, number: int) -> None:
-        """A try begins."""
+        """Begins a try."""
         self.number = number
         self.chance = random.Random(number)
         self.steps = FIRST << min(number // 2, 40)
-        self.at = 0  # the event that is next
+        self.at = 0  # the next event
         self.value: Optional[int] = None
-        self.taken = self.free = self.reads = self.lost = 0  # the last two: open operations that read, and open ones that do not return
+        self.taken = self.free = self.reads = self.lost = 0  # the last two: open reads, and open operations that do not return
         self.open: Dict[int, Op] = {}
-        self.placed: List[Tuple[int, Op]] = []  # in their order, each with its moment
+        self.placed: List[Tuple[int, Op]] = []  # the placed operations in their order, each with its moment
         self.hidden: List[Op] = []
 
     def run(self) -> Answer:
@@ -277,7 +277,7 @@ class Search:
 
     def order(self) -> List[int]:
         """The order: the placed operations, and the hidden operations among them."""
-        values: List[Optional[int]] = [None]  # before each that was placed
+        values: List[Optional[int]] = [None]  # the value before each placed operation
         for _, op in self.placed:
             value = brings(op)
             values.append(values[-1] if value is None else value)

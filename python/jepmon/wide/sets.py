@@ -1,7 +1,7 @@
-"""Sets: the answers of reads show the order of the reads, and between which reads each value was first added. So each operation has a
-level. A read with answer k, in ascending order, has the level 2k + 1. An operation that brings in a member that is new in answer k has at
-least the level 2k. If an operation begins after another one has ended, its level is at least as great. One pass finds the least levels with
-these properties. If these levels do not fit, no levels do."""
+"""Decides sets: the answers of reads show the order of the reads, and the two reads between which each value was first added. So each
+operation has a level. A read with answer k, in ascending order, has the level 2k + 1. An operation that brings in a member that is new in
+answer k has at least the level 2k. If an operation begins after another one has ended, its level is at least as great. One pass finds the
+least levels with these properties. If these levels do not fit, no levels do."""
 from __future__ import annotations
 
 from typing import Dict, FrozenSet, List, Optional, Sequence, Tuple, cast
@@ -21,7 +21,7 @@ class Levels:
             self.read_of.setdefault(cast(Answered, op.answer), op)
         self.answers = sorted(self.read_of, key=len)
         self.number = {answer: number for number, answer in enumerate(self.answers)}
-        self.of_value: Dict[int, int] = {}  # in which answer a member is new
+        self.of_value: Dict[int, int] = {}  # for each member: the answer in which it is new
 
     def find(self, clock: Clock) -> Optional[Conflict]:
         """Finds the new members of each answer. Returns a Conflict if there are two answers of which none contains the other."""
@@ -68,7 +68,7 @@ def solve(ops: Sequence[Op], clock: Clock) -> Answer:
 
 
 def unsupported(kept: Sequence[Op], levels: Levels, level: Dict[int, int], cause: Dict[int, Op]) -> Optional[Conflict]:
-    """A member of an answer that no add can have added by then."""
+    """Finds a member of an answer that no add can have added by then."""
     adds: Dict[int, List[Op]] = {}
     for op in kept:
         if op.name == "add":

@@ -1,4 +1,4 @@
-"""An order of the operations of a prefix, or the result that there is none, by the search for the key's kind."""
+"""Finds an order of the operations of a prefix, or the result that there is none, by the search for the key's model."""
 from __future__ import annotations
 
 from typing import Callable, Dict, Sequence

@@ -1,8 +1,8 @@
-"""Registers with unique values: one operation writes each value. The operations of a value are together in an order. A cas joins the
-operations of two values into one group, which has its own order. Two moments of a group matter: the first return and the last invocation
-among its operations. If the first return comes first, the group fills the time between the two moments (it is wide). Otherwise the whole
-group may take place at any moment between them (it is narrow). There is an order of all groups if and only if no two wide groups overlap
-and no narrow group is within a wide one (Gibbons and Korach, 1997). The cost is that of a sort."""
+"""Decides registers with unique values: exactly one operation writes each value. The operations of a value are together in an order. A cas
+joins the operations of two values into one group, which has its own order. Two moments of a group matter: the first return and the last
+invocation among its operations. If the first return comes first, the group fills the time between the two moments (it is wide). Otherwise
+the whole group may take place at any moment between them (it is narrow). There is an order of all groups if and only if no two wide groups
+overlap and no narrow group is within a wide one (Gibbons and Korach, 1997). The cost is that of a sort."""
 from __future__ import annotations
 
 import bisect
@@ -11,7 +11,7 @@ from typing import Dict, Iterator, List, NamedTuple, Optional, Sequence, Set, Tu
 
 from .operation import Answer, Clock, Conflict, Op, Order
 
-Layers = List[List[Op]]  # the operation that brings a value in, its readers, the operation that brings the next value in, its readers, and so on
+Layers = List[List[Op]]  # an operation that writes a value, its readers, the operation that writes the next value, its readers, and so on
 
 
 class NotUnique(Exception):
@@ -72,10 +72,10 @@ def needed(ops: Sequence[Op]) -> List[Op]:
 
 
 def solve(ops: Sequence[Op], clock: Clock) -> Answer:
-    """NotUnique is raised if two operations write one value."""
+    """Runs the search. Raises NotUnique if two operations write one value."""
     bringer: Dict[int, Op] = {}
     readers: Dict[int, List[Op]] = collections.defaultdict(list)
-    following: Dict[int, Op] = {}  # the cas from a value
+    following: Dict[int, Op] = {}  # for each value: the cas that compares with it
     doubled: Optional[Conflict] = None
     for op in ops:
         value, need = brings(op), needs(op)
@@ -127,14 +127,14 @@ def group_of(layers: Layers) -> Union[Group, Conflict]:
 
 
 def of_cycle(ops: Sequence[Op], groups: Sequence[Group]) -> Optional[Conflict]:
-    """A cas that follows no write."""
+    """Describes a cas that follows no write."""
     met = {op.id for group in groups for layer in group.layers for op in layer}
     lonely = [op.id for op in ops if op.id not in met and op.is_done]
     return Conflict(lonely[:1]) if lonely else None
 
 
 def of_two(groups: Sequence[Group]) -> Optional[Conflict]:
-    """Two groups that can't be put in an order."""
+    """Describes two groups that can't be put in an order."""
     wide = sorted((group for group in groups if group.is_wide), key=lambda group: group.first)
     for one, other in zip(wide, wide[1:]):
         if other.first < one.last:

@@ -17,7 +17,7 @@ from ..server import Client, Plant, Server
 from ..wire.streams import Stream
 
 TIMEOUT, AGAIN = 1.0, 5  # seconds
-SYNCS = {"sync": ["-f", "0"], "interval": ["-f", "50"], "none": ["-F"]}  # the words of each durability
+SYNCS = {"sync": ["-f", "0"], "interval": ["-f", "50"], "none": ["-F"]}  # the arguments of each durability
 
 
 class Queue(Client):
@@ -25,8 +25,8 @@ class Queue(Client):
 
     def __init__(self, at: At, came: Came) -> None:
         self.stream, self.came = Stream(at, TIMEOUT), came
-        self.used: Optional[int] = None  # the key by whose tube jobs go
-        self.watched: Optional[int] = None  # and come
+        self.used: Optional[int] = None  # the key whose tube jobs are sent to
+        self.watched: Optional[int] = None  # the key whose tube jobs come from
 
     def enqueue(self, key: int, value: int) -> None:
         self.on_tube(key)
@@ -36,7 +36,7 @@ class Queue(Client):
             raise Failed(" ".join(answer))
 
     def on_tube(self, key: int) -> None:
-        """Nothing of the job is sent yet."""
+        """Selects the tube of a key. Nothing of the job is sent yet."""
         try:
             if self.opened() or self.used != key:
                 self.ask(f"use q{key}")
@@ -55,7 +55,7 @@ class Queue(Client):
         try:
             self.ask(f"delete {number}")
         except OSError:
-            pass  # it comes again
+            pass  # the job comes again
         if not is_first:
             raise Failed("it has come before")
         return value
@@ -74,7 +74,7 @@ class Queue(Client):
         return answer[1], int(data)
 
     def opened(self) -> bool:
-        """Opens the connection if there is none, and says so."""
+        """Opens the connection if there is none. Returns whether it has opened one."""
         if self.stream.is_open:
             return False
         self.used = self.watched = None

@@ -20,16 +20,16 @@ from . import etcd_members
 
 TIMEOUT, LEADER_TIMEOUT = 1.0, 0.3  # seconds
 HEARTBEAT, ELECTION = 100, 1000  # milliseconds
-# A member that joins ends where the one that it asks first does not know of it yet. So it tries until it has joined, and has a log.
+# A joining member ends if the member that it asks first does not know of it yet. So it tries until it has joined, and has a log.
 JOIN = 'while :; do "$0" "$@"; status=$?; [ -d data/member/wal ] && exit $status; sleep 0.2; done'
 
 
 class NoAnswer(OSError):
-    """The member did not answer that it was done."""
+    """The member did not confirm the operation."""
 
 
 class EtcdClient(Client):
-    serializable = False  # reads ask the one member alone
+    serializable = False  # if set, a read asks only the client's own member
 
     def __init__(self, at: At) -> None:
         self.at = at
@@ -39,7 +39,7 @@ class EtcdClient(Client):
         try:
             if self.connection is None:
                 self.connection = http.client.HTTPConnection(*self.at, timeout=timeout)
-                self.connection.connect()  # by itself: what is refused here was not sent
+                self.connection.connect()  # a separate step: if it fails, nothing was sent
             self.connection.request("POST", f"/v3/{path}", json.dumps(body))
             answer = self.connection.getresponse()
             text = answer.read()
@@ -57,7 +57,7 @@ class EtcdClient(Client):
         return decoded(found[0]["value"]) if found else None
 
     def transaction(self, compare: Dict[str, Any], success: Dict[str, Any]) -> bool:
-        """Carries the changes out if all comparisons hold. Gives whether they did."""
+        """Carries the changes out if all comparisons hold. Returns whether they held."""
         return bool(self.call("kv/txn", compare=[compare], success=[success]).get("succeeded", False))
 
     def close(self) -> None:
@@ -88,7 +88,7 @@ class Lock(EtcdClient):
     have been wrong, but not this release."""
 
     certain: Exceptions = ()
-    seconds = 60  # of the lease: longer than all that may come between
+    seconds = 60  # the length of the lease: longer than any delay while the lock is held
 
     def __init__(self, at: At) -> None:
         super().__init__(at)
@@ -100,7 +100,7 @@ class Lock(EtcdClient):
         try:
             self.lease = self.call("lease/grant", TTL=self.seconds)["ID"]
         except OSError:
-            return False  # nothing was asked of the lock yet
+            return False  # no request about the lock was sent yet
         missing = {"key": encoded(f"l{key}"), "target": "CREATE", "result": "EQUAL", "create_revision": 0}
         try:
             if self.transaction(missing, put(f"l{key}", self.token, lease=self.lease)):
@@ -111,9 +111,9 @@ class Lock(EtcdClient):
             self.leases.owe(key, self.token)
             raise
         try:
-            self.call("lease/revoke", ID=self.lease)  # somebody else holds it
+            self.call("lease/revoke", ID=self.lease)  # somebody else holds the lock
         except OSError:
-            pass  # it goes away by itself
+            pass  # the lease ends by itself
         return False
 
     def release(self, key: int) -> bool:
@@ -154,12 +154,12 @@ class Etcd(Server):
 
     def __init__(self, *words: Any) -> None:
         super().__init__(*words)
-        self.existing: Dict[str, List[str]] = {}  # of a node that has joined the group again: where its members are reached
-        self.numbers: Dict[str, str] = {}  # of nodes, that the group has given them
-        self.removed: Set[str] = set()  # numbers of members that are none any more
+        self.existing: Dict[str, List[str]] = {}  # for a node that has joined the group again: the addresses of the members
+        self.numbers: Dict[str, str] = {}  # the numbers that the group has given to nodes
+        self.removed: Set[str] = set()  # the numbers of former members
 
     def command(self, node: Node) -> List[str]:
-        peers = {other.name: self.peer(other) for other in [*self.nodes, node]}  # a node more than these may join
+        peers = {other.name: self.peer(other) for other in [*self.nodes, node]}  # one more node may join
         known = self.existing.get(node.name, list(peers.values()))
         members = ",".join(f"{name}={peer}" for name, peer in peers.items() if peer in known)
         joins = ["sh", "-c", JOIN] if node.name in self.existing else []
@@ -170,11 +170,11 @@ class Etcd(Server):
                 "--initial-cluster-state", "existing" if node.name in self.existing else "new"]
 
     def peer(self, node: Node) -> str:
-        """Where other members reach it."""
+        """Returns the address at which other members reach the node."""
         return url(node, node.reach["peer"])
 
     def ask(self, node: Node, path: str, timeout: float, **body: Any) -> Any:
-        """The answer of the member at this address about itself."""
+        """Returns the answer of a node's member about itself."""
         client = EtcdClient(node.listens_at)
         try:
             return client.call(path, timeout, **body)
@@ -191,7 +191,7 @@ class Etcd(Server):
 
     def leader(self) -> Optional[Node]:
         for node in self.nodes:
-            with node.inside(), contextlib.suppress(OSError):  # one that is struck does not answer
+            with node.inside(), contextlib.suppress(OSError):  # a node under a fault may not answer
                 status = self.ask(node, "maintenance/status", LEADER_TIMEOUT)
                 if status["leader"] == status["header"]["member_id"]:
                     return node

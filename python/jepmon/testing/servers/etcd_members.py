@@ -19,8 +19,8 @@ if TYPE_CHECKING:
     from ..node import Node
     from .etcd import Etcd
 
-TIMEOUT, PAUSE, LAST = 2.0, 0.2, 5.0  # seconds of a call, between two, and at the end
-GONE = "member not found"  # what etcd says where a member was removed before
+TIMEOUT, PAUSE, LAST = 2.0, 0.2, 5.0  # seconds: the timeout of a call, the pause between two calls, and the time for tries at the end
+GONE = "member not found"  # the answer of etcd if the member was removed before
 
 
 @contextlib.contextmanager
@@ -87,7 +87,7 @@ def join(etcd: Etcd, node: Node) -> None:
 
 
 def members(etcd: Etcd, node: Node) -> List[Dict[str, Any]]:
-    """As one of the other nodes knows them."""
+    """Returns the members, as one of the other nodes knows them."""
     found: List[Dict[str, Any]] = asked(etcd, node, "cluster/member/list")["members"]
     return found
 

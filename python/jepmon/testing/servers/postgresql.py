@@ -55,7 +55,7 @@ class Register(SqlClient):
             self.sql.query(f"UPDATE r SET v = {new} WHERE k = {key}; COMMIT")
             return True
         except SqlError:
-            self.sql.close()  # and with it the transaction
+            self.sql.close()  # this also ends the transaction
             raise
 
 
@@ -187,7 +187,7 @@ class PostgreSQL(Server):
         return PLANTED.get(self.plant, CLIENTS[self.model])(self.nodes[0].at, read_at.at)
 
     def reader(self, node: Node) -> Optional[Client]:
-        is_own = self.objects[self.model] is CLIENTS.get(self.model)  # else a subclass knows how its keys are read
+        is_own = self.objects[self.model] is CLIENTS.get(self.model)  # a subclass with another client has its own reader
         return CLIENTS[self.model](node.at, node.at) if is_own else None
 
     def node_of(self, number: int) -> Node:
@@ -200,13 +200,13 @@ def integer(rows: "list[tuple[Optional[str], ...]]") -> Optional[int]:
 
 
 def user() -> str:
-    """PostgreSQL refuses to be run by root."""
+    """Returns a user for the server, since PostgreSQL refuses to run as root."""
     for name in (USER, "nobody"):
         try:
             return pwd.getpwnam(name).pw_name
         except KeyError:
             pass
-    raise ServerError("PostgreSQL does not run as root, and there is no user postgres and none nobody")
+    raise ServerError("PostgreSQL does not run as root, and there is neither a user postgres nor a user nobody")
 
 
 def binaries() -> Optional[pathlib.Path]:

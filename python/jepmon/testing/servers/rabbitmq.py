@@ -29,23 +29,24 @@ from ..wire.amqp import CLASSIC, QUORUM, Amqp, Message
 
 TIMEOUT = 1.0  # seconds
 PROGRAM = pathlib.Path("/usr/lib/rabbitmq/bin/rabbitmq-server")
-# epmd finds Erlang's nodes. Erlang would start one that outlives the server; this one is of the node's family, and ends with it.
+# epmd finds Erlang's nodes. Erlang would start an epmd that outlives the server. This epmd belongs to the node's family, and ends with the
+# node.
 START = 'epmd & until epmd -names >/dev/null 2>&1; do sleep 0.1; done; exec "$0"'
-COOKIE = ".erlang.cookie"  # by which nodes know one another
+COOKIE = ".erlang.cookie"  # nodes with the same cookie accept one another
 CONFIGURED = """cluster_formation.peer_discovery_backend = classic_config
 cluster_partition_handling = pause_minority
 """
-TICKS = "-kernel net_ticktime 8"  # seconds until a node that is silent is held for gone
+TICKS = "-kernel net_ticktime 8"  # after 8 seconds, a silent node counts as down
 
 
 class Names:
     """The queues of the keys, in the order in which keys come, so that the queues of the next keys can be declared in advance."""
 
-    AHEAD, SETTLED = 32, 5.0  # queues, and seconds until the first ones are used
+    AHEAD, SETTLED = 32, 5.0  # the number of queues that are declared in advance, and the seconds until the first ones are used
 
     def __init__(self) -> None:
         self._lock = threading.Lock()
-        self._numbers: Dict[int, int] = {}  # by key
+        self._numbers: Dict[int, int] = {}  # the number of the queue of each key
 
     def of(self, key: int) -> Tuple[str, Optional[str]]:
         """The queue of the key; for a new key also the queue to declare for a later key."""
@@ -79,7 +80,7 @@ class Queue(Client):
         try:
             self.amqp.acknowledge(message)
         except OSError:
-            self.amqp.close()  # it comes again
+            self.amqp.close()  # the message comes again
         if not is_first:
             raise Failed("it has come before")
         return value
@@ -99,7 +100,7 @@ class EarlyQueue(Queue):
 
 
 class LateQueue(Queue):
-    """Takes a message for a new or a repeated one, and acknowledges it when the next one comes."""
+    """Records a repeated message as a new one, and acknowledges a message only when the next one comes."""
 
     late: Optional[Message] = None
 
@@ -153,7 +154,7 @@ class RabbitMQ(Server):
             "RABBITMQ_MNESIA_BASE": str(node.folder / "data"), "RABBITMQ_LOG_BASE": str(node.folder), "RABBITMQ_LOGS": "-",
             "RABBITMQ_CONFIG_FILE": str(node.folder / "rabbitmq.conf"), "RABBITMQ_CONF_ENV_FILE": str(node.folder / "none"),
             "RABBITMQ_ENABLED_PLUGINS_FILE": str(node.folder / "plugins"), "RABBITMQ_PID_FILE": str(node.folder / "pid"),
-            "RABBITMQ_SERVER_ADDITIONAL_ERL_ARGS": f"+S 2:2 +sbwt none +sbwtdcpu none +sbwtdio none {TICKS}",  # it starts with less work
+            "RABBITMQ_SERVER_ADDITIONAL_ERL_ARGS": f"+S 2:2 +sbwt none +sbwtdcpu none +sbwtdio none {TICKS}",  # the server starts faster
         }
 
     def command(self, node: Node) -> List[str]:

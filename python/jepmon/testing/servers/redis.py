@@ -55,11 +55,11 @@ class Set(RedisClient):
 
 class Lock(RedisClient):
     """A lock by SET NX PX. A release is never a :fail: an unreleased lock disappears later, when its lease runs out. If the lease has run
-    out before, the release is still an ok: if somebody has taken the lock meanwhile, that acquire was wrong, and not this release."""
+    out before, the release is still an ok: if somebody has acquired the lock meanwhile, that acquire was wrong, and not this release."""
 
     certain: Exceptions = ()
     unsure: Exceptions = (OSError, RedisError)
-    lease = 60_000  # milliseconds: longer than all that may come between
+    lease = 60_000  # milliseconds: longer than any delay while the lock is held
 
     def __init__(self, at: At, read_at: At) -> None:
         super().__init__(at, read_at)
@@ -140,7 +140,7 @@ class Redis(Server):
         return kind(self.nodes[0].at, read_at.at)
 
     def reader(self, node: Node) -> Optional[Client]:
-        is_own = self.objects[self.model] is CLIENTS.get(self.model)  # else a subclass knows how its keys are read
+        is_own = self.objects[self.model] is CLIENTS.get(self.model)  # a subclass with another client has its own reader
         return CLIENTS[self.model](node.at, node.at) if is_own else None
 
     def node_of(self, number: int) -> Node:

@@ -23,7 +23,7 @@ from ..wire.zookeeper import ZooKeeper as Connection
 TIMEOUT, LEADER_TIMEOUT = 1.0, 0.3  # seconds
 TICK = 500  # milliseconds
 JAR = pathlib.Path("/usr/share/java/zookeeper.jar")
-LOGGING = JAR.with_name("slf4j-simple.jar")  # if it is there, the servers say why they end
+LOGGING = JAR.with_name("slf4j-simple.jar")  # if this file exists, the servers log why they end
 MAIN = "org.apache.zookeeper.server.quorum.QuorumPeerMain"
 
 

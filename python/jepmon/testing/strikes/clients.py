@@ -35,7 +35,7 @@ def chosen(cluster: Cluster, node: Node, which: float) -> int:
 
 
 NEEDS = frozenset([NEEDS_CREW])
-WHICH = {"which": Parameter(0.0, 1.0, 0.0, 1.0)}  # of the node's clients: 0 is the first one, 1 the last one
+WHICH = {"which": Parameter(0.0, 1.0, 0.0, 1.0)}  # 0 is the first one of the node's clients, 1 the last one
 STRIKES: Dict[str, Strike] = {
     "client-pause": Strike("a client of {node} is paused", paused, OTHER, WHICH, needs=NEEDS),
     "client-crash": Strike("a client of {node} crashes before it learns the result of its operation", crashed, OTHER, WHICH, needs=NEEDS),

@@ -1,10 +1,10 @@
-"""What a strike is. A server's file has strikes of its own:
+"""The type of a strike. A server's file may have strikes of its own:
 
     @contextlib.contextmanager
     def compacting(cluster, node, values):
         compact(node.at, values["share"])     # the fault begins
         yield                                 # it lasts
-                                              # what ends it stands here
+                                              # the code that ends it is here
     class Mine(Server):
         strikes = {"compact": Strike("{node} compacts {share:g} of its data", compacting, parameters={"share": Parameter(0.1, 1.0)})}
 """
@@ -19,10 +19,10 @@ if TYPE_CHECKING:
     from ..node import Node
 
 PROCESS, LINKS, CLOCK, OTHER = "process", "links", "clock", "other"  # lanes
-ALONE = frozenset([PROCESS, CLOCK])  # lanes of which a node bears one strike at a time
+ALONE = frozenset([PROCESS, CLOCK])  # in these lanes a node has at most one strike at a time
 NEEDS_LINKS, NEEDS_PACKETS, NEEDS_DISK, NEEDS_CLOCK, NEEDS_CREW, NEEDS_SPARE = "links", "packets", "disk", "clock", "crew", "spare"
 
-Values = Mapping[str, float]  # of the parameters, by name
+Values = Mapping[str, float]  # the values of the parameters, by name
 During = Callable[["Cluster", "Node", Values], ContextManager[None]]
 
 
@@ -32,7 +32,7 @@ class Parameter(NamedTuple):
 
     least: float
     most: float
-    lowest: float = 0.0  # that the command line may ask for
+    lowest: float = 0.0  # the least value that the command line may set
     highest: float = 1_000_000.0
 
     def drawn(self, draws: random.Random) -> float:
@@ -47,8 +47,8 @@ class Strike(NamedTuple):
 
     text: str
     during: During
-    lane: str = OTHER  # strikes of different lanes, or on different nodes, go on at once
+    lane: str = OTHER  # strikes of different lanes, or on different nodes, may overlap
     parameters: Mapping[str, Parameter] = {}
-    nodes: int = 1  # that there must be at least
+    nodes: int = 1  # the least number of nodes that it needs
     is_single: bool = False  # only one such strike at a time, on all nodes together
-    needs: FrozenSet[str] = frozenset()  # NEEDS_..: what the machine, or the test, must have
+    needs: FrozenSet[str] = frozenset()  # NEEDS_..: the needs that the machine, or the test, must meet

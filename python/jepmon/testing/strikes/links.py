@@ -12,7 +12,7 @@ if TYPE_CHECKING:
     from ..cluster import Cluster
     from ..node import Node
 
-Pairs = Callable[[str, List[str]], List[Pair]]  # of the node's name, and those of the others in the order after it
+Pairs = Callable[[str, List[str]], List[Pair]]  # a function of the node's name and of the other nodes' names, in the order after it
 
 
 def struck(pairs: Pairs, effect: Callable[[Values], Effect]) -> During:
@@ -20,7 +20,7 @@ def struck(pairs: Pairs, effect: Callable[[Values], Effect]) -> During:
 
     @contextlib.contextmanager
     def during(cluster: Cluster, node: Node, values: Values) -> Iterator[None]:
-        assert cluster.links is not None, "a strike on links in a cluster without any"
+        assert cluster.links is not None, "a strike on links, but the cluster has no links"
         names = [one.name for one in cluster.running]
         others = names[node.number + 1:] + names[:node.number]
         held = cluster.links.hold(pairs(node.name, others), effect(values))
@@ -36,7 +36,7 @@ def cut(pairs: Pairs) -> During:
     return struck(pairs, lambda values: CUT)
 
 
-# --- The ways that are struck ---
+# --- The ways of each strike ---
 
 
 def to_clients(node: str, others: Sequence[str]) -> List[Pair]:
@@ -53,7 +53,7 @@ def to_all(node: str, others: Sequence[str]) -> List[Pair]:
 
 def halves(node: str, others: Sequence[str]) -> List[Pair]:
     """Two groups: the node and the nodes after it, which are less than half of all; and the others, which are a majority."""
-    more = len(others) // 2 - 1  # beside the node
+    more = len(others) // 2 - 1  # without the node
     return both_ways([node, *others[:more]], others[more:])
 
 
@@ -80,7 +80,7 @@ def packets(text: str, name: str, parameter: Parameter, effect: Callable[[Values
 
 
 NEEDS: FrozenSet[str] = frozenset([NEEDS_LINKS])
-SHARE = Parameter(0.02, 0.3, 0.0, 1.0)  # of packets
+SHARE = Parameter(0.02, 0.3, 0.0, 1.0)  # a share of packets
 STRIKES: Dict[str, Strike] = {
     "cut": Strike("clients are cut off from {node}", cut(to_clients), LINKS, needs=NEEDS),
     "partition": Strike("{node} is cut off from the other nodes", cut(to_others), LINKS, nodes=2, needs=NEEDS),

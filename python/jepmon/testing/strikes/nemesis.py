@@ -19,7 +19,7 @@ if TYPE_CHECKING:
     from ..node import Node
 
 GLANCE = 0.1  # seconds between two looks at the nodes
-SINGLE = "single"  # the lane of all strikes that are one at a time
+SINGLE = "single"  # the lane of all strikes that never overlap one another
 
 
 class Nemesis:
@@ -34,7 +34,7 @@ class Nemesis:
         self._end = self._begun + seconds
         self._lock = threading.Lock()
         self._going_on: Dict[int, Told] = {}
-        self._taken: Set[Tuple[str, str]] = set()  # lanes of nodes that are being struck
+        self._taken: Set[Tuple[str, str]] = set()  # the lanes of nodes in which a strike is active
         self._count = 0
         self._fault: Optional[BaseException] = None
         self.struck: Counter[str] = Counter()
@@ -55,7 +55,7 @@ class Nemesis:
 
     def _run(self, lane: Lane) -> None:
         try:
-            late = 0.0  # by which strikes took longer than planned, for example by a restart
+            late = 0.0  # the seconds by which strikes lasted longer than planned, for example because of a restart
             for planned in lane.strikes:
                 if not self._wait(self._begun + planned.begin + late) or not self._wait_for_calm_to_end():
                     return
@@ -73,7 +73,7 @@ class Nemesis:
             self._stop(fault)
 
     def _wait_for_calm_to_end(self) -> bool:
-        """Gives whether the run goes on after that."""
+        """Waits until the calm has ended. Returns whether the run continues after that."""
         while self._calm_from(time.monotonic() - self._begun) <= time.monotonic() - self._begun:
             if not self._wait(time.monotonic() + GLANCE):
                 return False

@@ -1,8 +1,8 @@
 """The items of `--nemesis`, and a seed's choice among them.
 
-    kill,pause:n1                      these strikes, drawn; of pause only node n1 is struck
-    all,power                          all that the server bears, and one more
-    slow:delay=0.2:lasting=1..5        parameters: a number, or two between which each strike draws one
+    kill,pause:n1                      these strikes, drawn; pause hits only node n1
+    all,power                          all strikes that the server should survive, and one more
+    slow:delay=0.2:lasting=1..5        parameters: a number, or two limits between which each strike draws a number
     partition:leader                   the node that the server names as its leader (Server.leader)
     pause:n1@2+4,pause:n2@3+1          a schedule: from second 2 on, for 4 seconds; both are down from 3 to 4
 """
@@ -23,11 +23,11 @@ RANGE = re.compile(rf"({NUMBER})(?:\.\.({NUMBER}))?")
 ALIASES = {"part": "partition"}  # former names of strikes
 LASTING = Parameter(0.1, 10.0, 0.01)  # seconds of a strike
 REST = Parameter(0.2, 3.0)  # seconds between two strikes of a lane
-SHARE = 0.15  # of a run: no drawn strike lasts longer, and the first one comes within half of this
-QUIET = 0.5  # seconds at least before the first strike
+SHARE = 0.15  # a share of the run: no drawn strike lasts longer, and the first one comes within half of this
+QUIET = 0.5  # at least this many seconds come before the first strike
 AT_LEADER = 0.25  # the chance that a strike on any node hits the leader, if the server names one
 UNSETTLED = 0.25  # the chance that a node is struck again before it is ready
-SCHEDULED = 1.0  # seconds of a scheduled strike that does not say
+SCHEDULED = 1.0  # the seconds of a scheduled strike without a stated length
 
 
 class Planned(NamedTuple):
@@ -37,17 +37,17 @@ class Planned(NamedTuple):
     lasting: float
     name: str
     node: int
-    is_named: bool = False  # whether the node is named; otherwise another node is struck if this one has a strike of this lane
-    at_leader: bool = False  # the leader is struck, where there is one, and else the node
+    is_named: bool = False  # whether the user names the node; otherwise another node is hit if this node has a strike of this lane
+    at_leader: bool = False  # whether to hit the leader if there is one, instead of the node
     values: Mapping[str, float] = {}
-    settles: bool = True  # the lane waits until the node is ready, before it strikes again
+    settles: bool = True  # whether the lane waits until the node is ready before the next strike
 
 
 class Lane(NamedTuple):
-    """Strikes one after the other."""
+    """Strikes that come one after another."""
 
     strikes: Iterator[Planned]
-    is_shifted: bool  # a late strike delays all that follow
+    is_shifted: bool  # whether a late strike delays all later strikes
 
 
 class Item(NamedTuple):
@@ -64,8 +64,8 @@ class Item(NamedTuple):
 
 class Plan:
     """The items of `text`, for a server with this number of nodes and these strikes. `default` has the strikes of `all`. If `why_not` gives
-    a reason against one of these, it is left out, and `left_out` has the reason. An impossible strike that is asked for by name is a
-    ServerError."""
+    a reason against one of these, it is left out, and `left_out` has the reason. Raises a ServerError if the user names an impossible
+    strike."""
 
     def __init__(self, text: str, nodes: int, strikes: Mapping[str, Strike], default: Sequence[str],
                  why_not: Callable[[str], Optional[str]] = lambda name: None, has_leader: bool = False) -> None:
@@ -81,7 +81,7 @@ class Plan:
         self.drawn = [item for item in items if item.begin is None]
         self._test_apart()
 
-    # --- What the text says ---
+    # --- The meaning of the text ---
 
     def _items(self, word: str, default: Sequence[str]) -> Iterator[Item]:
         if word == NONE:
@@ -118,7 +118,7 @@ class Plan:
             raise ServerError(f"--nemesis {word}: there are the nodes n1 to n{self.nodes}")
         begin = None if found["begin"] is None else float(found["begin"])
         if begin is not None and (":lasting=" in word or ":rest=" in word):
-            raise ServerError(f"--nemesis {word}: a strike at its time lasts as long as +SECONDS says")
+            raise ServerError(f"--nemesis {word}: for a strike with a time, +SECONDS is its length, and not lasting=")
         lasting = float(found["lasting"]) if found["lasting"] else SCHEDULED
         return Item(word, name, number, node == LEADER, self._given(word, name, found["given"]), begin, lasting)
 
@@ -167,10 +167,10 @@ class Plan:
     def needs(self, what: str) -> bool:
         return any(what in self.known[name].needs for name in self.names)
 
-    # --- What comes of it ---
+    # --- Results ---
 
     def lanes(self, seed: int, seconds: float) -> List[Lane]:
-        """Each is for a thread of its own."""
+        """Returns the lanes of strikes. Each lane is for a thread of its own."""
         if self.scheduled:
             return [Lane(iter(strikes), False) for strikes in apart([self._at_its_time(item) for item in self.scheduled])]
         found = []
@@ -182,7 +182,7 @@ class Plan:
 
     def _at_once(self) -> Iterator[Tuple[Sequence[str], int]]:
         """The lanes, and the number of simultaneous strikes of each lane: two, if this leaves a majority most of the time. A single node is
-        either down or cut off, and not both: these are the same for its clients, which need time for operations between strikes."""
+        never both down and cut off: both are the same for its clients, which need time for operations between strikes."""
         at_once = 2 if self.nodes > 3 else 1
         if self.nodes == 1:
             yield (PROCESS, LINKS), 1

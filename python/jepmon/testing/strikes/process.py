@@ -13,7 +13,7 @@ if TYPE_CHECKING:
 
 @contextlib.contextmanager
 def killed(cluster: Cluster, node: Node, values: Values) -> Iterator[None]:
-    """Then it starts again with its kept data."""
+    """Kills the node. At the end of the strike it starts again with its kept data."""
     cluster.kill(node)
     try:
         yield

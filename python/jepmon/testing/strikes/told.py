@@ -3,8 +3,8 @@
     n1 is down, by kill -9 [kill n1, process]
     all links of n2 are slow [slow n2, links, delay=0.05, jitter=0.01; while kill n1, pause n3]
 
-First comes the effect. In brackets follow the strike's name and node, its lane, its parameters, and the strikes that were active when it
-began. So if two strikes overlap, the later one names the earlier one.
+The effect comes first. The brackets have the strike's name and node, its lane, its parameters, and the strikes that were active when it
+began. So if two strikes overlap, the note of the later one names the earlier one.
 """
 from __future__ import annotations
 
@@ -16,14 +16,14 @@ TEXT = re.compile(r"(?P<text>.+) \[(?P<name>[a-z-]+) (?P<node>n[0-9]+), (?P<lane
 
 
 class Told(NamedTuple):
-    """A strike, as the history notes it."""
+    """A strike, as its note in the history describes it."""
 
     text: str
     name: str
     node: str
     lane: str
     parameters: Mapping[str, float] = {}
-    during: Tuple[str, ...] = ()  # as "kill n1"
+    during: Tuple[str, ...] = ()  # the active strikes, such as "kill n1"
 
     @property
     def short(self) -> str:

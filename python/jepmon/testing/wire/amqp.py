@@ -15,8 +15,8 @@ DECLARE, DECLARE_OK = (50, 10), (50, 11)
 PUBLISH, GET, GET_OK, GET_EMPTY, ACK = ((60, number) for number in (40, 70, 71, 72, 80))
 SELECT, SELECT_OK = (85, 10), (85, 11)
 DURABLE, PERSISTENT, HAS_DELIVERY_MODE = 2, 2, 0x1000
-WAIT = 0  # no bit is set
-CLASSIC, QUORUM = "classic", "quorum"  # queues: of one node, and replicated by Raft
+WAIT = 0  # no flag is set, so the broker answers
+CLASSIC, QUORUM = "classic", "quorum"  # kinds of queues: on one node, and replicated by Raft
 
 Method = Tuple[int, int]
 
@@ -55,12 +55,12 @@ class Amqp:
             raise
 
     def get(self, queue: str, durable: bool = True) -> Optional[Message]:
-        """The first message, which the caller has to acknowledge. None if there is no message."""
+        """Returns the first message, which the caller has to acknowledge. None if there is no message."""
         self.declare(queue, durable)
         try:
             self._send(METHOD, method(GET, struct.pack("!H", 0), short(queue), bytes([WAIT])))
             kind, rest = self._method()
-            while kind == ACK:  # of a message that nobody has waited for
+            while kind == ACK:  # a confirm of a message for which nobody has waited
                 kind, rest = self._method()
             if kind == GET_EMPTY:
                 return None
@@ -76,11 +76,11 @@ class Amqp:
             raise
 
     def acknowledge(self, message: Message) -> None:
-        """Lets the broker forget the message. It answers nothing."""
+        """Makes the broker forget the message. The broker does not answer."""
         self._send(METHOD, method(ACK, struct.pack("!Q", message.tag), bytes([0])))
 
     def declare(self, queue: str, durable: bool = True) -> None:
-        """Lets there be a queue of this name."""
+        """Makes a queue of this name, if there is none yet."""
         try:
             if not self.stream.is_open:
                 self._connect()
@@ -131,7 +131,7 @@ class Amqp:
             if kind == wanted:
                 return data[:-1]
             if kind != HEARTBEAT:
-                raise BrokerError(f"a frame of kind {kind} came in place of one of kind {wanted}")
+                raise BrokerError(f"a frame of kind {kind} came instead of a frame of kind {wanted}")
 
     def _send(self, kind: int, payload: bytes, channel: int = 1) -> None:
         self.stream.send(struct.pack("!BHI", kind, channel, len(payload)) + payload + END)

@@ -25,7 +25,7 @@ class Answer(NamedTuple):
 
 
 class Postgres:
-    """A connection. `connected` counts how often it was made."""
+    """A connection. `connected` is the number of times that it was made."""
 
     def __init__(self, at: At, user: str, timeout: float) -> None:
         self.stream, self.user, self.connected = Stream(at, timeout), user, 0
@@ -44,7 +44,7 @@ class Postgres:
         self.stream.send(struct.pack("!ii", 8 + len(words), 196608) + words)
         try:
             self._answer()
-        except OSError as fault:  # nothing was asked yet
+        except OSError as fault:  # no request was sent yet
             raise ConnectionRefusedError(str(fault)) from fault
         self.connected += 1
 

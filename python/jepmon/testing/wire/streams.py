@@ -22,7 +22,7 @@ class Stream:
         return self._socket is not None
 
     def open(self) -> None:
-        """Connects. The time for what follows begins."""
+        """Connects. Starts the time of the next operation."""
         self.close()
         self.begin()
         self._socket = socket.create_connection(self._at, self._seconds)
@@ -48,7 +48,7 @@ class Stream:
         self._ready().sendall(data)
 
     def line(self) -> bytes:
-        """Up to the next line feed, without the end of the line."""
+        """Returns the bytes up to the next line feed, without the end of the line."""
         while b"\n" not in self._got:
             self._more()
         line, _, self._got = self._got.partition(b"\n")

@@ -9,13 +9,13 @@ from .streams import Stream
 
 CREATE, GET, SET = 1, 4, 5
 NO_NODE, BAD_VERSION, NODE_EXISTS = -101, -103, -110
-ANYBODY = struct.pack(">ii", 1, 31) + b"\0\0\0\5world\0\0\0\6anyone"  # one rule: all rights
-SESSION = 60_000  # milliseconds: nothing here goes with a session
+ANYBODY = struct.pack(">ii", 1, 31) + b"\0\0\0\5world\0\0\0\6anyone"  # one rule: everybody has all rights
+SESSION = 60_000  # milliseconds; no data here depends on a session
 STAT = struct.Struct(">qqqqiiiqiiq")
 
 
 class ZooKeeperError(Exception):
-    """An answer of the server that is an error: it did not do it."""
+    """An answer of the server that is an error: the server did not do the request."""
 
     def __init__(self, code: int) -> None:
         super().__init__(f"error {code} of ZooKeeper")
@@ -39,7 +39,7 @@ class ZooKeeper:
         self._count = 0
 
     def get(self, path: str) -> Optional[Found]:
-        """None if there is no such node."""
+        """Returns the data of a node. None if there is no such node."""
         try:
             answer = self._asked(GET, text(path) + b"\0")
         except ZooKeeperError as fault:
@@ -51,7 +51,7 @@ class ZooKeeper:
         return Found(answer[4:end], STAT.unpack_from(answer, end)[4])
 
     def set(self, path: str, data: bytes, version: int = -1) -> None:
-        """Any version, unless one is given."""
+        """Sets the data of a node: of any version, unless `version` is given."""
         self._asked(SET, text(path) + buffer(data) + struct.pack(">i", version))
 
     def create(self, path: str, data: bytes) -> None:
