@@ -192,7 +192,7 @@ class TheTemplate(Runs):
 
     def test_it_is_short(self) -> None:
         """The user's files: all but the server that stands for the user's own."""
-        self.assertLess(TEMPLATE.read_text().index("# --- The example server"), len(TEMPLATE.read_text()))
+        self.assertLess(TEMPLATE.read_text().index("# --- The server"), len(TEMPLATE.read_text()))
         self.assertLess(len(TEMPLATE.read_text().splitlines()), 60)
 
 

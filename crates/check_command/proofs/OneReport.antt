@@ -3,7 +3,7 @@ use Rattle.std.proofs.Common.{◌≡◌, ℕ, ◌+◌, ⊎_elim, List, [], ◌�
 use Rattle.std.specs.Prelude.{Ok}
 use Rattle.std.proofs.lemmas.Bool.{cases_order}
 use Rattle.std.proofs.lemmas.List.Elements.{All-head, All-tail}
-use Rattle.edn.specs.Value.{Value, Values, none, more, joined}
+use Rattle.edn_values.specs.Value.{Value, Values, none, more, joined}
 use Rattle.edn.specs.Text.{IsText, IsLongestTextPrefix}
 use Rattle.edn.specs.Elements.{count_of}
 use Rattle.edn.specs.Refusals.{IsWhy}
@@ -12,6 +12,7 @@ use Rattle.edn.specs.declared.refusal.Refusal.TheVariants.{BadValue, BadBudget, 
 use Rattle.edn.proofs.Unique.{one_text}
 use Rattle.events.specs.declared.event.Event.{Event}
 use Rattle.events.specs.Events.{entries_of}
+use Rattle.events.specs.OwnNames.{no_names}
 use Rattle.events.specs.Spelling.{Spells}
 use Rattle.events.proofs.OneEvent.{spell_one}
 use Rattle.history.specs.WellFormed.{Refuses}
@@ -43,7 +44,7 @@ use Rattle.check_command.specs.declared.recorded.Findings.TheVariants.{Judged, R
 takes_one : (vs : Values) (old m n : Machine) → TakesAll old vs m → TakesAll old vs n → m ≡ n
 takes_one none old m n a b = a ∙ sym b
 takes_one (more v vs) old m n a b =
-    let same = spell_one v a.1.0 b.1.0 a.1.2 b.1.2 in
+    let same = spell_one no_names v a.1.0 b.1.0 a.1.2 b.1.2 in
     let step = step_one old a.0 b.0 (Append b.1.0) (Ok a.1.1) (Ok b.1.1) (subst (λ (e : Event). MayStep old (Append e) (Ok a.1.1) a.0) same a.1.3) b.1.3 in
     takes_one vs b.0 m n (subst (λ (mid : Machine). TakesAll mid vs m) step.1 a.2) b.2
 
@@ -87,7 +88,7 @@ one_more m new e _ may = absurd may
 taken_or_admitted : (vs : Values) (old m n : Machine) → TakesAll old vs m → AdmitsAll old vs n → m ≡ n
 taken_or_admitted none old m n a b = a ∙ sym b
 taken_or_admitted (more v vs) old m n a b =
-    let event : a.1.0 ≡ b.1.0 = spell_one v a.1.0 b.1.0 a.1.2 b.1.1 in
+    let event : a.1.0 ≡ b.1.0 = spell_one no_names v a.1.0 b.1.0 a.1.2 b.1.1 in
     let same : a.0 ≡ b.0 = (one_more old a.0 a.1.0 a.1.1 a.1.3).1 ∙ ap (λ (x : Event). appended x old) event ∙ sym b.1.3 in
     taken_or_admitted vs b.0 m n (subst (λ (w : Machine). TakesAll w vs m) same a.2) b.2
 
@@ -95,7 +96,7 @@ taken_or_admitted (more v vs) old m n a b =
 refused_or_admitted : (m mid : Machine) (v : Value) (why : Refusal) → RefusesElement m v why → AdmitsElement m v mid → ⊥
 refused_or_admitted m mid v why refuses admits = ⊎_elim
     (λ none. none.1 admits.0 admits.1)
-    (λ one. well_formed_stands m.judged.concurrency m.judged.events admits.0 why admits.2 (subst (λ (x : Event). Refuses m.judged.concurrency m.judged.events x why) (spell_one v one.0 admits.0 one.1 admits.1) one.2.0))
+    (λ one. well_formed_stands m.judged.concurrency m.judged.events admits.0 why admits.2 (subst (λ (x : Event). Refuses m.judged.concurrency m.judged.events x why) (spell_one no_names v one.0 admits.0 one.1 admits.1) one.2.0))
     refuses
 
 refused_for_one : (m : Machine) (v : Value) (why other : Refusal) → RefusesElement m v why → RefusesElement m v other → why ≡ other
@@ -103,7 +104,7 @@ refused_for_one m v why other a b = ⊎_elim
     (λ none. ⊎_elim (λ nor. none.0 ∙ sym nor.0) (λ one. absurd (none.1 one.0 one.1)) b)
     (λ one. ⊎_elim
     (λ none. absurd (none.1 one.0 one.1))
-    (λ two. one_refusal m (Append two.0) why other (subst (λ (x : Event). machine.Refuses m (Append x) why) (spell_one v one.0 two.0 one.1 two.1) one.2.0) two.2.0)
+    (λ two. one_refusal m (Append two.0) why other (subst (λ (x : Event). machine.Refuses m (Append x) why) (spell_one no_names v one.0 two.0 one.1 two.1) one.2.0) two.2.0)
     b)
     a
 
@@ -137,7 +138,7 @@ one_first (more x vs) none v w us xs old m n why other text a b refuses refuses'
 one_first (more x vs) (more y ws) v w us xs old m n why other text a b refuses refuses' =
     let same : x ≡ y = cc in
     let rest : joined vs (more v us) ≡ joined ws (more w xs) = cc in
-    let event : a.1.0 ≡ b.1.0 = spell_one y a.1.0 b.1.0 (subst (λ z. Spells z a.1.0) same a.1.1) b.1.1 in
+    let event : a.1.0 ≡ b.1.0 = spell_one no_names y a.1.0 b.1.0 (subst (λ z. Spells z a.1.0) same a.1.1) b.1.1 in
     let after : a.0 ≡ b.0 = a.1.3 ∙ ap (λ (z : Event). appended z old) event ∙ sym b.1.3 in
     let found = one_first vs ws v w us xs b.0 m n why other rest (subst (λ (k : Machine). AdmitsAll k vs m) after a.2) b.2 refuses refuses' in
     (ap (λ k. k + 1) found.0, found.1)

@@ -8,7 +8,7 @@ use Rattle.std.specs.Io.KnownBytes.{Consumes}
 use Rattle.std.proofs.lemmas.Fmt.{decimal-digits_of}
 use Rattle.std.proofs.lemmas.List.{append_assoc, append-nil}
 use Rattle.std.proofs.Math.Seq.{take-append_seam}
-use Rattle.edn.specs.Value.{Value, Values, none, more, joined}
+use Rattle.edn_values.specs.Value.{Value, Values, none, more, joined}
 use Rattle.edn.specs.Text.{IsText}
 use Rattle.edn.specs.Elements.{IsLeftBehind, count_of}
 use Rattle.edn.specs.declared.refusal.Refusal.{Refusal}
@@ -132,7 +132,7 @@ pub count-more : (vs : Values) (v : Value) → count_of (joined vs (more v none)
 count-more none v = refl
 count-more (more w vs) v = ap (λ n. n + 1) (count-more vs v)
 
-joined-assoc : (us vs ws : Values) → joined (joined us vs) ws ≡ joined us (joined vs ws)
+pub joined-assoc : (us vs ws : Values) → joined (joined us vs) ws ≡ joined us (joined vs ws)
 joined-assoc none vs ws = refl
 joined-assoc (more u us) vs ws = ap (more u) (joined-assoc us vs ws)
 

@@ -1,6 +1,6 @@
--- Promise: the events that are read of a text, into a history of c threads
+-- Promise: the events that are read from a text, into a history of c threads
 use Rattle.std.specs.Prelude.{◌≡◌, ℕ, ◌<◌, ◌⊎◌, Option, Some, None, Result, Ok, Err, List, [], ◌∷◌, ◌++◌, length}
-use Rattle.edn.specs.Value.{Value, Values, none, more, joined}
+use Rattle.edn_values.specs.Value.{Value, Values, none, more, joined}
 use Rattle.edn.specs.Text.{IsText}
 use Rattle.edn.specs.Elements.{Reading as ReadingText, IsLeftBehind, count_of}
 use Rattle.edn.specs.declared.refusal.Refusal.{Refusal}
@@ -9,33 +9,33 @@ use Rattle.events.specs.declared.event.Event.{Event}
 use Rattle.events.specs.Spelling.{Spells, WhyUnspelled}
 use Rattle.history.specs.WellFormed.{IsWellFormed, Refuses}
 
--- the element spells this event, or none for this
+-- the element spells this event, or no event, for the reason `why`
 abbrev pub IsSpelled : Value → Result Event Refusal → Type 0
 IsSpelled v (Ok event) = Spells v event
 IsSpelled v (Err why) = WhyUnspelled v why
 
--- in a text that is read, an element of this value stood next, and is passed over
+-- the next element of a text has this value, and has been read
 abbrev pub PassesOver : ReadingText → Value → ReadingText → Type 0
 PassesOver old v new =
     ((given : Values) → IsLeftBehind old.bytes given old.left → IsLeftBehind old.bytes (joined given (more v none)) new.left)
     × (length new.left < length old.left)
 
--- the element spells an event that may come next: with it the events are the new ones
+-- the element spells an event that may come next, and `new` are the events with it
 abbrev pub PushesElement : ℕ → List Event → Value → List Event → Type 0
 PushesElement c old v new = (event : Event) × Spells v event × IsWellFormed c old event × (new ≡ old ++ event ∷ [])
 
--- it spells none, or one that may not come next, for this
+-- the element spells no event, or an event that may not come next, for this reason
 abbrev pub RefusesNext : ℕ → List Event → Value → Refusal → Type 0
 RefusesNext c events v why =
     ((why ≡ BadValue) × ((event : Event) → ¬ Spells v event))
     ⊎ ((event : Event) × Spells v event × Refuses c events event why)
 
--- all of them, in turn
+-- all elements, one after another, are pushed
 abbrev pub PushesAll : ℕ → List Event → Values → List Event → Type 0
 PushesAll c old none new = new ≡ old
 PushesAll c old (more v vs) new = (mid : List Event) × PushesElement c old v mid × PushesAll c mid vs new
 
--- the bytes are a text; the first i elements were pushed, and the next one is refused for this
+-- the bytes are a text; the first i elements were pushed, and the next one is refused for this reason
 pub record IsReadUpTo (bytes : List ℕ) (c : ℕ) (old new : List Event) (i : ℕ) (why : Refusal) : Type 0 where
   pub pushed : Values
   pub next : Value

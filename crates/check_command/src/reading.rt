@@ -1,10 +1,10 @@
-//! The events of a recorded history, as they are read.
+//! The reading of a recorded history's events.
 ghost use Rattle.std.specs.Prelude.{◌≡◌, ◌≢◌, ◌<◌, Some, IfOk, IfErr, IfSome, IfNone, OnOk, OnErr};
-ghost use Rattle.edn.specs.Value.{Value, Values};
+ghost use Rattle.edn_values.specs.Value.{Value, Values};
 ghost use Rattle.edn.specs.Text.{IsText};
 ghost use Rattle.edn.specs.Elements.{IsLeftBehind};
 ghost use Rattle.edn.specs.Refusals.{IsWhy};
-ghost use Rattle.edn.specs.View.{value_of};
+ghost use Rattle.edn_values.specs.View.{value_of};
 ghost use Rattle.check_command.specs.Reading.{IsSpelled, PassesOver, PushesElement, RefusesNext, IsRead};
 
 use edn::{Edn, Elements, Refusal};
@@ -14,15 +14,15 @@ use observers::Observer;
 use plain_events::plain_event;
 use std::alloc::Global;
 
-/// Pushes the events that the elements of a text spell, in turn, up to the first refused element. If there is one, it returns the number of
-/// events before it, and the reason.
+/// Pushes the events that the elements of a text spell, in order, up to the first element that is refused. If there is one, returns the
+/// number of events before it, and the reason.
 ///
-/// The text is read once, also behind a refused element, since an unreadable place comes first. One element is held at a time. The observer
-/// gets the number of pushed events.
+/// The text is read once, also after a refused element, since an unreadable place has priority. One element is held at a time. The observer
+/// gets the number of events in the history.
 ///
 /// # Errors
 ///
-/// `Unreadable` if the bytes are not a text, with its place; `NoMemory` if memory is refused.
+/// `Unreadable` with its place if the bytes are not a text; `NoMemory` if an allocation fails.
 pub fn read_events<L: Observer>(
     alloc: Global,
     history: &mut History,
@@ -44,15 +44,15 @@ pub fn read_events<L: Observer>(
         match push_spelled(history, spelled) {
             Ok(()) => {
                 pushed += 1;
-                observer.taken(pushed);
+                observer.taken(history.len() as usize);
             }
             Err(refusal) => return refused_at(alloc, elements, pushed, refusal),
         }
     }
 }
 
-// The event that the next element of a text spells, or why it spells none; or none at the end of the text. No element is made
-// of an event that is spelled plainly.
+// Returns the event that the next element of a text spells, or the reason why it spells none. `None` at the end of the text. No element is
+// built for an event with a plain spelling.
 fn next_event(
     alloc: Global,
     elements: &mut Elements,
@@ -75,14 +75,14 @@ fn next_event(
     }
 }
 
-// The event that the element spells. By itself, for the prover's sake, since the element is dropped.
+// Returns the event that the element spells. It is a separate function for the prover, since the element is dropped.
 fn spelled_by(alloc: Global, element: Edn) -> Result<Event, Refusal>
     ensures { IsSpelled (value_of element) result }
 {
     from_edn(alloc, &element)
 }
 
-// Pushes the event that an element spells, or says why it spells none.
+// Pushes the event that an element spells, or returns the reason why it spells none.
 fn push_spelled(history: &mut History, spelled: Result<Event, Refusal>) -> Result<(), Refusal>
     ensures pushed { OnOk result ((v : Value) → IsSpelled v spelled
         → PushesElement history.old.concurrency history.old.events v history.new.events) }
@@ -96,8 +96,8 @@ fn push_spelled(history: &mut History, spelled: Result<Event, Refusal>) -> Resul
     history.push(event)
 }
 
-// The result if an element is refused for this reason after `pushed` events, once the rest of the text was read. Out of memory is never the
-// refusal of an element.
+// Returns the result if an element is refused with `refusal` after `pushed` events. Reads the rest of the text first. A failed allocation
+// is never the refusal of an element.
 fn refused_at(
     alloc: Global,
     elements: Elements,
@@ -119,7 +119,7 @@ fn refused_at(
     }
 }
 
-// Reads a text on to its end. No element of it is kept.
+// Reads the rest of a text to its end. Keeps no element.
 fn read_on(alloc: Global, elements: Elements) -> Result<(), Refusal>
     requires { (given : Values) × IsLeftBehind elements.bytes given elements.left }
     ensures text { OnOk result ((values : Values) × IsText elements.entry.bytes values) }
@@ -132,5 +132,5 @@ fn read_on(alloc: Global, elements: Elements) -> Result<(), Refusal>
     Ok(())
 }
 
-// Drops an element, by itself for the prover's sake.
+// Drops an element, in a separate function for the prover.
 fn discard(_element: Edn) {}

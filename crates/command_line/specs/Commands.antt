@@ -3,12 +3,12 @@ use Rattle.std.specs.Prelude.{true, [], ◌∷◌, Some, codes}
 use Rattle.clap.specs.Words.{App, Rule, Text, new_app, new_rule, with_rule, with_subcommand}
 use Rattle.clap.specs.declared.builder.action.ArgAction.TheVariants.{SetTrue}
 
--- an option that takes a value, which has this default in the help
+-- an option that takes a value, with this default in the help
 abbrev pub option_rule : Text → Text → Rule
 option_rule name default =
     record (new_rule name) { long = Some name; value_names = 1; defaults = default ∷ [] }
 
--- a file that has to be given
+-- a required file
 abbrev pub file_rule : Text → Rule
 file_rule name = record (new_rule name) { required = true }
 
@@ -16,11 +16,11 @@ file_rule name = record (new_rule name) { required = true }
 abbrev pub flag_rule : Text → Rule
 flag_rule name = record (new_rule name) { long = Some name; action = Some SetTrue }
 
--- a command with the options by which a history is read, and of which object
+-- the command with the options for reading a history: the number of threads and the kind
 abbrev pub with_object : App → App
 with_object a = with_rule (with_rule a (option_rule (codes "concurrency") (codes "2"))) (option_rule (codes "model") (codes "register"))
 
--- the same with the option by which it is judged
+-- `with_object`, and the option for judging: the budget
 abbrev pub with_settings : App → App
 with_settings a = with_rule (with_object a) (option_rule (codes "budget") (codes "4096"))
 

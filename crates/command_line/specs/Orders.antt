@@ -19,7 +19,7 @@ use Rattle.command_line.specs.declared.order.Stop.TheVariants.{Refused as IsRefu
 use Rattle.command_line.specs.declared.order.Order.{Order}
 use Rattle.command_line.specs.declared.order.Order.TheVariants.{Script, Check, Confirm, Run}
 
--- its numbers are within their limits. A run is as texts spell it; of its 64 seats the nemesis takes one
+-- the numbers of the order are within their limits. A run has the setup that some texts spell; the nemesis takes one of its 64 seats
 abbrev pub IsWithinLimits : Order → Type 0
 IsWithinLimits (Script config is_strict) = IsSetup (setup_of config)
 IsWithinLimits (Check path workers config) = IsSetup (setup_of config) × (1 ≤ workers) × (workers ≤ 64)
@@ -28,24 +28,24 @@ IsWithinLimits (Run config) =
     IsSetup (setup_of config) × (config.concurrency ≤ 63)
     × ((texts : RunTexts) × (run_spelled texts ≡ Ok (setup_of config)))
 
--- the text, if it comes of the words
+-- the text, if it comes from the words of the command line
 abbrev pub if_given : Option ValueSource → Option (List ℕ) → Option (List ℕ)
 if_given (Some CommandLine) text = text
 if_given _ text = None
 
--- the first text that the words give of the option, or this one if they give none
+-- the first text that the words give for the option, or the default if they give none
 abbrev pub text_found : Found → List ℕ → List ℕ → List ℕ
 text_found found id default =
     unwrap_or (if_given (option_and_then (λ a. a.source) (matched_of found id)) (first_value found id)) default
 
--- the texts of the options by which a history is judged, where some others stand for those that are not given
+-- the texts of the options for judging, with the defaults for options that are not given
 abbrev pub AreJudgingTexts : Found → JudgingTexts → JudgingTexts → Type 0
 AreJudgingTexts found defaults texts =
     (texts.budget.now ≡ text_found found (codes "budget") defaults.budget.now)
     × (texts.concurrency.now ≡ text_found found (codes "concurrency") defaults.concurrency.now)
     × (texts.model.now ≡ text_found found (codes "model") defaults.model.now)
 
--- the same of the options of a run
+-- the texts of the options of a run, with the defaults for options that are not given
 abbrev pub AreRunTexts : Found → RunTexts → RunTexts → Type 0
 AreRunTexts found defaults texts =
     AreJudgingTexts found defaults.judging texts.judging
@@ -56,18 +56,18 @@ AreRunTexts found defaults texts =
     × (texts.mode.now ≡ text_found found (codes "mode") defaults.mode.now)
     × (texts.faults.now ≡ text_found found (codes "faults") defaults.faults.now)
 
--- how many workers the text of the option spells; if the words give none it is one
+-- the number of workers in the text of the option, or 1 if the words give no such option
 abbrev pub workers_found : Found → Option ℕ
 workers_found found = number_within 1 64 (text_found found (codes "workers") (codes "1"))
 
--- whether the flag was given, as far as what was found says it
+-- whether the flag was given: no if no text was found for it, else as the text `true` or `false` says
 abbrev pub IsFlagFound : Found → List ℕ → Bool → Type 0
 IsFlagFound found id flag =
     ((one_text found id ≡ None) → (flag ≡ false))
     × ((one_text found id ≡ Some (codes "true")) → (flag ≡ true))
     × ((one_text found id ≡ Some (codes "false")) → (flag ≡ false))
 
--- there is the configuration that the texts spell, or the stop for the text that cannot be read
+-- the configuration of the texts, or the stop for the first text that cannot be read
 abbrev pub JudgesAsFound : Found → Result Config Stop → Type 0
 JudgesAsFound found result =
     (defaults : JudgingTexts) × (judging_spelled defaults ≡ Ok default_setup)
@@ -76,19 +76,19 @@ JudgesAsFound found result =
     (λ config. judging_spelled texts ≡ Ok (setup_of config))
     (λ stop. (why : Misspelled) × (judging_spelled texts ≡ Err why) × IsStopBy why stop))
 
--- if there is a configuration to judge by, the order is such a one; else there is the stop
+-- the order is such a one for the configuration of the texts, or there is the stop for a text that cannot be read
 abbrev pub AfterJudging : Found → (Config → Result Order Stop → Type 0) → Result Order Stop → Type 0
 AfterJudging found IsSuch result =
     (judged : Result Config Stop) × JudgesAsFound found judged
     × MatchResult judged (λ config. IsSuch config result) (λ stop. result ≡ Err stop)
 
--- lines are answered by this configuration, and the script is strict if that was found
+-- a script with this configuration, which is strict if the flag was found
 abbrev pub ScriptsAsFound : Found → Config → Result Order Stop → Type 0
 ScriptsAsFound found config result =
     (is_strict : Bool) × (result ≡ Ok (Script config is_strict)) × IsFlagFound found (codes "strict") is_strict
 
--- the found file is judged by this configuration, by this number of workers. Or there is a usage fault, if none was found, or the text of
--- the workers spells no such number. Or memory was refused
+-- a check of the found file with this configuration and this number of workers. Or a usage fault: there is no file, or the text of the
+-- workers is no such number. Or memory ran out
 abbrev pub ChecksAsFound : Found → Config → Result Order Stop → Type 0
 ChecksAsFound found config result =
     MatchResult result
@@ -98,8 +98,8 @@ ChecksAsFound found config result =
     (λ stop. (stop ≡ IsRefused NoMemory)
     ⊎ (IsUsageFault stop × ((first_value found (codes "FILE") ≡ None) ⊎ (workers_found found ≡ None))))
 
--- the found order is confirmed for the found history, read by this configuration. Or there is a usage fault, if one of the files is
--- missing. Or memory was refused
+-- a confirmation of the found order for the found history, with this configuration. Or a usage fault: one of the files is missing. Or
+-- memory ran out
 abbrev pub ConfirmsAsFound : Found → Config → Result Order Stop → Type 0
 ConfirmsAsFound found config result =
     MatchResult result
@@ -109,8 +109,8 @@ ConfirmsAsFound found config result =
     (λ stop. (stop ≡ IsRefused NoMemory)
     ⊎ (IsUsageFault stop × ((first_value found (codes "FILE") ≡ None) ⊎ (first_value found (codes "ORDER") ≡ None))))
 
--- clients run by the configuration that the texts of a run spell, or there is the stop for the text that cannot be read; or memory was
--- refused, if they spell one
+-- a run with the configuration of the texts, or the stop for the first text that cannot be read; or, if the texts have a configuration,
+-- memory ran out
 abbrev pub RunsAsFound : Found → Result Order Stop → Type 0
 RunsAsFound found result =
     (defaults : RunTexts) × (run_spelled defaults ≡ Ok default_run)
@@ -125,7 +125,7 @@ RunsAsFound found result =
 abbrev pub IsNoCommand : List ℕ → Type 0
 IsNoCommand name = (name ≢ codes "run") × (name ≢ codes "check") × (name ≢ codes "confirm") × (name ≢ codes "script")
 
--- the order of the command of this name, from the found options; a usage fault, if no command has it
+-- the order of the command with this name, from the found options; a usage fault if no command has this name
 abbrev pub IsOrderBy : List ℕ → Found → Result Order Stop → Type 0
 IsOrderBy name found result =
     (name ≡ codes "run" → RunsAsFound found result)

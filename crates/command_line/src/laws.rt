@@ -1,4 +1,4 @@
-//! Laws of the texts of options and of a flag.
+//! Laws about the texts of options and of a flag.
 ghost use Rattle.std.specs.Prelude.{◌≡◌, Bool, List, Ok, Some, codes};
 ghost use Rattle.clap.specs.Walk.{Text};
 ghost use Rattle.clap.specs.Words.{rows_of, subcommand_of};
@@ -10,7 +10,7 @@ ghost use Rattle.command_line.specs.Commands.{check_app, confirm_app, program_ap
 ghost use Rattle.command_line.specs.Defaults.{ShowsJudging, ShowsObject, ShowsRun, shown_default};
 ghost use Rattle.command_line.specs.Orders.{IsFlagFound};
 
-/// The defaults that the help shows are the program's own: their texts spell the settings without options.
+/// The defaults that the help shows are those of the program: their texts spell the settings that hold without options.
 pub fn help_shows_the_defaults()
     ensures script { (texts : JudgingTexts) → ShowsJudging script_app texts → judging_spelled texts ≡ Ok default_setup }
     ensures check { (texts : JudgingTexts) → ShowsJudging check_app texts → judging_spelled texts ≡ Ok default_setup }
@@ -21,8 +21,8 @@ pub fn help_shows_the_defaults()
     ensures workers { shown_default check_app (codes "workers") ≡ Some (codes "1") }
 {}
 
-/// The words decide whether a script is strict. A parse finds no text of the flag but `true` and `false`, whatever the words are, and
-/// `IsFlagFound` has one answer for each.
+/// The words decide whether a script is strict. A parse finds no text of the flag except `true` and `false`, whatever the words are, and
+/// `IsFlagFound` has one answer for each of them.
 pub fn words_decide_strict()
     ensures { (words : List Text) (name : Text) (found also : Found) (flag other : Bool) →
         subcommand_of program_app words ≡ Some (name, rows_of found) → rows_of also ≡ rows_of found

@@ -1,5 +1,5 @@
-//! The words of the command line: the order that they give, the program's texts about itself, and the exit status after a script or without
-//! an order. `script_command`, `check_command`, `confirm_command` and `run_command` carry out the orders.
+//! The words of the command line and the order that they give; the program's texts about itself; and the exit status after a script or
+//! without an order. `script_command`, `check_command`, `confirm_command` and `run_command` carry out the orders.
 #![tactic(auto)]
 
 mod commands;

@@ -1,4 +1,4 @@
-//! The words of the command line.
+//! Orders, read from the words of the command line.
 ghost use Rattle.std.specs.Prelude.{◌≡◌, ◌≤◌, [], IfOk, IfSome, IsErrAnd, Ok, codes, drop, string_bytes};
 ghost use Rattle.std.specs.Vec.Iter.{into_iter_items};
 ghost use Rattle.harness.specs.Setups.{setup_of, IsSetup};
@@ -20,58 +20,58 @@ use std::alloc::{AllocError, Global};
 use std::env::Args;
 use std::io;
 
-// The message of a text that does not spell the number of workers.
+// The message for a text that does not spell a number of workers.
 const NO_WORKERS: &str = "--workers takes a number, 1 to 64";
 
-/// The order in the words for the program.
+/// The order that the words of the command line give to the program.
 #[derive(Drop)]
 pub enum Order {
     /// Answers the lines of standard input.
     Script {
-        /// How the one-thread object is opened.
+        /// The configuration of the one-thread object.
         config: Config,
-        /// Whether the first line that is refused ends it.
+        /// Whether the first refused line ends the script.
         is_strict: bool,
     },
     /// Judges a recorded history.
     Check {
-        /// The file that it stands in; `-` for standard input.
+        /// The path of the history's file, or `-` for standard input.
         path: String,
-        /// Threads that judge its keys.
+        /// The number of workers that judge its keys.
         workers: u32,
-        /// How the one-thread object is opened.
+        /// The configuration of the one-thread object.
         config: Config,
     },
-    /// Says what an order of its operations shows of a recorded history.
+    /// Tests an order of the operations of a recorded history.
     Confirm {
-        /// The file that the history stands in; `-` for standard input.
+        /// The path of the history's file, or `-` for standard input.
         path: String,
-        /// The file that the order stands in.
+        /// The path of the order's file.
         order_path: String,
-        /// Threads of the clients.
+        /// The number of threads of the clients.
         concurrency: u32,
-        /// The object that every key is.
+        /// The kind of every key's object.
         kind: ModelKind,
     },
-    /// Runs clients against a store in the process.
+    /// Runs clients against a store inside the process.
     Run(Config),
 }
 
-/// Why there is no order.
+/// The reason why there is no order.
 #[derive(Drop)]
 pub enum Stop {
-    /// Help or the version was asked for; or the words are none that the program knows. The kind of the error says which.
+    /// The words ask for help or the version, or the program does not accept them. The kind of the error says which.
     Words(clap::Error),
-    /// A number is out of its limits, or memory was refused.
+    /// A number is outside its limits, or an allocation failed.
     Refused(Refusal),
 }
 
-/// The order in the words that a process got. The first word is the program's name, and the words behind it give the order. It takes memory
-/// for these words, and as [`order_of`] does.
+/// Returns the order in the words of a process. The first word is the program's name, and the others give the order. Allocates these words,
+/// and what [`order_of`] allocates.
 ///
 /// # Errors
 ///
-/// Those of [`order_of`]. If the words could not be had: `Refused` with `NoMemory` if memory was refused for them, else [`no_text`].
+/// Those of [`order_of`]. If the words are missing: `Refused` with `NoMemory` if an allocation for them failed, otherwise [`no_text`].
 pub fn order_given(alloc: Global, given: io::Result<Args>) -> Result<Order, Stop>
     ensures within { IfOk result IsWithinLimits }
     ensures given { IsOrderGiven given result }
@@ -85,14 +85,14 @@ pub fn order_given(alloc: Global, given: io::Result<Args>) -> Result<Order, Stop
     }
 }
 
-// The words behind the program's name.
+// Returns the words after the program's name.
 fn words_behind_name(alloc: Global, words: Args) -> Result<Vec<String>, AllocError>
     ensures { IfOk result (λ rest. rest.items ≡ drop 1 (into_iter_items words)) }
 {
     words.skip(1).collect(alloc)
 }
 
-// Why there is no order if the words could not be had, by the kind of the error.
+// Returns the reason why there is no order if the words are missing, by the kind of the error.
 fn no_words(alloc: Global, kind: io::ErrorKind) -> Stop
     ensures { HasNoWords kind result }
 {
@@ -102,15 +102,21 @@ fn no_words(alloc: Global, kind: io::ErrorKind) -> Stop
     }
 }
 
-/// The order that the words after the program's name give. If there are none, it is `script` with its defaults, and takes no memory; else
-/// it takes memory for the table of the options and for their values.
+/// Returns the order that the words after the program's name give. Without words it is `script` with its defaults, and nothing is
+/// allocated. Otherwise the table of the options and their values are allocated.
 ///
 /// # Errors
 ///
-/// `Words` for help and the version. Also for words that the program does not have, such as a number below zero after an option. Also for
-/// a value that is not a number, and for a model, a mode or faults of another name. And for a seed, or a number of operations, keys or
-/// workers, out of its limits. `Refused` for another number out of its limits: `BadBudget` first, then `BadConcurrency`, which `run` has
-/// above 63 too, then `NoSuchReplica`; and with `NoMemory` if memory is refused.
+/// `Words` in these cases:
+///
+/// - The words ask for help or the version.
+/// - The program does not have a word, such as a number below zero after an option.
+/// - A value is not a number.
+/// - A model, a mode or faults have an unknown name.
+/// - A seed, or a number of operations, keys or workers, is outside its limits.
+///
+/// `Refused` if another number is outside its limits: first `BadBudget`, then `BadConcurrency`, which for `run` includes 64, then
+/// `NoSuchReplica`. Also `Refused` with `NoMemory` if an allocation fails.
 pub fn order_of(alloc: Global, words: &[String]) -> Result<Order, Stop>
     ensures within { IfOk result IsWithinLimits }
     ensures spelled { IsOrderOf (words_of words.now) result }
@@ -122,7 +128,7 @@ pub fn order_of(alloc: Global, words: &[String]) -> Result<Order, Stop>
     }
 }
 
-// The order if there are no words: a script with its defaults.
+// Returns the order without words: a script with its defaults.
 fn order_without_words(alloc: Global) -> Result<Order, Stop>
     ensures within { IfOk result IsWithinLimits }
     ensures default { IsOrderOf [] result }
@@ -133,7 +139,7 @@ fn order_without_words(alloc: Global) -> Result<Order, Stop>
     })
 }
 
-// The order in words, by a parse of them.
+// Parses the words, and returns their order.
 fn order_parsed(alloc: Global, words: &[String]) -> Result<Order, Stop>
     ensures within { IfOk result IsWithinLimits }
     ensures spelled { IsOrderIn (words_of words.now) result }
@@ -147,7 +153,7 @@ fn order_parsed(alloc: Global, words: &[String]) -> Result<Order, Stop>
     }
 }
 
-// The order of the command that a parse found; a usage fault, if it found none.
+// Returns the order of the command that a parse found, or a usage fault if it found none.
 fn order_in(alloc: Global, command: &mut Command, matches: &ArgMatches) -> Result<Order, Stop>
     ensures within { IfOk result IsWithinLimits }
     ensures named { NamesOrder (subcommand_rows_of matches.now) result }
@@ -158,8 +164,8 @@ fn order_in(alloc: Global, command: &mut Command, matches: &ArgMatches) -> Resul
     }
 }
 
-/// The order of the command with this name, from the found options: `run`, `check`, `confirm` or `script`. It takes memory for
-/// the parts of a run, for the path of a file, and for a usage fault.
+/// Returns the order of the command with this name (`run`, `check`, `confirm` or `script`) and the found options. Allocates the parts of a
+/// run, the path of a file, and a usage fault.
 ///
 /// # Errors
 ///
@@ -184,7 +190,7 @@ pub fn order_by(alloc: Global, name: &str, options: &ArgMatches) -> Result<Order
     }
 }
 
-// The order of the command with this name, `check`, `confirm`, else `script`, from the found options.
+// Returns the order of the command with this name and the found options: `check`, `confirm`, or `script` for any other name.
 fn judging_order_by(alloc: Global, name: &str, options: &ArgMatches) -> Result<Order, Stop>
     ensures within { IfOk result IsWithinLimits }
     ensures check { name.now ≡ codes "check"
@@ -208,7 +214,7 @@ fn judging_order_by(alloc: Global, name: &str, options: &ArgMatches) -> Result<O
     }
 }
 
-// Why a name that no command has gives no order.
+// Returns the usage fault of a name that is not a command.
 fn no_command(alloc: Global) -> Stop
     ensures { IsUsageFault result }
 {
@@ -218,7 +224,7 @@ fn no_command(alloc: Global) -> Stop
     }
 }
 
-// The order to answer lines, which judges as this configuration says.
+// Returns the order to answer lines, with this configuration.
 fn script_of(options: &ArgMatches, config: Config) -> Order
     ensures { ScriptsAsFound (found_of options.now) config (Ok result) }
 {
@@ -228,7 +234,7 @@ fn script_of(options: &ArgMatches, config: Config) -> Order
     }
 }
 
-// The order to judge a recorded history, which judges as this configuration says.
+// Returns the order to judge a recorded history, with this configuration.
 fn check_of(alloc: Global, options: &ArgMatches, config: Config) -> Result<Order, Stop>
     requires { IsSetup (setup_of config) }
     ensures within { IfOk result IsWithinLimits }
@@ -250,7 +256,7 @@ fn check_of(alloc: Global, options: &ArgMatches, config: Config) -> Result<Order
     }
 }
 
-// The order to say what an order of its operations shows of a recorded history, which is read as this configuration says.
+// Returns the order to test an order of the operations of a recorded history, which is read with this configuration.
 fn confirm_of(alloc: Global, options: &ArgMatches, config: Config) -> Result<Order, Stop>
     requires { IsSetup (setup_of config) }
     ensures within { IfOk result IsWithinLimits }
@@ -273,7 +279,7 @@ fn confirm_of(alloc: Global, options: &ArgMatches, config: Config) -> Result<Ord
     }
 }
 
-// The two texts, with memory of their own.
+// Returns copies of the two texts.
 fn both_of(alloc: Global, first: &str, second: &str) -> Result<(String, String), AllocError>
     ensures { IfOk result (λ both. (string_bytes both.0 ≡ first.now) × (string_bytes both.1 ≡ second.now)) }
 {
@@ -283,7 +289,7 @@ fn both_of(alloc: Global, first: &str, second: &str) -> Result<(String, String),
     ))
 }
 
-// How many workers were asked for, 1 to 64.
+// Returns the number of workers in the found options, 1 to 64.
 fn workers_of(options: &ArgMatches) -> Option<u32>
     ensures found { result ≡ workers_found (found_of options.now) }
     ensures limits { IfSome result (λ workers. (1 ≤ workers) × (workers ≤ 64)) }
@@ -291,7 +297,7 @@ fn workers_of(options: &ArgMatches) -> Option<u32>
     workers_in(text_or(options, "workers", commands::WORKERS))
 }
 
-// The order to run clients.
+// Returns the order to run clients.
 fn run_of(alloc: Global, options: &ArgMatches) -> Result<Order, Stop>
     ensures within { IfOk result IsWithinLimits }
     ensures found { RunsAsFound (found_of options.now) result }
@@ -303,7 +309,7 @@ fn run_of(alloc: Global, options: &ArgMatches) -> Result<Order, Stop>
     }
 }
 
-// How the one-thread object is opened, which judges alone, by the options of the command of this name.
+// Returns the configuration of a one-thread object that only judges, from the found options of the command with this name.
 fn config_of(alloc: Global, name: &str, options: &ArgMatches) -> Result<Config, Stop>
     ensures within { IfOk result (λ config. IsSetup (setup_of config)) }
     ensures found { JudgesAsFound (found_of options.now) result }
@@ -315,7 +321,7 @@ fn config_of(alloc: Global, name: &str, options: &ArgMatches) -> Result<Config, 
     }
 }
 
-// The texts of the options of a run.
+// Returns the texts of the options of a run.
 fn run_texts<'a>(options: &ArgMatches<'a>, defaults: &RunTexts<'static>) -> RunTexts<'a>
     ensures { AreRunTexts (found_of options.now) defaults.now result }
 {
@@ -330,7 +336,7 @@ fn run_texts<'a>(options: &ArgMatches<'a>, defaults: &RunTexts<'static>) -> RunT
     }
 }
 
-// The texts of the options by which a history is judged.
+// Returns the texts of the options for judging a history.
 fn judging_texts<'a>(options: &ArgMatches<'a>, defaults: &JudgingTexts<'static>) -> JudgingTexts<'a>
     ensures { AreJudgingTexts (found_of options.now) defaults.now result }
 {
@@ -341,7 +347,7 @@ fn judging_texts<'a>(options: &ArgMatches<'a>, defaults: &JudgingTexts<'static>)
     }
 }
 
-// The text that the words give of an option, or this one if they give none. The default in the help of `clap` is passed over.
+// Returns the text of an option in the words, or `default` if the words have none. Ignores the default in the help of `clap`.
 fn text_or<'a>(options: &ArgMatches<'a>, id: &str, default: &'static str) -> &'a str
     ensures { result.now ≡ text_found (found_of options.now) id.now default.now }
 {
@@ -351,7 +357,7 @@ fn text_or<'a>(options: &ArgMatches<'a>, id: &str, default: &'static str) -> &'a
     }
 }
 
-// Why there is no order of the command of this name: a usage fault of an option, or a refusal.
+// Returns the reason why the command with this name has no order: a usage fault of an option, or a refusal.
 fn stop_by(alloc: Global, name: &str, why: Misspelled) -> Stop
     ensures { IsStopBy why result }
 {
@@ -361,7 +367,7 @@ fn stop_by(alloc: Global, name: &str, why: Misspelled) -> Stop
     }
 }
 
-// What the option takes.
+// Returns the message about the values that the option accepts.
 fn taken_by(option: OptionName) -> &'static str {
     match option {
         OptionName::Budget => "--budget takes a number, 1 to 65536",
@@ -376,7 +382,8 @@ fn taken_by(option: OptionName) -> &'static str {
     }
 }
 
-/// Why words that are not text give no order: `Words`, or `Refused` with `NoMemory` if there is no memory to say it.
+/// Returns the reason why words that are not text give no order: `Words`, or `Refused` with `NoMemory` if an allocation for the message
+/// fails.
 pub fn no_text(alloc: Global) -> Stop
     ensures { IsUsageFault result }
 {
@@ -386,7 +393,7 @@ pub fn no_text(alloc: Global) -> Stop
     }
 }
 
-// A usage fault of the command of this name, with this message.
+// Returns a usage fault of the command with this name, with this message.
 fn usage_of(alloc: Global, name: &str, message: &str) -> Stop
     ensures { IsUsageFault result }
 {
@@ -396,7 +403,7 @@ fn usage_of(alloc: Global, name: &str, message: &str) -> Stop
     }
 }
 
-// A usage fault with this message.
+// Returns a usage fault with this message.
 fn usage(command: &mut Command, message: &str) -> Stop
     ensures { IsUsageFault result }
 {
@@ -406,10 +413,10 @@ fn usage(command: &mut Command, message: &str) -> Stop
     }
 }
 
-/// The meaning of an error in these words for the program: itself for help and the version; else a usage fault.
+/// Returns the reason to stop for an error in these words. For help and the version it is the error itself, and otherwise a usage fault.
 ///
-/// If script was given a file, the message says that it takes none. If the name of a file stands in place of a command, the message says how
-/// to check this file. It takes memory for its message.
+/// If `script` was given a file, the message says that it takes none. If a path stands instead of a command, the message says how to check
+/// this file. Allocates the message.
 pub fn stop_at(alloc: Global, words: &[String], error: clap::Error) -> Stop
     ensures asked { IsRequest (kind_of error) → result ≡ Stop.Words error }
     ensures fault { (¬ IsRequest (kind_of error)) → IsUsageFault result }
@@ -422,7 +429,7 @@ pub fn stop_at(alloc: Global, words: &[String], error: clap::Error) -> Stop
     }
 }
 
-// The usage fault that an error in these words is; or out of memory.
+// Returns the usage fault for an error in these words, or the refusal `NoMemory`.
 fn fault_at(alloc: Global, words: &[String], error: clap::Error) -> Stop
     requires { ¬ IsRequest (kind_of error) }
     ensures fault { IsUsageFault result }
@@ -437,12 +444,12 @@ fn fault_at(alloc: Global, words: &[String], error: clap::Error) -> Stop
     }
 }
 
-// Whether a word looks like the path of a file.
+// Returns whether a word looks like the path of a file.
 fn is_path(word: &str) -> bool {
     word.bytes().any(|byte| byte == b'.' || byte == b'/')
 }
 
-// The usage fault of a path where a command must stand.
+// Returns the usage fault of a path that stands instead of a command.
 fn path_alone(alloc: Global, path: &str) -> Stop
     ensures { IsUsageFault result }
 {
@@ -456,7 +463,7 @@ fn path_alone(alloc: Global, path: &str) -> Stop
     }
 }
 
-// Whether the words are script and, somewhere behind it, one that is neither an option nor an option's value.
+// Returns whether the first word is `script` and a later word is neither an option nor an option's value.
 fn is_script_with_file(words: &[String]) -> bool {
     let Some(first) = words.first() else {
         return false;
@@ -469,7 +476,7 @@ fn is_script_with_file(words: &[String]) -> bool {
         })
 }
 
-// The usage fault of an error; or out of memory.
+// Returns the usage fault for an error, or the refusal `NoMemory`.
 fn fault_of(error: clap::Error) -> Stop
     requires { ¬ IsRequest (kind_of error) }
     ensures fault { IsUsageFault result }

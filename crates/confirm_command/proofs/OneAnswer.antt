@@ -1,10 +1,11 @@
 -- the bytes of a history and of an order have one answer
 use Rattle.std.proofs.Common.{◌≡◌, ℕ, ◌^◌, pos, List, [], ◌∷◌, ◌++◌, refl, sym, ap, ◌∙◌, subst}
-use Rattle.edn.specs.Value.{Value, int, Values, none, more}
+use Rattle.edn_values.specs.Value.{Value, int, Values, none, more}
 use Rattle.edn.proofs.Unique.{one_text}
 use Rattle.kinds.specs.declared.model_kind.ModelKind.{ModelKind}
 use Rattle.events.specs.declared.event.Event.{Event}
 use Rattle.events.specs.Spelling.{IsNumber}
+use Rattle.events.specs.OwnNames.{no_names}
 use Rattle.events.proofs.OneEvent.{spell_one}
 use Rattle.witness.specs.declared.confirming.Confirmation.{Confirmation}
 use Rattle.witness.specs.declared.confirming.Confirmation.TheVariants.{Linearizable, NoOrder}
@@ -17,7 +18,7 @@ use Rattle.confirm_command.specs.declared.found.Found.TheVariants.{Shown}
 pushes_one : (c : ℕ) (old : List Event) (vs : Values) (events others : List Event) → PushesAll c old vs events → PushesAll c old vs others → events ≡ others
 pushes_one c old none events others a b = a ∙ sym b
 pushes_one c old (more v vs) events others a b =
-    let same = a.1.3 ∙ ap (λ e. old ++ e ∷ []) (spell_one v a.1.0 b.1.0 a.1.1 b.1.1) ∙ sym b.1.3 in
+    let same = a.1.3 ∙ ap (λ e. old ++ e ∷ []) (spell_one no_names v a.1.0 b.1.0 a.1.1 b.1.1) ∙ sym b.1.3 in
     pushes_one c b.0 vs events others (subst (λ mid. PushesAll c mid vs events) same a.2) b.2
 
 pub one_history : (c : ℕ) (bytes : List ℕ) (events others : List Event) → IsWhole c bytes events → IsWhole c bytes others → events ≡ others

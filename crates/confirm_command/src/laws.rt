@@ -1,4 +1,4 @@
-//! Laws of the definitions.
+//! A law about confirmations.
 ghost use Rattle.std.specs.Prelude.{◌≡◌, ℕ, List};
 ghost use Rattle.kinds.specs.declared.model_kind.ModelKind.{ModelKind};
 ghost use Rattle.events.specs.declared.event.Event.{Event};
@@ -8,7 +8,7 @@ ghost use Rattle.confirm_command.specs.Found.{ComesTo, IsWhole};
 ghost use Rattle.confirm_command.specs.declared.found.Found.{Found};
 
 /// The bytes of a history and of an order determine the events, the order and the answer, and so the line and the exit status. The answer
-/// says whether the list is an order of the history, and else has the place, the event and the reason.
+/// says whether the list is an order of the history. If it is not, the answer has the place, the event and the reason.
 pub fn one_answer()
     ensures history { (c : ℕ) (bytes : List ℕ) (events others : List Event) →
         IsWhole c bytes events → IsWhole c bytes others → events ≡ others }

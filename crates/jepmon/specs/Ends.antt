@@ -24,7 +24,7 @@ use Rattle.command_line.specs.declared.order.Order.{Order}
 use Rattle.command_line.specs.declared.order.Order.TheVariants as order
 use Rattle.command_line.specs.declared.order.Stop.{Stop}
 
--- the bytes of a reader and the rest; the results of its reads before and after, if that is known; and whether it has failed
+-- the bytes in a reader before and after; the results of its reads before and after, if they are known; and whether it has failed
 pub record Input : Type 0 where
   pub had : Option (List ℕ)
   pub left : Option (List ℕ)
@@ -32,7 +32,7 @@ pub record Input : Type 0 where
   pub log_after : Option (List Logged)
   pub has_failed : Bool
 
--- the bytes that a writer held, and holds; whether it has failed, and whether they are flushed
+-- the bytes of a writer before and after; whether it has failed, and whether they are flushed
 pub record Output : Type 0 where
   pub before : Option (List ℕ)
   pub after : Option (List ℕ)
@@ -44,11 +44,11 @@ abbrev pub EndsWith : Result (Option Verdict) Refusal → ℕ → Type 0
 EndsWith outcome status =
     MatchResult outcome (λ said. MatchOption said (status ≡ 3) (λ verdict. status ≡ status_of verdict)) (λ _. status ≡ 3)
 
--- nothing was read or written, since the configuration can't be opened
+-- nothing was read or written, since no object can be opened with this setup
 abbrev pub IsUntouched : Setup → Input → Output → Refusal → Type 0
 IsUntouched setup input output why = MayNotOpen setup why × (input.left ≡ input.had) × (output.after ≡ output.before)
 
--- a script of these lines: the promises of `scripts::run_script`, and the exit status of its end
+-- a script of these lines: the promises of `script_command::run_script`, and the exit status of its end
 pub record IsScript (setup : Setup) (is_strict : Bool) (input : Input) (output : Output) (status : ℕ) : Type 0 where
   pub outcome : Result (Option Verdict) Refusal
   pub limits : IsSetup setup ⊎ IsErrAnd outcome (IsUntouched setup input output)
@@ -67,7 +67,7 @@ pub record IsScript (setup : Setup) (is_strict : Bool) (input : Input) (output :
   pub writes_well : outcome ≢ Err WriteFailed → output.has_failed ≡ false
   pub ends : EndsWith outcome status
 
--- nothing was read of it
+-- nothing was read from the input
 abbrev pub IsUnread : Input → Type 0
 IsUnread input = input.left ≡ input.had
 
@@ -77,21 +77,21 @@ IsCheck holds path setup input output status =
     (path ≡ codes "-" → Checks setup input.had input.left input.has_failed output.before output.after output.has_failed output.is_flushed status)
     × (path ≢ codes "-" → IsUnread input × ChecksFile setup (holds path) output.before output.after output.has_failed output.is_flushed status)
 
--- an order in the file of its path, shown of the history on standard input, if the path is `-`, else of that in the file of
--- this path
+-- a confirmation of the order in the file of its path, for the history on standard input, if the path is `-`, else for the history in the
+-- file of this path
 abbrev pub IsConfirmation : (List ℕ → Option (List ℕ)) → List ℕ → List ℕ → ℕ → ModelKind → Input → Output → ℕ → Type 0
 IsConfirmation holds path order_path concurrency kind input output status =
     (path ≡ codes "-" → ConfirmsInput concurrency kind input.had input.left input.has_failed (holds order_path) output.before output.after output.has_failed output.is_flushed status)
     × (path ≢ codes "-" → IsUnread input × ConfirmsFiles concurrency kind (holds path) (holds order_path) output.before output.after output.has_failed output.is_flushed status)
 
--- a run says what came of it, or why there was none; of a strict store never that it is illegal
+-- a run writes its report, or the line of a refusal. The status of a run of a strict store is never that of an illegal history
 abbrev pub IsARun : Setup → Output → ℕ → Type 0
 IsARun setup output status =
     ((text : List ℕ) × (told : ℕ) × MaySay setup text told
     × IsPut text told output.before output.after output.has_failed output.is_flushed status)
     × (setup.mode ≡ Strict → status ≢ 1)
 
--- the order is carried out, if the system's files hold these
+-- the order is carried out; `holds` gives the contents of the system's files
 abbrev pub IsCarriedOut : (List ℕ → Option (List ℕ)) → Order → Input → Output → ℕ → Type 0
 IsCarriedOut holds (order.Script config is_strict) input output status = IsScript (setup_of config) is_strict input output status
 IsCarriedOut holds (order.Check path workers config) input output status = IsCheck holds (string_bytes path) (setup_of config) input output status
@@ -99,14 +99,14 @@ IsCarriedOut holds (order.Confirm path order_path concurrency kind) input output
     IsConfirmation holds (string_bytes path) (string_bytes order_path) concurrency kind input output status
 IsCarriedOut holds (order.Run config) input output status = IsUnread input × IsARun (setup_of config) output status
 
--- the end of the program. If there is no order nothing is read, and the output and the status are those of the alternative
+-- the end of the program. If there is no order, nothing is read, and the output and the status are those of the stop
 abbrev pub EndsAs : (List ℕ → Option (List ℕ)) → Result Order Stop → Input → Output → ℕ → Type 0
 EndsAs holds given input output status =
     MatchResult given
     (λ asked. IsCarriedOut holds asked input output status)
     (λ stop. IsUnread input × EndsWithoutOrder stop output.before output.after output.has_failed output.is_flushed status)
 
--- the words that the process got give an order, or its alternative, and the program ends as this says
+-- the words of the process give an order or a stop, and the program ends in that way
 abbrev pub EndsByWords : (List ℕ → Option (List ℕ)) → Result (IntoIter (String Global) Global) Error → Input → Output → ℕ → Type 0
 EndsByWords holds words input output status =
     (given : Result Order Stop) × IsOrderGiven words given × EndsAs holds given input output status

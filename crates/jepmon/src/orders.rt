@@ -1,4 +1,4 @@
-//! Orders, carried out: the input and the output of each, and its exit status.
+//! Execution of the orders on the command line: the input and the output of each, and its exit status.
 ghost use Rattle.std.specs.Prelude.{◌≡◌, ◌≤◌, None, false, IfOk};
 ghost use Rattle.std.specs.Process.{exit_status};
 ghost use Rattle.harness.specs.Setups.{setup_of};
@@ -12,7 +12,7 @@ use confirm_command::{confirm_file, confirm_input};
 use harness::Config;
 use kinds::ModelKind;
 use line_loop::{Failed, Flushes, ReadsWithWriter};
-use observers::OnStandardError;
+use observers::{Observer, OnStandardError};
 use run_command::run_store;
 use script_command::run_script;
 use std::alloc::Global;
@@ -26,14 +26,14 @@ use std::thread::Threads;
 /// The name of standard input in the message about a failed read.
 pub const INPUT: &str = "standard input";
 
-// Says how to go on, if somebody at a terminal has to type what the program reads.
+// Prints how to go on, if the program reads what somebody types at a terminal.
 fn greet<R: Eprint>(rt: &R, is_terminal: bool) {
     if is_terminal {
         let _ = rt.eprintln(TYPED);
     }
 }
 
-/// Answers the lines of the reader. Says how to go on, if somebody at a terminal has to type them.
+/// Answers the lines of the reader. Prints how to go on, if somebody types them at a terminal.
 pub fn script<'a, X: Wait + Clock + Eprint, R: ReadsWithWriter<W>, W: Write + Failed + Flushes>(
     rt: &X,
     alloc: Global,
@@ -68,7 +68,7 @@ pub fn script<'a, X: Wait + Clock + Eprint, R: ReadsWithWriter<W>, W: Write + Fa
     status_after(rt, alloc, outcome, aside)
 }
 
-/// Judges the history of a file; of the reader, if the path is `-`.
+/// Judges the history in a file, or in the reader if the path is `-`.
 pub fn check<
     'a,
     X: Wait + Threads + Opens + Sync + Clock + Eprint,
@@ -113,7 +113,7 @@ pub fn check<
     status
 }
 
-/// Says what an order of operations shows of the history in a file, or in the reader if the path is `-`.
+/// Tests an order of the operations of the history in a file, or in the reader if the path is `-`.
 pub fn confirm<'a, X: Wait + Opens + Clock + Eprint, R: Read + Failed, W: Write + Failed + Flushes>(
     rt: &X,
     alloc: Global,
@@ -171,7 +171,7 @@ pub fn confirm<'a, X: Wait + Opens + Clock + Eprint, R: Read + Failed, W: Write 
     status
 }
 
-/// Runs clients against a store in the process.
+/// Runs clients against a store inside the process.
 pub fn run<'a, X: Wait + Threads + Sync + Clock + Eprint, W: Write + Failed + Flushes>(
     rt: &X,
     alloc: Global,
@@ -196,9 +196,8 @@ pub fn run<'a, X: Wait + Threads + Sync + Clock + Eprint, W: Write + Failed + Fl
     status
 }
 
-/// Carries out the order in the words that the process got, or its alternative, and gives the exit status. The words are the result of
-/// `std::env::args`, this reader is standard input, and this writer is standard output. Whether somebody has to type the input, its handle
-/// says.
+/// Carries out the order in the words of the process, or reports why there is none, and returns the exit status. `words` is the result of
+/// `std::env::args`, `reader` is standard input, and `writer` is standard output. The handle `input` says whether somebody types the input.
 pub fn ended<
     'a,
     'b,
@@ -206,12 +205,13 @@ pub fn ended<
     T: IsTerminal,
     R: ReadsWithWriter<W>,
     W: Write + Failed + Flushes,
+    L: Observer,
 >(
     rt: &X,
     alloc: Global,
     words: io::Result<Args>,
     input: &T,
-    reader: &mut SeenFile<'b, R, OnStandardError<'a, X>>,
+    reader: &mut SeenFile<'b, R, L>,
     writer: &mut W,
     aside: &OnStandardError<'a, X>,
 ) -> ExitCode
@@ -238,7 +238,7 @@ pub fn ended<
     ExitCode::from(status)
 }
 
-// Carries out the order, or its alternative, and gives the status.
+// Carries out the order, or reports why there is none, and returns the exit status.
 fn status_given<
     'a,
     'b,
@@ -246,12 +246,13 @@ fn status_given<
     T: IsTerminal,
     R: ReadsWithWriter<W>,
     W: Write + Failed + Flushes,
+    L: Observer,
 >(
     rt: &X,
     alloc: Global,
     given: Result<Order, Stop>,
     input: &T,
-    reader: &mut SeenFile<'b, R, OnStandardError<'a, X>>,
+    reader: &mut SeenFile<'b, R, L>,
     writer: &mut W,
     aside: &OnStandardError<'a, X>,
 ) -> u8
@@ -280,7 +281,7 @@ fn status_given<
     }
 }
 
-// Carries out an order, with this reader as standard input and this writer as standard output.
+// Carries out an order, with `reader` as standard input and `writer` as standard output. Returns the exit status.
 fn carried_out<
     'a,
     'b,
@@ -288,12 +289,13 @@ fn carried_out<
     T: IsTerminal,
     R: ReadsWithWriter<W>,
     W: Write + Failed + Flushes,
+    L: Observer,
 >(
     rt: &X,
     alloc: Global,
     order: Order,
     input: &T,
-    reader: &mut SeenFile<'b, R, OnStandardError<'a, X>>,
+    reader: &mut SeenFile<'b, R, L>,
     writer: &mut W,
     aside: &OnStandardError<'a, X>,
 ) -> u8

@@ -12,14 +12,14 @@ use std::fmt;
 pub enum Remark {
     /// Nothing was judged.
     NoEvent,
-    /// The operation that shows it is none that the key's object has. Another kind may have all that the key saw.
+    /// The key's object does not have the operation at the verdict's index. Another kind may have all operations of the key.
     NoneOfTheKind {
         key: Key,
         kind: ModelKind,
         name: Name,
         meant: Option<ModelKind>,
     },
-    /// The budget of the key was too small. Another kind of the same object may do with it.
+    /// The budget of the key was too small. Another kind of the same object may need only a smaller budget.
     Blown {
         key: Key,
         kind: ModelKind,
@@ -34,7 +34,7 @@ macro_rules! kinds_listed {
 
 const KINDS: [ModelKind; 11] = each_kind!(kinds_listed;);
 
-// Whether objects of this kind have operations of this name.
+// Returns whether objects of this kind have operations of this name.
 fn has_operation(kind: ModelKind, name: Name) -> bool {
     match kind {
         ModelKind::Register | ModelKind::WideRegister => {
@@ -49,10 +49,12 @@ fn has_operation(kind: ModelKind, name: Name) -> bool {
         | ModelKind::WideFifoQueue
         | ModelKind::WideUnorderedQueue => { matches!(name, Name::Enqueue | Name::Dequeue) }
         ModelKind::Set | ModelKind::WideSet => matches!(name, Name::Add | Name::Read),
+        // A file of objects has its own remarks.
+        ModelKind::Own(_) => true,
     }
 }
 
-/// The remark on this verdict of the monitor, if any.
+/// Returns the remark on this verdict of the monitor, if any.
 pub fn remark_on(monitor: &Monitor, verdict: &Verdict) -> Option<Remark> {
     match verdict {
         Verdict::Legal => None,
@@ -64,7 +66,7 @@ pub fn remark_on(monitor: &Monitor, verdict: &Verdict) -> Option<Remark> {
     }
 }
 
-// Says so if the event of this index is of an operation that the key's object does not have.
+// Returns a remark if the event at `index` is about an operation that the key's object does not have.
 fn none_of_the_kind(monitor: &Monitor, key: Key, index: u32) -> Option<Remark> {
     let events = monitor.history().events();
     let Body::Op(op) = &events.get(index as usize)?.body else {
@@ -85,7 +87,7 @@ fn none_of_the_kind(monitor: &Monitor, key: Key, index: u32) -> Option<Remark> {
     })
 }
 
-// The things that the budget of a key of this kind limits.
+// Returns the words for the things that the budget of a key of this kind counts.
 fn counted(kind: ModelKind) -> &'static str {
     match kind {
         ModelKind::WideRegister => "lean ends",
@@ -94,7 +96,7 @@ fn counted(kind: ModelKind) -> &'static str {
     }
 }
 
-// The wide kind of a plain kind's object, if there is one.
+// Returns the wide kind of a plain kind's object, if there is one.
 fn wide_kind(kind: ModelKind) -> Option<ModelKind> {
     match kind {
         ModelKind::Register => Some(ModelKind::WideRegister),
@@ -106,7 +108,7 @@ fn wide_kind(kind: ModelKind) -> Option<ModelKind> {
     }
 }
 
-// The kind by which the key is judged.
+// Returns the kind by which the key is judged.
 fn kind_of(monitor: &Monitor, key: Key) -> Option<ModelKind> {
     for i in 0..monitor.key_count() {
         let row = monitor.key_at(i);
@@ -117,7 +119,7 @@ fn kind_of(monitor: &Monitor, key: Key) -> Option<ModelKind> {
     None
 }
 
-// Whether objects of this kind have all operations of the key among the events.
+// Returns whether objects of this kind have all operations of the key in `events`.
 fn has_all(kind: ModelKind, events: &[Event], key: Key) -> bool {
     events.iter().all(|event| match &event.body {
         Body::Op(op) => op.key != key || has_operation(kind, op.name),

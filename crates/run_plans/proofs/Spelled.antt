@@ -12,8 +12,8 @@ use Rattle.std.proofs.lemmas.Slice.Eq.{bytes_eq-Decides}
 use Rattle.std.proofs.lemmas.Str.Parse.{IsNumeralModel, numerals_by_value, parse_digits}
 use Rattle.models.specs.Names.{Finds}
 use Rattle.kinds.specs.declared.model_kind.ModelKind.{ModelKind}
-use Rattle.kinds.specs.declared.model_kind.ModelKind.TheVariants.{Register, CasRegister, Mutex, FifoQueue, Set, UnorderedQueue, WideRegister, WideCasRegister, WideSet, WideFifoQueue, WideUnorderedQueue}
-use Rattle.kinds.specs.Kinds.{name_of}
+use Rattle.kinds.specs.declared.model_kind.ModelKind.TheVariants.{Register, CasRegister, Mutex, FifoQueue, Set, UnorderedQueue, WideRegister, WideCasRegister, WideSet, WideFifoQueue, WideUnorderedQueue, Own}
+use Rattle.kinds.specs.Kinds.{IsBuiltIn, name_of}
 use Rattle.run_plans.specs.Options.{kind_spelled, after_byte, are_digits, digits_spelled, number_spelled, count_behind, count_spelled}
 
 own : IsNumeralModel (λ ds. list_all is_ascii_digit ds ≡ true) (digits_value 10)
@@ -59,20 +59,21 @@ unnamed text kind other = go (bytes_eq text (name_of kind)) refl where
   go false is = refl
   go true is = absurd (other ((bytes_eq-Decides text (name_of kind)).0 is))
 
-named_so : (kind : ModelKind) → kind_spelled (name_of kind) ≡ Some kind
-named_so Register = refl
-named_so CasRegister = refl
-named_so Mutex = refl
-named_so FifoQueue = refl
-named_so Set = refl
-named_so UnorderedQueue = refl
-named_so WideRegister = refl
-named_so WideCasRegister = refl
-named_so WideSet = refl
-named_so WideFifoQueue = refl
-named_so WideUnorderedQueue = refl
+named_so : (kind : ModelKind) → IsBuiltIn kind → kind_spelled (name_of kind) ≡ Some kind
+named_so Register is = refl
+named_so CasRegister is = refl
+named_so Mutex is = refl
+named_so FifoQueue is = refl
+named_so Set is = refl
+named_so UnorderedQueue is = refl
+named_so WideRegister is = refl
+named_so WideCasRegister is = refl
+named_so WideSet is = refl
+named_so WideFifoQueue is = refl
+named_so WideUnorderedQueue is = refl
+named_so (Own object) is = absurd is
 
-pub named : (text : List ℕ) (found : Option ModelKind) → Finds found (λ kind. text ≡ name_of kind) → found ≡ kind_spelled text
-named text (Some kind) is = sym (ap kind_spelled is ∙ named_so kind)
+pub named : (text : List ℕ) (found : Option ModelKind) → Finds found (λ kind. IsBuiltIn kind × (text ≡ name_of kind)) → found ≡ kind_spelled text
+named text (Some kind) is = sym (ap kind_spelled is.1 ∙ named_so kind is.0)
 named text None other =
-    rw (unnamed text Register (other Register), unnamed text CasRegister (other CasRegister), unnamed text Mutex (other Mutex), unnamed text FifoQueue (other FifoQueue), unnamed text Set (other Set), unnamed text UnorderedQueue (other UnorderedQueue), unnamed text WideRegister (other WideRegister), unnamed text WideCasRegister (other WideCasRegister), unnamed text WideSet (other WideSet), unnamed text WideFifoQueue (other WideFifoQueue), unnamed text WideUnorderedQueue (other WideUnorderedQueue)) refl
+    rw (unnamed text Register (λ e. other Register (tt, e)), unnamed text CasRegister (λ e. other CasRegister (tt, e)), unnamed text Mutex (λ e. other Mutex (tt, e)), unnamed text FifoQueue (λ e. other FifoQueue (tt, e)), unnamed text Set (λ e. other Set (tt, e)), unnamed text UnorderedQueue (λ e. other UnorderedQueue (tt, e)), unnamed text WideRegister (λ e. other WideRegister (tt, e)), unnamed text WideCasRegister (λ e. other WideCasRegister (tt, e)), unnamed text WideSet (λ e. other WideSet (tt, e)), unnamed text WideFifoQueue (λ e. other WideFifoQueue (tt, e)), unnamed text WideUnorderedQueue (λ e. other WideUnorderedQueue (tt, e))) refl

@@ -24,32 +24,32 @@ use Rattle.run_plans.specs.declared.options.RunTexts.{RunTexts}
 
 -- Numbers
 
--- digits alone, and one at least
+-- the text has only digits, and at least one
 abbrev pub are_digits : List ℕ → Bool
 are_digits text = nat_lt 0 (length text) && list_all is_ascii_digit text
 
--- the number that they spell
+-- the number of the digits, or None
 abbrev pub digits_spelled : List ℕ → Option ℕ
 digits_spelled text = if are_digits text then Some (digits_value 10 text) else None
 
--- the rest behind this byte, if the text begins with it
+-- the text after this byte, or None if the text does not begin with it
 abbrev pub after_byte : ℕ → List ℕ → Option (List ℕ)
 after_byte byte [] = None
 after_byte byte (first ∷ rest) = if first == byte then Some rest else None
 
--- a plus may stand before the digits
+-- the number of the digits, which a plus may precede
 abbrev pub number_spelled : List ℕ → Option ℕ
 number_spelled text = digits_spelled (unwrap_or (after_byte 43 text) text)
 
 abbrev pub is_from_to : ℕ → ℕ → ℕ → Bool
 is_from_to least most n = nat_le least n && nat_le n most
 
--- such a number from the least to the most
+-- the number, if it is at least `least` and at most `most`
 abbrev pub number_within : ℕ → ℕ → List ℕ → Option ℕ
 number_within least most text =
     option_and_then (λ n. if is_from_to least most n then Some n else None) (number_spelled text)
 
--- a minus may stand before the digits too. Numbers below 0 count as 0, and those above 2^32 - 1 as that
+-- the number of the digits, which a minus or a plus may precede. A number below 0 counts as 0, and one above 2^32 - 1 as 2^32 - 1
 abbrev pub count_behind : Option (List ℕ) → List ℕ → Option ℕ
 count_behind (Some digits) text = option_map (λ n. 0) (digits_spelled digits)
 count_behind None text = option_map (λ n. min n (2 ^ 32 - 1)) (number_spelled text)
@@ -88,22 +88,22 @@ switch_spelled text =
 
 -- Configurations: the tests of the texts, in order
 
--- the text of the option spells a value, and so it goes on
+-- the rest, with the value of the option; or the refusal of the option if its text has no value
 abbrev pub needs : {A B : Type 0} → OptionName → Option A → (A → Result B Misspelled) → Result B Misspelled
 needs option None rest = Err (Unread option)
 needs option (Some x) rest = rest x
 
--- it passes the test, and so it goes on
+-- the rest if the test is true, else the refusal `why`
 abbrev pub allows : {B : Type 0} → Refusal → Bool → Result B Misspelled → Result B Misspelled
 allows why false rest = Err (Refused why)
 allows why true rest = rest
 
--- there is one, and so it goes on
+-- the rest, with the value of the first result, or the refusal of the first result
 abbrev pub result_then : {A B : Type 0} → Result A Misspelled → (A → Result B Misspelled) → Result B Misspelled
 result_then (Err why) rest = Err why
 result_then (Ok x) rest = rest x
 
--- how the object is opened to judge
+-- the setup of an object that only judges
 abbrev pub judging_spelled : JudgingTexts → Result Setup Misspelled
 judging_spelled texts =
     needs Budget (count_spelled texts.budget.now) (λ budget.
@@ -131,7 +131,7 @@ plan_spelled texts =
       has_faults = has_faults;
     })))))))
 
--- how the object is opened for a run. The nemesis takes one of 64 seats
+-- the setup of the object of a run. The nemesis takes one of 64 seats
 abbrev pub run_spelled : RunTexts → Result Setup Misspelled
 run_spelled texts =
     result_then (judging_spelled texts.judging) (λ judge.
@@ -140,7 +140,7 @@ run_spelled texts =
     (allows NoSuchReplica (is_from_to 1 7 plan.replicas)
     (Ok (run_setup plan judge)))))
 
--- if no option says otherwise
+-- the setups without options
 abbrev pub default_setup : Setup
 default_setup = judging 2 Register 4096
 

@@ -1,4 +1,4 @@
-//! The configuration of the one-thread object in the texts of options.
+//! The configuration of the one-thread object, given by the texts of options.
 ghost use Rattle.std.specs.Prelude.{◌≡◌, ◌⊎◌, ◌≤◌, Ok, Err, IfOk, IfErr, IsOk, MatchResult};
 ghost use Rattle.edn.specs.declared.refusal.Refusal.TheVariants.{NoMemory};
 ghost use Rattle.harness.specs.Setups.{setup_of, IsSetup};
@@ -13,7 +13,7 @@ use monitor::MOST_ENDS;
 use processes::MOST_THREADS;
 use std::alloc::Global;
 
-// Clients of a run at most: of the 64 seats of a board the nemesis takes one.
+// The maximum number of clients of a run: the nemesis takes one of the 64 seats of a board.
 const MOST_CLIENTS: u32 = 63;
 
 const MOST_SEED: u64 = 0x7fff_ffff_ffff_ffff;
@@ -45,12 +45,12 @@ pub enum OptionName {
     Faults,
 }
 
-/// Why texts spell no configuration.
+/// The reason why texts spell no configuration.
 #[derive(Drop)]
 pub enum Misspelled {
-    /// The text of this option is none that it takes.
+    /// The option does not accept its text.
     Unread(OptionName),
-    /// A number is out of its limits, or memory was refused.
+    /// A number is outside its limits, or an allocation failed.
     Refused(Refusal),
 }
 
@@ -63,7 +63,7 @@ pub struct JudgingTexts<'a> {
 }
 
 impl JudgingTexts<'_> {
-    /// Those of options that are not given.
+    /// Returns the texts of options that are not given.
     pub fn defaults() -> JudgingTexts<'static>
         ensures { judging_spelled result ≡ Ok default_setup }
     {
@@ -74,13 +74,14 @@ impl JudgingTexts<'_> {
         }
     }
 
-    /// How the one-thread object is opened with these texts; it only judges then. A number may have a plus
-    /// before it, and a minus. It takes no memory, and the time of the texts.
+    /// Returns the configuration that these texts spell, of an object that only judges. A number may begin with a plus or a minus. Does not
+    /// allocate. Costs O(length of the texts).
     ///
     /// # Errors
     ///
-    /// [`Misspelled::Unread`] of the first text, in the order budget, concurrency, model, that is not a number or a name of a kind. Else
-    /// [`Refusal::BadBudget`] if the budget is not 1 to 65,536, else [`Refusal::BadConcurrency`] if the concurrency is not 1 to 64.
+    /// [`Misspelled::Unread`] of the first text, in the order budget, concurrency, model, that is not a number or a name of a kind.
+    /// Otherwise [`Refusal::BadBudget`] if the budget is not 1 to 65,536, otherwise [`Refusal::BadConcurrency`] if the concurrency is not 1
+    /// to 64.
     pub fn config(&self, alloc: Global) -> Result<Config, Misspelled>
         ensures spelled { MatchResult result
             (λ config. judging_spelled self.now ≡ Ok (setup_of config))
@@ -109,7 +110,7 @@ impl JudgingTexts<'_> {
 /// The texts of the options of a run.
 #[derive(Clone, Copy)]
 pub struct RunTexts<'a> {
-    /// How its history is judged.
+    /// The options by which the history of the run is judged.
     pub judging: JudgingTexts<'a>,
     pub seed: &'a str,
     pub operations: &'a str,
@@ -120,7 +121,7 @@ pub struct RunTexts<'a> {
 }
 
 impl RunTexts<'_> {
-    /// Those of options that are not given.
+    /// Returns the texts of options that are not given.
     pub fn defaults() -> RunTexts<'static>
         ensures { run_spelled result ≡ Ok default_run }
     {
@@ -135,15 +136,15 @@ impl RunTexts<'_> {
         }
     }
 
-    /// How the one-thread object is opened for a run with these texts. It costs O(bytes of the texts), and the time and memory of
+    /// Returns the configuration of a run that these texts spell. Costs O(bytes of the texts), and the time and memory of
     /// [`RunPlan::config`].
     ///
     /// # Errors
     ///
-    /// Those of [`JudgingTexts::config`]. Else [`Misspelled::Unread`] of the first text that is not a number or a name, or of a seed,
-    /// operations or keys out of their limits. The order is seed, operations, keys, replicas, mode, faults. Else
-    /// [`Refusal::BadConcurrency`] if the concurrency is 64, else [`Refusal::NoSuchReplica`] if the replicas are not 1 to 7, else
-    /// [`Refusal::NoMemory`] if memory is refused.
+    /// Those of [`JudgingTexts::config`]. Otherwise [`Misspelled::Unread`] of the first wrong text, in the order seed, operations, keys,
+    /// replicas, mode, faults. A text is wrong if it is not a number or a name, or a seed, operations or keys outside their limits.
+    /// Otherwise [`Refusal::BadConcurrency`] if the concurrency is 64, otherwise [`Refusal::NoSuchReplica`] if the number of replicas is
+    /// not 1 to 7, otherwise [`Refusal::NoMemory`] if an allocation fails.
     pub fn config(&self, alloc: Global) -> Result<Config, Misspelled>
         ensures spelled { IfOk result (λ config. run_spelled self.now ≡ Ok (setup_of config)) }
         ensures within { IfOk result (λ config.
@@ -165,7 +166,7 @@ impl RunTexts<'_> {
         }
     }
 
-    // The plan of clients and faults. The number of replicas is not tested yet.
+    // Returns the plan of clients and faults. Does not test the number of replicas.
     fn plan(&self) -> Result<RunPlan, Misspelled>
         ensures { MatchResult result (λ plan. plan_spelled self.now ≡ Ok plan)
             (λ why. plan_spelled self.now ≡ Err why) }

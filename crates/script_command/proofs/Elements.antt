@@ -3,19 +3,19 @@ use Rattle.std.proofs.Common.{◌≡◌, ◌≢◌, ◌≤◌, ℕ, refl, List, 
 use Rattle.std.specs.Prelude.{codes, nat_lt, ◌^◌, if◌then◌else◌, pos}
 use Rattle.std.specs.Str.{bytes_eq}
 use Rattle.std.proofs.lemmas.Slice.Eq.{bytes_eq-Decides}
-use Rattle.edn.specs.Value.{Value, nil, bool, int, text, keyword, vector, members, pairs, Values, none, more}
-use Rattle.edn.specs.Parts.{elements_in}
-use Rattle.edn.specs.View.{value_of, values_of}
+use Rattle.edn_values.specs.Value.{Value, nil, bool, int, text, keyword, vector, members, pairs, Values, none, more}
+use Rattle.edn_values.specs.Parts.{elements_in}
+use Rattle.edn_values.specs.View.{value_of, values_of}
 use Rattle.edn.specs.Text.{IsText}
 use Rattle.std.specs.Prelude.{string_bytes}
 use Rattle.std.specs.declared.alloc.Global.{Global}
-use Rattle.edn.specs.declared.value.Edn.{Edn, Keyword, the_lemmas}
+use Rattle.edn_values.specs.declared.value.Edn.{Edn, Keyword, the_lemmas}
 use Rattle.edn.specs.declared.refusal.Refusal.{Refusal}
 use Rattle.edn.specs.declared.refusal.Refusal.TheVariants.{BadValue, BadBudget, NoSuchIndex, NoMemory, Unreadable}
 use Rattle.models.specs.Names.{Finds}
 use Rattle.kinds.specs.declared.model_kind.ModelKind.{ModelKind}
-use Rattle.kinds.specs.declared.model_kind.ModelKind.TheVariants.{Register, CasRegister, Mutex, FifoQueue, Set, UnorderedQueue, WideRegister, WideCasRegister, WideSet, WideFifoQueue, WideUnorderedQueue}
-use Rattle.kinds.specs.Kinds.{name_of}
+use Rattle.kinds.specs.declared.model_kind.ModelKind.TheVariants.{Register, CasRegister, Mutex, FifoQueue, Set, UnorderedQueue, WideRegister, WideCasRegister, WideSet, WideFifoQueue, WideUnorderedQueue, Own}
+use Rattle.kinds.specs.Kinds.{IsBuiltIn, name_of}
 use Rattle.events.specs.declared.event.Event.{Event}
 use Rattle.events.specs.Spelling.{Spells, WhyUnspelled}
 use Rattle.machine.specs.declared.command.Command.TheVariants.{Append, Rewind, SetBudget, Verdict, Draw, Serve, Finish, Nemesis}
@@ -46,23 +46,24 @@ unnamed name kind other = by_answer (bytes_eq name (name_of kind)) refl
     by_answer false is = refl
     by_answer true is = absurd (other ((bytes_eq-Decides name (name_of kind)).0 is))
 
-kind_named-name_of : (kind : ModelKind) → kind_named (name_of kind) ≡ Some kind
-kind_named-name_of Register = refl
-kind_named-name_of CasRegister = refl
-kind_named-name_of Mutex = refl
-kind_named-name_of FifoQueue = refl
-kind_named-name_of Set = refl
-kind_named-name_of UnorderedQueue = refl
-kind_named-name_of WideRegister = refl
-kind_named-name_of WideCasRegister = refl
-kind_named-name_of WideSet = refl
-kind_named-name_of WideFifoQueue = refl
-kind_named-name_of WideUnorderedQueue = refl
+kind_named-name_of : (kind : ModelKind) → IsBuiltIn kind → kind_named (name_of kind) ≡ Some kind
+kind_named-name_of Register is = refl
+kind_named-name_of CasRegister is = refl
+kind_named-name_of Mutex is = refl
+kind_named-name_of FifoQueue is = refl
+kind_named-name_of Set is = refl
+kind_named-name_of UnorderedQueue is = refl
+kind_named-name_of WideRegister is = refl
+kind_named-name_of WideCasRegister is = refl
+kind_named-name_of WideSet is = refl
+kind_named-name_of WideFifoQueue is = refl
+kind_named-name_of WideUnorderedQueue is = refl
+kind_named-name_of (Own object) is = absurd is
 
-pub named : (name : List ℕ) (found : Option ModelKind) → Finds found (λ kind. name ≡ name_of kind) → found ≡ kind_named name
-named name (Some kind) is = sym (ap kind_named is ∙ kind_named-name_of kind)
+pub named : (name : List ℕ) (found : Option ModelKind) → Finds found (λ kind. IsBuiltIn kind × (name ≡ name_of kind)) → found ≡ kind_named name
+named name (Some kind) is = sym (ap kind_named is.1 ∙ kind_named-name_of kind is.0)
 named name None other =
-    rw (unnamed name Register (other Register), unnamed name CasRegister (other CasRegister), unnamed name Mutex (other Mutex), unnamed name FifoQueue (other FifoQueue), unnamed name Set (other Set), unnamed name UnorderedQueue (other UnorderedQueue), unnamed name WideRegister (other WideRegister), unnamed name WideCasRegister (other WideCasRegister), unnamed name WideSet (other WideSet), unnamed name WideFifoQueue (other WideFifoQueue), unnamed name WideUnorderedQueue (other WideUnorderedQueue)) refl
+    rw (unnamed name Register (λ e. other Register (tt, e)), unnamed name CasRegister (λ e. other CasRegister (tt, e)), unnamed name Mutex (λ e. other Mutex (tt, e)), unnamed name FifoQueue (λ e. other FifoQueue (tt, e)), unnamed name Set (λ e. other Set (tt, e)), unnamed name UnorderedQueue (λ e. other UnorderedQueue (tt, e)), unnamed name WideRegister (λ e. other WideRegister (tt, e)), unnamed name WideCasRegister (λ e. other WideCasRegister (tt, e)), unnamed name WideSet (λ e. other WideSet (tt, e)), unnamed name WideFifoQueue (λ e. other WideFifoQueue (tt, e)), unnamed name WideUnorderedQueue (λ e. other WideUnorderedQueue (tt, e))) refl
 
 -- an element other than a vector is an event
 appended : (v : Value) (asked : Result LineCommand Refusal) → elements_in v ≡ None → Appends v asked → ElementAsks v asked

@@ -3,12 +3,13 @@ use Rattle.std.proofs.Common.{◌≡◌, ⊎_elim, ℕ, Bool, true, false, List,
 use Rattle.std.specs.Prelude.{◌&&◌, Option, Some, None, Result, Ok, Err}
 use Rattle.std.proofs.lemmas.Bool.{cases_order}
 use Rattle.std.proofs.lemmas.Bool.Decides.{leb_tells}
-use Rattle.edn.specs.Value.{Value, nil, bool, int, text, keyword, vector, members, pairs, Values, none, more}
+use Rattle.edn_values.specs.Value.{Value, nil, bool, int, text, keyword, vector, members, pairs, Values, none, more}
 use Rattle.edn.specs.Text.{IsText, IsLongestTextPrefix}
 use Rattle.edn.specs.declared.refusal.Refusal.{Refusal}
 use Rattle.edn.specs.declared.refusal.Refusal.TheVariants.{BadValue, Unreadable}
 use Rattle.edn.proofs.Unique.{one_text}
 use Rattle.events.specs.declared.event.Event.{Event}
+use Rattle.events.specs.OwnNames.{no_names}
 use Rattle.events.proofs.OneEvent.{spell_one}
 use Rattle.machine.specs.Machine.{Machine, MayStep}
 use Rattle.machine.specs.declared.command.Command.{Command}
@@ -31,7 +32,7 @@ Outcome = Result (Option LineCommand) Refusal
 
 -- an element asks for one thing
 append_one : (v : Value) (asked other : Result LineCommand Refusal) → Appends v asked → Appends v other → asked ≡ other
-append_one v (Ok (Step (Append e))) (Ok (Step (Append f))) p q = ap (λ (event : Event). let asked : Result LineCommand Refusal = Ok (Step (Append event)) in asked) (spell_one v e f p q)
+append_one v (Ok (Step (Append e))) (Ok (Step (Append f))) p q = ap (λ (event : Event). let asked : Result LineCommand Refusal = Ok (Step (Append event)) in asked) (spell_one no_names v e f p q)
 append_one v (Ok (Step (Append e))) (Err BadValue) p q = absurd (q e p)
 append_one v (Err BadValue) (Ok (Step (Append f))) p q = absurd (p f q)
 append_one v (Err BadValue) (Err BadValue) p q = refl

@@ -1,13 +1,13 @@
 -- The script of an object that was just opened.
 use Rattle.std.proofs.Common.{◌≡◌, ◌⊎◌, ℕ, Bool, true, false, List, ap}
-use Rattle.std.specs.Prelude.{Option, Result, IfOk}
+use Rattle.std.specs.Prelude.{Option, Result, Ok, Err, IfOk, IfErr}
 use Rattle.edn.specs.declared.refusal.Refusal.{Refusal}
 use Rattle.linspec.specs.declared.verdict.Verdict.{Verdict}
 use Rattle.machine.specs.Machine.{Machine}
 use Rattle.harness.specs.CoreView.{CoreView, at_rest}
 use Rattle.line_loop.specs.Live.{IsLive}
 use Rattle.line_loop.specs.Logs.{Logged}
-use Rattle.line_loop.specs.Stopping.{Finishes, KeepsUp}
+use Rattle.line_loop.specs.Stopping.{Finishes, KeepsUp, Stops}
 use Rattle.script_command.specs.Reply.{Script, MayReply, Shows}
 
 pub machine_at_rest : (s : CoreView) (m : Machine) → s ≡ at_rest m → s.machine ≡ m
@@ -28,3 +28,11 @@ KeptUp is_strict left left' before after machine = (here : Script) × KeepsUp Ma
 
 abbrev pub Lives : Bool → (before left left' : Option (List ℕ)) (log log' : Option (List Logged)) → Machine → Type 0
 Lives is_strict before left left' log log' machine = IsLive MayReply (λ now. now.is_closed) (of_machine machine is_strict) before left left' log log'
+
+abbrev pub Stopped : Refusal → Bool → (left left' before after : Option (List ℕ)) → Machine → Type 0
+Stopped why is_strict left left' before after machine = Stops MayReply (of_machine machine is_strict) left left' before after why
+
+-- a consequence of a clause about the refusal
+pub err_then : {A E : Type 0} (r : Result A E) {P Q : E → Type 0} → IfErr r P → ((e : E) → P e → Q e) → IfErr r Q
+err_then (Ok x) p f = tt
+err_then (Err e) p f = f e p

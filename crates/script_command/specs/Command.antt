@@ -1,7 +1,7 @@
 -- Promise: the command of a line
 use Rattle.std.specs.Prelude.{◌≡◌, ℕ, ◌^◌, nat_lt, if◌then◌else◌, pos, List, codes, Option, Some, None, Result, Ok, Err}
 use Rattle.std.specs.Str.{bytes_eq}
-use Rattle.edn.specs.Value.{Value, int, vector, keyword, Values, none, more}
+use Rattle.edn_values.specs.Value.{Value, int, vector, keyword, Values, none, more}
 use Rattle.edn.specs.Text.{IsText, IsLongestTextPrefix}
 use Rattle.edn.specs.declared.refusal.Refusal.{Refusal}
 use Rattle.edn.specs.declared.refusal.Refusal.TheVariants.{BadValue, BadBudget, NoSuchIndex, Unreadable}
@@ -14,13 +14,13 @@ use Rattle.machine.specs.declared.command.Command.TheVariants.{Append, Rewind, S
 use Rattle.script_command.specs.declared.command.LineCommand.{LineCommand}
 use Rattle.script_command.specs.declared.command.LineCommand.TheVariants.{Hello, Step}
 
--- [:rewind n], where n is an integer. No history has an index below 0, or one of more than 32 bits
+-- [:rewind n], where n is an integer. No history has an index below 0 or above 32 bits
 abbrev pub rewind_to : Value → Result LineCommand Refusal
 rewind_to (int (pos n)) = if nat_lt n (2 ^ 32) then Ok (Step (Rewind n)) else Err NoSuchIndex
 rewind_to (int z) = Err NoSuchIndex
 rewind_to _ = Err BadValue
 
--- a key is an integer of 0 to 65,535
+-- a key is an integer from 0 to 65,535
 abbrev pub key_in : Value → Option ℕ
 key_in v = number_in (2 ^ 16) v
 
@@ -49,13 +49,13 @@ abbrev pub model_of : Option ℕ → Option ModelKind → Result LineCommand Ref
 model_of (Some key) (Some kind) = Ok (Step (SetModel key kind))
 model_of _ _ = Err BadValue
 
--- [:budget k n], where k is a key, and n an integer. No budget is below 0, or of more than 32 bits
+-- [:budget k n], where k is a key, and n an integer. No budget is below 0 or above 32 bits
 abbrev pub budget_of : Option ℕ → Value → Result LineCommand Refusal
 budget_of (Some key) (int (pos n)) = if nat_lt n (2 ^ 32) then Ok (Step (SetBudget key n)) else Err BadBudget
 budget_of (Some key) (int z) = Err BadBudget
 budget_of _ _ = Err BadValue
 
--- a vector is a command by the keyword in front, with as many arguments as that one takes; [:verdict] and [:hello] have none
+-- a command by its name, the first keyword of the vector, and its arguments; [:verdict] and [:hello] have none
 abbrev pub command_named : List ℕ → Values → Result LineCommand Refusal
 command_named name none =
     if bytes_eq name (codes "verdict") then Ok (Step Verdict)
@@ -72,18 +72,18 @@ abbrev pub vector_command : Values → Result LineCommand Refusal
 vector_command (more (keyword name) arguments) = command_named name arguments
 vector_command _ = Err BadValue
 
--- an element appends the event that it spells
+-- an element that spells an event is an append of this event
 abbrev pub Appends : Value → Result LineCommand Refusal → Type 0
 Appends v (Ok (Step (Append event))) = Spells v event
 Appends v (Err BadValue) = (event : Event) → ¬ Spells v event
 Appends v _ = ⊥
 
--- the command of one element: a vector is a command by its name, and anything else is an event
+-- the command of one element: a vector is a command by its name; any other element is an event
 abbrev pub ElementAsks : Value → Result LineCommand Refusal → Type 0
 ElementAsks (vector vs) asked = asked ≡ vector_command vs
 ElementAsks v asked = Appends v asked
 
--- the command of the elements of a line: none, or that of the one element. Two or more are refused
+-- the command of the elements of a line: none, or that of the one element. Two or more elements are refused
 abbrev pub AskFor : Values → Result (Option LineCommand) Refusal → Type 0
 AskFor none asked = asked ≡ Ok None
 AskFor (more v none) (Ok (Some command)) = ElementAsks v (Ok command)
@@ -91,7 +91,7 @@ AskFor (more v none) (Ok None) = ⊥
 AskFor (more v none) (Err why) = ElementAsks v (Err why)
 AskFor (more v (more w vs)) asked = asked ≡ Err BadValue
 
--- the command of a line. A line that is not text is refused with the length of its longest prefix that is one
+-- the command of a line. A line that is not text is refused with the length of its longest prefix that is text
 abbrev pub Asks : List ℕ → Result (Option LineCommand) Refusal → Type 0
 Asks line (Err (Unreadable place)) = ((values : Values) → ¬ IsText line values) × IsLongestTextPrefix line place
 Asks line asked = (values : Values) × IsText line values × AskFor values asked

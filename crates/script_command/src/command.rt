@@ -1,6 +1,6 @@
 //! The command of a line.
 ghost use Rattle.std.specs.Prelude.{◌≡◌, ◌≢◌, Err};
-ghost use Rattle.edn.specs.View.{value_of, values_of};
+ghost use Rattle.edn_values.specs.View.{value_of, values_of};
 ghost use Rattle.script_command.specs.Command.{rewind_to, model_of, budget_of, key_in, kind_in, command_named, vector_command, ElementAsks, AskFor, Asks};
 
 use edn::{Edn, Refusal};
@@ -13,23 +13,23 @@ use std::alloc::Global;
 /// The command of a line.
 #[derive(Drop)]
 pub enum LineCommand {
-    /// The program says its version, its kinds and its limits.
+    /// Asks for the program's version, its kinds and its limits.
     Hello,
     /// A command of the one-thread object.
     Step(Command),
 }
 
-/// Reads a line as a command, or as nothing if it has no element. A map spells an event to append. `[:verdict]` asks for the verdict,
-/// and `[:hello]` for the program's version, kinds and limits. `[:rewind n]` keeps the first n events, `[:model k m]` makes key k an object
+/// Reads the command of a line, or `None` if the line has no element. A map spells an event to append. `[:verdict]` asks for the verdict,
+/// and `[:hello]` for the program's version, kinds and limits. `[:rewind n]` keeps the first n events. `[:model k m]` makes key k an object
 /// of kind m, and `[:budget k n]` gives it the budget n.
 ///
-/// An event that is spelled plainly costs one pass over the line, and memory for the members of a set alone. Any other line costs what
+/// An event with a plain spelling costs one pass over the line, and allocates only for the members of a set. Any other line costs what
 /// [`read_all`](edn::read_all) and [`from_edn`](events::from_edn) cost.
 ///
 /// # Errors
 ///
-/// `Unreadable` if the line is not text; `BadValue` if it has two elements or more, or one that is not a command. `NoSuchIndex` for a
-/// rewind and `BadBudget` for a budget to a number that is not of 32 bits; and `NoMemory` if memory is refused.
+/// `Unreadable` if the line is not a text. `BadValue` if it has two or more elements, or one that is not a command. `NoSuchIndex` for a
+/// rewind, and `BadBudget` for a budget, with a number that does not fit in 32 bits. `NoMemory` if an allocation fails.
 pub fn read_command(alloc: Global, line: &[u8]) -> Result<Option<LineCommand>, Refusal>
     ensures { result ≢ Err Refusal.NoMemory → Asks line.now result }
 {
@@ -40,7 +40,7 @@ pub fn read_command(alloc: Global, line: &[u8]) -> Result<Option<LineCommand>, R
     asked_by(alloc, elements.as_slice())
 }
 
-// The command in the elements of a line.
+// Returns the command in the elements of a line.
 fn asked_by(alloc: Global, elements: &[Edn]) -> Result<Option<LineCommand>, Refusal>
     ensures { result ≢ Err Refusal.NoMemory → AskFor (values_of elements.now) result }
 {
@@ -51,7 +51,7 @@ fn asked_by(alloc: Global, elements: &[Edn]) -> Result<Option<LineCommand>, Refu
     }
 }
 
-// The command that an element asks for.
+// Returns the command in an element.
 fn command_of(alloc: Global, element: &Edn) -> Result<LineCommand, Refusal>
     ensures { result ≢ Err Refusal.NoMemory → ElementAsks (value_of element.now) result }
 {
@@ -61,7 +61,7 @@ fn command_of(alloc: Global, element: &Edn) -> Result<LineCommand, Refusal>
     }
 }
 
-// The command that a vector of these elements is.
+// Returns the command in a vector of these elements.
 fn vector_command(items: &[Edn]) -> Result<LineCommand, Refusal>
     ensures { result ≡ vector_command (values_of items.now) }
 {
@@ -72,7 +72,7 @@ fn vector_command(items: &[Edn]) -> Result<LineCommand, Refusal>
     }
 }
 
-// The command of this name with these arguments.
+// Returns the command with this name and these arguments.
 fn command_named(name: &str, arguments: &[Edn]) -> Result<LineCommand, Refusal>
     ensures { result ≡ command_named name.now (values_of arguments.now) }
 {
@@ -128,7 +128,7 @@ fn budget_of(key: Option<Key>, n: &Edn) -> Result<LineCommand, Refusal>
     }
 }
 
-// The key that an element is.
+// Returns the key of the element, if it is one.
 fn key_of(element: &Edn) -> Option<Key>
     ensures { result ≡ key_in (value_of element.now) }
 {
@@ -138,7 +138,7 @@ fn key_of(element: &Edn) -> Option<Key>
     }
 }
 
-// The kind that an element names.
+// Returns the kind that the element names, if it names one.
 fn kind_of(element: &Edn) -> Option<ModelKind>
     ensures { result ≡ kind_in (value_of element.now) }
 {

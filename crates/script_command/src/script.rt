@@ -23,7 +23,7 @@ use std::io::Write;
 use std::marker::Model;
 use std::sync::Wait;
 
-// A one-thread object whose commands are lines, and who looks on.
+// A one-thread object whose commands are lines, and an observer.
 #[derive(Drop)]
 struct ScriptMachine<'a, L> {
     alloc: Global,
@@ -36,11 +36,13 @@ struct ScriptMachine<'a, L> {
 impl<'a, L> Model for ScriptMachine<'a, L> {
     ghost use Rattle.std.specs.Coded.{codes};
     ghost use Rattle.generators.specs.Codes.{generator_code};
+    ghost use Rattle.kinds.specs.contracts.any_state.AnyState as any_state;
+    ghost use Rattle.kinds.specs.contracts.model_kind.ModelKind as model_kind;
     ghost use Rattle.script_command.specs.Reply.{Script};
 
     ghost Value = { Script };
 
-    ghost coded = { Prim.hlevel (codes, generator_code) };
+    ghost coded = { Prim.hlevel (codes, generator_code, any_state.the_row.coded, model_kind.the_row.coded) };
 
     ghost view = { λ machine. record {
       machine = machine.core.machine;
@@ -97,7 +99,7 @@ impl<'a, L: Observer> LineMachine for ScriptMachine<'a, L> {
     }
 }
 
-// Puts the reply to a line into an empty vector, and says whether it is a refusal.
+// Puts the reply to a line into an empty vector, and returns whether the reply is a refusal.
 fn answer_line<L: Observer>(
     alloc: Global,
     core: &mut Core,
@@ -127,14 +129,14 @@ fn answer_line<L: Observer>(
     }
 }
 
-// Tells of an event that is to be appended.
+// Reports to the observer that an event will be appended, if the command is one.
 fn tell_event<L: Observer>(observer: &L, command: &Command) {
     if let Command::Append(_) = command {
         observer.event();
     }
 }
 
-// Carries out the command of a line, puts the line of its result into an empty vector, and says whether it was refused.
+// Carries out the command of a line, and puts the line of its result into an empty vector. Returns whether the command was refused.
 fn carry_out<L: Observer>(
     alloc: Global,
     core: &mut Core,
@@ -159,7 +161,7 @@ fn carry_out<L: Observer>(
     }
 }
 
-// The verdict that the object says.
+// Returns the verdict in the object's reply.
 fn verdict_of(said: Reply) -> Verdict
     requires { (verdict : Verdict) × (said ≡ Reply.Verdict verdict) }
     ensures { said ≡ Reply.Verdict result }
@@ -174,7 +176,7 @@ fn verdict_of(said: Reply) -> Verdict
     }
 }
 
-// Puts the line of a refusal into an empty vector. Want of memory has no line.
+// Puts the line of a refusal into an empty vector. A failed allocation has no line, and is an error.
 fn reply_refusal<L: Observer>(
     alloc: Global,
     refusal: Refusal,
@@ -195,17 +197,17 @@ fn reply_refusal<L: Observer>(
 }
 
 /// Reads commands from a reader, one in each line, and writes and flushes the reply to each before it reads further. At the reader's end it
-/// returns the verdict on the history. A strict script is closed at the first line that is refused: it writes and flushes that line's
-/// reply, reads no further, and returns no verdict.
+/// returns the verdict on the history. A strict script is closed by the first refused line: it writes and flushes that line's reply, reads
+/// no further, and returns no verdict.
 ///
 /// A line has at most 65,536 bytes without its line feed; a longer one is answered by `refused 22 TooLong`. A line without an element gets
-/// no reply. Costs the time of the commands, and the memory of the monitor and of two lines. It waits for the reader and the writer. The
+/// no reply. Costs the time of the commands, and the memory of the monitor and of two lines. Waits for the reader and the writer. The
 /// observer gets each line.
 ///
 /// # Errors
 ///
-/// The refusals of [`Core::new`], before anything is read. Else `ReadFailed` if the reader failed, `WriteFailed` if the writer failed or
-/// took none of some bytes, and `NoMemory` if neither did: the writer has then taken a prefix of the replies.
+/// The refusals of [`Core::new`], before anything is read. Otherwise `ReadFailed` if the reader failed, `WriteFailed` if the writer failed
+/// or accepted none of the bytes that it was given, and `NoMemory` if neither did. The writer has then taken a prefix of the replies.
 pub fn run_script<X: Wait, R: ReadsWithWriter<W>, W: Write + Failed + Flushes, L: Observer>(
     rt: &X,
     alloc: Global,
@@ -217,12 +219,13 @@ pub fn run_script<X: Wait, R: ReadsWithWriter<W>, W: Write + Failed + Flushes, L
 ) -> Result<Option<Verdict>, Refusal>
     requires reads { R.has_failed reader.old ≡ false }
     requires writes { W.has_failed writer.old ≡ false }
-    // A configuration out of its limits is refused before anything is read or written.
+    // A configuration outside its limits is refused before anything is read or written.
     ensures limits { IsSetup (setup_of config)
         ⊎ IsErrAnd result
         (IsUnopened (setup_of config) reader.old reader.new writer.old writer.new) }
-    // The outcome is that of the end. The reader has not failed, all that it had is consumed, and the writer grew by a reply text of it. Or
-    // the script is closed, and all lines that were read to their line feed had their replies.
+    // The outcome is the verdict of the final state `end`, or none if `end` is closed (`Shows`). Either the reader has not failed, its
+    // input was read to the end, and the writer has grown by the reply text of this input. Or the script is closed, and each line that was
+    // read to its line feed has had its reply.
     ensures done { IfOk result (λ outcome. (end : Script) × Shows end outcome
         × ((Finishes MayReply (script (setup_of config) is_strict) end
         (R.remaining reader.old) (R.remaining reader.new)
@@ -231,18 +234,18 @@ pub fn run_script<X: Wait, R: ReadsWithWriter<W>, W: Write + Failed + Flushes, L
         ⊎ ((end.is_closed ≡ true) × KeepsUp MayReply (script (setup_of config) is_strict) end
         (R.remaining reader.old) (R.remaining reader.new)
         (W.contents writer.old) (W.contents writer.new)))) }
-    // At each read the writer held the replies to all lines that were read before, they were flushed, and the script was open.
+    // At each read the writer had taken and flushed the replies to all lines that were read before, and the script was open.
     ensures live { IsLive MayReply (λ now. now.is_closed) (script (setup_of config) is_strict)
         (W.contents writer.old) (R.remaining reader.old) (R.remaining reader.new)
         (R.log reader.old) (R.log reader.new) }
     ensures flushed { OnOk result (W.is_flushed writer.new ≡ true) }
-    // Nothing was read or written; or the writer grew by a beginning of a reply text of the lines read to their end.
+    // Nothing was read or written, or the writer has grown by a prefix of the replies to the lines that were read completely.
     ensures stopped { IfErr result (λ e.
         IsUnopened (setup_of config) reader.old reader.new writer.old writer.new e
         ⊎ Stops MayReply (script (setup_of config) is_strict)
         (R.remaining reader.old) (R.remaining reader.new)
         (W.contents writer.old) (W.contents writer.new) e) }
-    // Where the reader failed, all lines that were read to their line feed had their replies.
+    // If the reader failed, each line that was read to its line feed has had its reply.
     ensures kept_up { result ≡ Err Refusal.ReadFailed → (here : Script)
         × KeepsUp MayReply (script (setup_of config) is_strict) here
         (R.remaining reader.old) (R.remaining reader.new)

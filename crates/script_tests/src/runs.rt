@@ -1,4 +1,4 @@
-//! The result of a script or a check as plain data.
+//! The result of a script or a check, as plain data.
 ghost use Rattle.std.specs.Prelude.{◌≡◌, false};
 
 use crate::streams::{Drip, LINES, Narrow, broken_reader, config, drip_reader, narrow_writer};
@@ -14,10 +14,10 @@ use std::rt::Clock;
 use std::sync::Wait;
 use std::thread::Threads;
 
-/// The outcome of a script; whether the writer then holds what it was to hold; and how many bytes are flushed.
+/// The outcome of a script, whether the writer then holds the expected bytes, and the number of flushed bytes.
 pub type Told = (Result<Option<Verdict>, Refusal>, bool, usize);
 
-/// Runs a script by this reader and this writer.
+/// Runs a script with this reader and this writer. `held` has the expected bytes.
 pub fn script_by<X: Wait + Clock + Eprint, R: ReadsWithWriter<Watched<Narrow>>>(
     rt: &X,
     alloc: Global,
@@ -37,7 +37,7 @@ pub fn script_by<X: Wait + Clock + Eprint, R: ReadsWithWriter<Watched<Narrow>>>(
     (outcome, narrow.held.as_slice() == held, narrow.flushed)
 }
 
-/// For a reader of these bytes, at most `size` of them a read.
+/// Runs a script on a reader that gives `bytes`, at most `size` of them in each read.
 pub fn script_of<X: Wait + Clock + Eprint>(
     rt: &X,
     alloc: Global,
@@ -52,7 +52,7 @@ pub fn script_of<X: Wait + Clock + Eprint>(
     script_by(rt, alloc, false, &mut reader, writer, held)
 }
 
-/// For one that fails behind them, to a writer that takes all.
+/// Runs a script on a reader that gives `bytes`, at most `size` of them in each read, and then fails. The writer takes everything.
 pub fn script_of_broken<X: Wait + Clock + Eprint>(
     rt: &X,
     alloc: Global,
@@ -66,8 +66,7 @@ pub fn script_of_broken<X: Wait + Clock + Eprint>(
     script_by(rt, alloc, is_strict, &mut reader, writer, held)
 }
 
-/// The status of a check by this reader and this writer; whether the writer then holds these bytes at its end; and how many it
-/// holds.
+/// Runs a check with this reader and this writer. Returns its status, whether the bytes of the writer end with `end`, and their number.
 pub fn check_by<X: Wait + Threads + Sync + Clock + Eprint>(
     rt: &X,
     alloc: Global,
@@ -86,7 +85,7 @@ pub fn check_by<X: Wait + Threads + Sync + Clock + Eprint>(
     (status, held.ends_with(end), held.len())
 }
 
-/// For a reader of these bytes, at most `size` of them a read, that fails behind them; to a writer that takes all.
+/// Runs a check on a reader that gives `bytes`, at most `size` of them in each read, and then fails. The writer takes everything.
 pub fn check_of_broken<X: Wait + Threads + Sync + Clock + Eprint>(
     rt: &X,
     alloc: Global,
@@ -104,7 +103,7 @@ pub fn check_of_broken<X: Wait + Threads + Sync + Clock + Eprint>(
     )
 }
 
-/// For a reader of all lines.
+/// Runs a check on a reader that gives all lines.
 pub fn check_of_lines<X: Wait + Threads + Sync + Clock + Eprint>(
     rt: &X,
     alloc: Global,

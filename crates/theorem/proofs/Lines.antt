@@ -3,7 +3,7 @@ use Rattle.std.proofs.Common.{ℕ, ◌^◌, Bool, true, false, List, length, Opt
 use Rattle.std.specs.Prelude.{codes, nat_lt, if◌then◌else◌, pos, negsuc}
 use Rattle.std.specs.Str.{bytes_eq}
 use Rattle.std.proofs.lemmas.Bool.Decides.{leb_tells}
-use Rattle.edn.specs.Value.{Value, nil, bool, int, text as string, keyword, vector, members, pairs, Values, none, more}
+use Rattle.edn_values.specs.Value.{Value, nil, bool, int, text as string, keyword, vector, members, pairs, Values, none, more}
 use Rattle.edn.specs.declared.refusal.Refusal.{Refusal}
 use Rattle.edn.specs.declared.refusal.Refusal.TheVariants.{BadValue, BadBudget, NoSuchIndex}
 use Rattle.kinds.specs.declared.model_kind.ModelKind.{ModelKind}

@@ -1,6 +1,6 @@
 -- the findings about a recorded history, by its history alone
 use Rattle.std.proofs.Common.{◌≡◌, ℕ, List, [], ◌∷◌, ◌++◌, Option, Some, None, Ok, refl, sym, ap, subst, ⊎_elim, inl, inr}
-use Rattle.edn.specs.Value.{Value, Values, none, more}
+use Rattle.edn_values.specs.Value.{Value, Values, none, more}
 use Rattle.edn.specs.declared.refusal.Refusal.{Refusal}
 use Rattle.events.specs.declared.event.Event.{Event}
 use Rattle.history.specs.WellFormed.{IsHistoryOf}

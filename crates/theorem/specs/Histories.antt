@@ -24,7 +24,7 @@ recorded concurrency kind budget events = record (opening_of concurrency kind bu
 abbrev pub EndsWithLine : List ℕ → Verdict → Type 0
 EndsWithLine text verdict = (lines : List ℕ) × (text ≡ lines ++ verdict_line verdict)
 
--- the bytes spell events, each of which is well-formed after the events before it. The verdict on them is right, and the text is their
+-- each element is an event that is well-formed after the events before it. The verdict on the events is right, and the text is their
 -- report, which ends with the line of this verdict
 abbrev pub IsJudgedSo : ℕ → ModelKind → ℕ → List ℕ → Verdict → List ℕ → Type 0
 IsJudgedSo concurrency kind budget bytes verdict text =
@@ -35,15 +35,15 @@ IsJudgedSo concurrency kind budget bytes verdict text =
 
 -- 2. An order that is shown
 
--- the bytes spell events, each of which is well-formed after the events before it. The operations of all keys together, each an object of
--- this kind, have a legal order
+-- each element is an event that is well-formed after the events before it. The operations of all keys together, each on an object of this
+-- kind, have a legal order
 abbrev pub IsShownSo : ℕ → ModelKind → ℕ → List ℕ → Type 0
 IsShownSo concurrency kind budget bytes =
     (events : List Event) × IsRead bytes concurrency [] events None × Means (recorded concurrency kind budget events) Legal
 
 -- 3. A run of clients
 
--- the events that clients left are well-formed, each after those before it. The verdict on them is right, the text is their report, which
+-- each event of the clients is well-formed after the events before it. The verdict on the events is right, the text is their report, which
 -- ends with the line of this verdict, and the status is that of the verdict. If the store is strict, they are linearizable, even if the
 -- verdict is unknown
 pub record IsReportedSo (mode : Mode) (concurrency : ℕ) (kind : ModelKind) (budget : ℕ) (events : List Event) (text : List ℕ) (status : ℕ) : Type 0 where

@@ -29,10 +29,11 @@ ghost use Rattle.theorem.specs.Bridges.{IsOfHistory, IsRightTape, SaysOf, SaysOf
 
 use clients::laws::no_false_alarm_in_a_run;
 
-/// The bytes of a script. `script_command::run_script` promises its reply text over the one-thread object; this law promises the same over
-/// histories alone, by `Answers`. Each verdict in the text is right by the definition of Herlihy and Wing. Its history is well-formed: whatever
-/// lines lead to it, each event is well-formed after those before it. A reply text of all lines begins
-/// with a reply text of each prefix of the lines. A script that is not strict stays open, and a closed script replies nothing.
+/// The bytes of a script. `script_command::run_script` promises a reply text that the one-thread object defines (`MayReply`). By this law
+/// it is also a reply text by `Answers`, which is about histories alone. Each verdict in the text is right by the definition of Herlihy and
+/// Wing. The history of a verdict is well-formed: whatever lines lead to the verdict, each event is well-formed after those before it. A
+/// reply text of all lines begins with a reply text of each prefix of the lines. A script that is not strict stays open, and a closed
+/// script replies nothing.
 pub fn script_law()
     ensures replies { (setup : Setup) (is_strict : Bool) (input text : List ℕ) (end : Script) →
         IsReplyText MayReply (script setup is_strict) input text end
@@ -66,10 +67,10 @@ pub fn script_law()
         → Replies Answers old lines text end → (text ≡ []) × (end ≡ old) }
 {}
 
-/// The bytes of a recorded history. If they come to a verdict, it is right by the definition of Herlihy and Wing on the events that they
-/// spell. If they come to a refused element, they spell the events before it, and the element spells no event, or one that is refused after
-/// them. In both cases each event is well-formed after those before it. So the exit status 0 of a check means that the history is linearizable,
-/// and 1 that it is not.
+/// The bytes of a recorded history. If a check of them comes to a verdict, the bytes spell events, and the verdict on these events is right
+/// by the definition of Herlihy and Wing. If it comes to a refused element, the bytes spell the events before this element. The element
+/// spells no event, or an event that is refused after those events. In both cases each event is well-formed after those before it. So the
+/// exit status 0 of a check means that the history is linearizable, and 1 that it is not.
 pub fn check_law()
     ensures judged { (setup : Setup) (bytes : List ℕ) (found : Findings) (verdict : Verdict) (text : List ℕ) →
         ComesTo setup bytes found → SaysOf found verdict text
@@ -97,8 +98,8 @@ pub fn confirm_law()
         → IsShownSo concurrency kind budget bytes }
 {}
 
-/// The tape of a board. Each verdict on a legal tape is right by the definition of Herlihy and Wing. It is right of the history to which
-/// the calls up to this one lead, whichever seats made them, and each event of this history is well-formed after those before it.
+/// The tape of a board. Each verdict on a legal tape is right by the definition of Herlihy and Wing, for the history to which the calls up
+/// to the verdict lead, whichever seats made them. Each event of this history is well-formed after those before it.
 pub fn tape_law()
     ensures right { (setup : Setup) (tape : CoreTape) (m : Machine) →
         IsPrefix (opening_tape (opening setup)) tape → LeadsTo tape m → IsRightTape tape m }
@@ -107,9 +108,9 @@ pub fn tape_law()
         → IsHistoryOf m.judged.concurrency m.judged.events }
 {}
 
-/// The text and the exit status of a run: `run_command::run_store` promises them by `MaySay`. If they report a history, it is the one that the
-/// clients left, and the verdict on it is right by the definition of Herlihy and Wing. So 0 means that it is linearizable, and 1 that it is
-/// not. A strict store's history is linearizable.
+/// The text and the exit status of a run: `run_command::run_store` promises them by `MaySay`. If the text reports a history, it is the
+/// history that the clients left, and the verdict on it is right by the definition of Herlihy and Wing. So the status 0 means that this
+/// history is linearizable, and the status 1 that it is not. A strict store's history is linearizable.
 pub fn run_law()
     ensures says { (setup : Setup) (text : List ℕ) (status : ℕ) →
         MaySay setup text status → SaysOfRun setup text status }

@@ -60,8 +60,8 @@ def of_told(told: Told, writer: Writer) -> Interval:
         elif argument in (MISSING, None, ""):  # Go prints an empty text if there is no argument
             argument = None
         else:
-            raise Refused(f"line {line}: a {told.name} has the argument {element(argument)[:60]} and an answer too, but can only have an answer; "
-                          "say --map FIELD=NAME for the field that is not one, such as FIELD=key or FIELD=outcome")
+            raise Refused(f"line {line}: a {told.name} has the argument {element(argument)[:60]} and the answer {element(answer)[:60]}, but can only "
+                          "have an answer; say --map FIELD=NAME for the field that is not one, such as FIELD=key or FIELD=outcome")
     elif answer is not MISSING and told.name in UNANSWERED and (outcome is None or outcome == "ok" and says_no(told.name, answer)):
         outcome = answered(line, told.name, answer) or outcome
     if outcome is None:

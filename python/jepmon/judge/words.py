@@ -98,8 +98,8 @@ def _parser() -> Words:
                         "processors")
     parser.add_argument("--dask", metavar="ADDRESS", help="judge the shards on the Dask cluster of this scheduler, such as "
                         "tcp://HOST:8786; its workers need the program, and distributed must be installed here")
-    parser.add_argument("--temporary", metavar="DIR", help="the folder for all temporary files: about half the room of a file of events; "
-                        "for a pipe, JSON, CSV or a log, its events too, about 80 bytes an event of a register")
+    parser.add_argument("--temporary", metavar="DIR", help="the folder for all temporary files; they take about half as much room as a file of "
+                        "events. For a pipe, JSON, CSV or a log they also store its events, and an event of a register takes about 80 bytes")
     parser.add_argument("--key", metavar="K", type=number("a key", kinds.KEYS),
                         help="the history has no keys: each value in it is of key K")
     nil = parser.add_mutually_exclusive_group()

@@ -1,4 +1,4 @@
-use Rattle.edn.specs.View.{value_of}
+use Rattle.edn_values.specs.View.{value_of}
 use Rattle.check_command.proofs.Recording.{at_some}
 use Rattle.check_command.proofs.reading.next_event.Goals as goal
 

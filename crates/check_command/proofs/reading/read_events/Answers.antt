@@ -1,5 +1,5 @@
 use Rattle.std.proofs.Common.{◌+◌, sym, ap, ◌∙◌, subst, arith}
-use Rattle.edn.specs.Value.{more, none, joined}
+use Rattle.edn_values.specs.Value.{more, none, joined}
 use Rattle.edn.specs.Text.{IsText}
 use Rattle.edn.specs.Elements.{IsLeftBehind}
 use Rattle.check_command.specs.Reading.{PushesElement, RefusesNext, IsReadUpTo, IsRead}

@@ -1,6 +1,6 @@
 -- The elements that were given were pushed, in turn.
 use Rattle.std.proofs.Common.{◌≡◌, ◌+◌, ◌≤◌, length}
-use Rattle.edn.specs.Value.{Values}
+use Rattle.edn_values.specs.Value.{Values}
 use Rattle.edn.specs.Elements.{IsLeftBehind, count_of}
 use Rattle.check_command.specs.Reading.{PushesAll}
 use Rattle.check_command.proofs.reading.read_events.Given as goal

@@ -2,6 +2,7 @@ use Rattle.std.proofs.Common.{◌≡◌, Some, IfSome, true, false, [], inr, inl
 use Rattle.edn.specs.declared.refusal.Refusal.TheVariants.{ReadFailed}
 use Rattle.check_command.proofs.Recording.{reads_none}
 use Rattle.confirm_command.specs.declared.found.Found.TheVariants.{Refused}
+use Rattle.confirm_command.specs.Confirms.{Input}
 use Rattle.confirm_command.proofs.Confirmed.{confirms, confirms_files}
 use Rattle.confirm_command.proofs.confirming.confirm_file.Goals as goal
 
@@ -9,13 +10,16 @@ pub returns-in-Ok : goal.returns-in-Ok
 returns-in-Ok g c =
     let held = g.X.Opens.holds c.args.rt.now c.args.path.now in
     let order_held = g.X.Opens.holds c.args.rt.now c.args.order_path.now in
-    let (order_left, order_failed, is) = c.confirm_input.ensures in (
+    let (input, order, took, order_took, read, unread) = c.texts_with_file-texts.ensures in
+    let reader = c.texts_with_file-texts.new.reader in
+    let history : Input = record { bytes = input; left = _; has_failed = _ } in
+    let is = c.finish.ensures history order _ _ took order_took read unread in (
       _,
       _,
       (
-        order_left,
-        order_failed,
-        confirms_files c.args.concurrency c.args.kind held _ _ _ order_held order_held order_left order_failed _ _ _ _ _
+        order.left,
+        order.has_failed,
+        confirms_files c.args.concurrency c.args.kind held _ _ _ order_held order_held order.left order.has_failed _ _ _ _ _
             (subst (λ f. IfSome held (λ bytes. g.X.Opened.Read.remaining f ≡ Some bytes)) (sym c.new.ensures.inner) c.in-Ok.ensures) is,
       ),
     )

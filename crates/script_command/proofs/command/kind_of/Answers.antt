@@ -1,6 +1,6 @@
 use Rattle.std.proofs.Common.{◌∙◌, sym, ap}
-use Rattle.edn.specs.Value.{keyword}
-use Rattle.edn.specs.View.{value_of}
+use Rattle.edn_values.specs.Value.{keyword}
+use Rattle.edn_values.specs.View.{value_of}
 use Rattle.script_command.specs.Command.{kind_in}
 use Rattle.script_command.proofs.Elements.{named, view-Keyword}
 use Rattle.script_command.proofs.command.kind_of.Goals as goal

@@ -1,5 +1,5 @@
 use Rattle.std.proofs.Common.{subst}
-use Rattle.edn.specs.View.{values_of}
+use Rattle.edn_values.specs.View.{values_of}
 use Rattle.script_command.specs.Command.{AskFor}
 use Rattle.script_command.proofs.Elements.{line_asks}
 use Rattle.script_command.proofs.command.read_command.Goals as goal

@@ -1,8 +1,8 @@
-use Rattle.std.proofs.Common.{subst}
+use Rattle.std.proofs.Common.{inr, subst}
 use Rattle.harness.specs.Setups.{setup_of}
 use Rattle.line_loop.proofs.LiveReads.{lives_first}
 use Rattle.script_command.specs.Reply.{MayReply, script}
-use Rattle.script_command.proofs.Opening.{machine_at_rest, CameTo, KeptUp, Lives}
+use Rattle.script_command.proofs.Opening.{machine_at_rest, err_then, CameTo, KeptUp, Lives, Stopped}
 use Rattle.script_command.proofs.script.run_script.Goals as goal
 
 pub returns-clause-kept_up : goal.returns-clause-kept_up
@@ -28,3 +28,11 @@ returns-clause-live g c =
     let r = g.R in
     let opened = machine_at_rest c.in_ok-core.core _ c.in_ok-core.ensures.opened in
     subst (Lives c.args.is_strict (g.W.Write.contents c.args.writer.now) (r.Read.remaining c.args.reader.now) (r.Read.remaining c.answer_lines.new.reader) (r.ReadsWithWriter.log c.args.reader.now) (r.ReadsWithWriter.log c.answer_lines.new.reader)) opened c.answer_lines.ensures.live
+
+pub returns-clause-stopped : goal.returns-clause-stopped
+returns-clause-stopped g c =
+    let r = g.R.Read in
+    let w = g.W.Write in
+    let opened = machine_at_rest c.in_ok-core.core _ c.in_ok-core.ensures.opened in
+    err_then c.answer_lines.result c.answer_lines.ensures.stopped (λ why stops.
+    inr (subst (Stopped why c.args.is_strict (r.remaining c.args.reader.now) (r.remaining c.answer_lines.new.reader) (w.contents c.args.writer.now) (w.contents c.answer_lines.new.writer)) opened stops))

@@ -1,0 +1,56 @@
+use Rattle.std.proofs.Common.{◌∙◌, ◌++◌, [], ap, drop, refl, subst, sym}
+use Rattle.check_command.specs.ReadInPart.{PushesPrefix, PushesUpTo, IsReadOfText}
+use Rattle.check_command.proofs.ReadInPart.{passed_nothing, passed_on, passed_to_end, passed_until, stopped_reading}
+use Rattle.check_command.proofs.windows.read_by_windows.Goals as goal
+
+pub loop-init : goal.loop-init
+loop-init g c = record {
+  so = passed_nothing (g.R.Read.remaining c.args.reader.now) c.new-held.result.items c.args.history.now.concurrency c.args.history.now.events c.new-held.ensures.items c.requires;
+  threads = refl;
+  next = tt;
+  finite = tt;
+}
+
+pub loop-preserved : goal.loop-preserved
+loop-preserved g c =
+    let so = c.loop.invariant in
+    let (further, grown, took) = c.in_ok-has_ended.ensures.bytes in
+    let (rest, long, up) = c.take_plain-taken.ensures.pushed in
+    let text = c.as_slice-text.result.now in
+    let n = c.take_plain-taken.result in
+    let old = c.loop.history.events in
+    let new = c.take_plain-taken.new.history.events in
+    record {
+      so = passed_on _ _ _ c.loop.held.items further text rest c.drop_front.new.bytes.items c.loop.passed c.sum_of-passed.result c.args.history.now.concurrency n old new so.so took (c.as_slice-text.ensures.value ∙ grown)
+          (subst (λ k. PushesUpTo text k old new rest) so.threads up) long c.sum_of-passed.ensures (c.drop_front.ensures ∙ ap (drop n) (sym c.as_slice-text.ensures.value));
+      threads = c.take_plain-taken.ensures.concurrency ∙ so.threads;
+      next = tt;
+      finite = tt;
+    }
+
+pub returns-in_err-has_ended-clause-read : goal.returns-in_err-has_ended-clause-read
+returns-in_err-has_ended-clause-read g c =
+    let so = c.loop.invariant.so in
+    let (seen, took) = c.in_err-has_ended.ensures.some in
+    let (input, read) = passed_until _ _ _ c.loop.held.items seen c.loop.passed c.args.history.now.concurrency c.loop.history.events so took in
+    (input, read, stopped_reading input _ _ c.args.history.now.concurrency c.loop.history.events c.in_err-has_ended.field-0.0 c.from_residual.result c.from_residual.ensures c.in_err-has_ended.ensures.cause)
+
+pub returns-then-has_ended-clause-read : goal.returns-then-has_ended-clause-read
+returns-then-has_ended-clause-read g c =
+    let so = c.loop.invariant in
+    let (further, grown, took) = c.in_ok-has_ended.ensures.bytes in
+    let (rest, long, up) = c.take_plain-taken.ensures.pushed in
+    let text = c.as_slice-text.result.now in
+    let n = c.take_plain-taken.result in
+    let old = c.loop.history.events in
+    let new = c.take_plain-taken.new.history.events in
+    let threads = c.args.history.now.concurrency in
+    let next = c.drop_front.new.bytes.items in
+    let end = c.read_rest.new.history.events in
+    let same = c.take_plain-taken.ensures.concurrency ∙ so.threads in
+    let ends = c.in_ok-has_ended.ensures.end c.if-has_ended.true in
+    let all = passed_on _ _ _ c.loop.held.items further text rest next c.loop.passed c.sum_of-passed.result threads n old new so.so took (c.as_slice-text.ensures.value ∙ grown)
+    (subst (λ k. PushesUpTo text k old new rest) so.threads up) long c.sum_of-passed.ensures (c.drop_front.ensures ∙ ap (drop n) (sym c.as_slice-text.ensures.value)) in
+    passed_to_end _ _ next c.sum_of-passed.result threads new end _ c.read_rest.result all ends.0 ends.1 (λ prefix counted pushes.
+    subst (λ l. IsReadOfText (prefix ++ l) threads end c.read_rest.result) c.as_slice-rest.ensures.value
+    (subst (λ k. IsReadOfText (prefix ++ c.as_slice-rest.result.now) k end c.read_rest.result) same (c.read_rest.ensures.read prefix counted (subst (λ k. PushesPrefix prefix k [] new) (sym same) pushes))))
